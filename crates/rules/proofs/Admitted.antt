@@ -1,0 +1,133 @@
+-- What an accepted call shows of its input: the reply table, read from its last row; and the rules of one region out of those of the board.
+-- Assumes nothing.
+use mathlib.Core.Path.{_≡_, refl, ap}
+use Prim.Native.Nat.{ℕ, _+_, _*_, _≤_, _<_}
+use native.Mathlib.Nat.{div-lt-iff-lt-mul, mod-lt}
+use native.Mathlib.Omega.{arith}
+use native.Mathlib.Decide.{ℕ-discrete, decLt}
+use mathlib.Core.Bool.{Bool, true, false, cond}
+use lib.Dec.{eqb}
+use borrow.Author.Tests.{eqb-true, eqb-false, ne-eqb, ltb-false, leb-false, not-false}
+use lib.ListN.{length}
+use Rattle.lists.proofs.Tests.{all-at, all-below-intro, all-true, or-neither, truths}
+use Rattle.rules.specs.declared.Params.{Params}
+use Rattle.rules.specs.declared.Reply.{Reply}
+use Rattle.rules.specs.declared.Reply.the-variants.{Accepted}
+use Rattle.rules.specs.Parameters.{allowed}
+use Rattle.rules.specs.Numbers.{regionOf, sectorOf}
+use Rattle.rules.specs.Tables.{Board}
+use Rattle.rules.specs.Regions.{view, viewOf}
+use Rattle.rules.specs.Orderly.{blocksRule, clusterRule, ctRule, fstRule, orderly, regionBlocks, regionFst, rulesOf}
+use Rattle.rules.specs.Format.{goodBlocks}
+use Rattle.rules.specs.Write.{Request, requestCluster}
+use Rattle.rules.specs.Replies.{accessReply, badAddress, badCount, badParameter, firstRow, formatReply, lengthsFit, notOrderly, numberOf, tooFewBlocks, wrongData, wrongLength}
+use Rattle.rules.proofs.RegionFacts.{regionOrderly}
+use Rattle.rules.proofs.Sizes.{Sizes, sizes}
+use Rattle.rules.proofs.TableFacts.{Tables, orderly-out, tables-in}
+
+-- ---- the rules of one region, and of all
+
+pub orderly-region : (p : Params) (b : Board) → orderly p b ≡ true → (r : ℕ) → r < p .mu → regionOrderly p r (view p b r) ≡ true
+unfolding orderly rulesOf blocksRule fstRule ctRule regionOrderly
+orderly-region p b h r low =
+    all-true _ (
+      all-at (p .mu) (λ r. regionBlocks p r (view p b r)) ((truths _ h) .1 .1 .1 .1 .1 .1 .0) r low,
+      (all-at (p .mu) (λ r. regionFst p (view p b r)) ((truths _ h) .1 .1 .1 .1 .1 .1 .1 .0) r low, (all-below-intro (p .C) _ (λ c k. cluster c k (ℕ-discrete (regionOf p c) r)), tt)),
+    )
+  where
+    cluster : (c : ℕ) → c < p .C → Dec (regionOf p c ≡ r) → clusterRule p (view p b r) c ≡ true
+    cluster c k (yes e) = rw e at (all-at (p .C) (λ c. clusterRule p (view p b (regionOf p c)) c) ((truths _ h) .1 .1 .1 .1 .1 .1 .1 .1 .0) c k)
+    cluster c k (no e) = unfold clusterRule viewOf in rw (ne-eqb (regionOf p c) r e)
+
+pub orderly-all : (p : Params) (b : Board) → Sizes p → Tables p b → ((r : ℕ) → r < p .mu → regionOrderly p r (view p b r) ≡ true) → orderly p b ≡ true
+unfolding blocksRule fstRule ctRule regionOrderly
+orderly-all p b z t h =
+    orderly-out p b t
+    (all-below-intro (p .mu) _ (λ r k. (truths _ (h r k)) .0))
+    (all-below-intro (p .mu) _ (λ r k. (truths _ (h r k)) .1 .0))
+    (all-below-intro (p .C) _ (λ c k. all-at (p .C) (clusterRule p (view p b (regionOf p c))) ((truths _ (h (regionOf p c) (mod-lt c (z .regions)))) .1 .1 .0) c k))
+
+-- ---- the reply table
+
+-- a row that does not apply leaves the later rows
+passed : (t : Bool) (r x : Reply) → (numberOf r ≡ 0 → ⊥) → cond t r x ≡ Accepted → (t ≡ false) × (x ≡ Accepted)
+passed true r x ne e = absurd (ne (ap numberOf e))
+passed false r x ne e = (refl, e)
+
+-- the request lies in one cluster, of the board, with its data
+pub record Asked (p : Params) (q : Request) : Type 0 where
+  pub some : 0 < q .count
+  pub inside : sectorOf p (q .lba) + q .count ≤ p .alpha
+  pub cluster : requestCluster p q < p .C
+  pub bytes : length (q .bytes) ≡ q .count * p .s
+
+-- what an accepted read or write has
+pub record Admitted (p : Params) (b : Board) (q : Request) : Type 0 where
+  pub fine : allowed p ≡ true
+  pub sized : Sizes p
+  pub lengths : lengthsFit p b ≡ true
+  pub tables : Tables p b
+  pub tidy : (r : ℕ) → r < p .mu → regionOrderly p r (view p b r) ≡ true
+  pub asked : Asked p q
+
+pub asked-in : (p : Params) (q : Request) → Sizes p → badCount p q ≡ false → badAddress p q ≡ false → wrongData p q ≡ false → Asked p q
+unfolding badCount badAddress wrongData requestCluster
+asked-in p q z c a d =
+    let k = or-neither (eqb (q .count) 0) c in
+    let n = eqb-false (q .count) 0 (k .0) in
+    record {
+      some = positive (decLt 0 (q .count)) n;
+      inside = ltb-false _ _ (k .1);
+      cluster = div-lt-iff-lt-mul (z .sectors) .1 (leb-false _ _ a);
+      bytes = eqb-true _ _ (not-false _ d);
+    }
+  where
+    positive : Dec (0 < q .count) → (q .count ≡ 0 → ⊥) → 0 < q .count
+    positive (yes h) ne = h
+    positive (no h) ne = absurd (ne (omega arith))
+
+pub record Checks (p : Params) (b : Board) (q : Request) : Type 0 where
+  pub fine : allowed p ≡ true
+  pub lengths : lengthsFit p b ≡ true
+  pub count : badCount p q ≡ false
+  pub address : badAddress p q ≡ false
+  pub given : wrongData p q ≡ false
+  pub tidy : orderly p b ≡ true
+
+pub access-checks : (p : Params) (b : Board) (q : Request) → accessReply p b q ≡ Accepted → Checks p b q
+unfolding accessReply firstRow badParameter wrongLength notOrderly
+access-checks p b q e =
+    let a = passed (badParameter p) _ _ (λ x. omega arith) e in
+    let l = passed (wrongLength p b) _ _ (λ x. omega arith) (a .1) in
+    let c = passed (badCount p q) _ _ (λ x. omega arith) (l .1) in
+    let i = passed (badAddress p q) _ _ (λ x. omega arith) (c .1) in
+    let d = passed (wrongData p q) _ _ (λ x. omega arith) (i .1) in
+    let o = passed (notOrderly p b) _ _ (λ x. omega arith) (d .1) in
+    record { fine = not-false _ (a .0); lengths = not-false _ (l .0); count = c .0; address = i .0; given = d .0; tidy = not-false _ (o .0) }
+
+pub admitted : (p : Params) (b : Board) (q : Request) → accessReply p b q ≡ Accepted → Admitted p b q
+admitted p b q e =
+    let c = access-checks p b q e in
+    let z = sizes p (c .fine) in
+    record {
+      fine = c .fine;
+      sized = z;
+      lengths = c .lengths;
+      tables = tables-in p b (c .lengths) (c .tidy);
+      tidy = orderly-region p b (c .tidy);
+      asked = asked-in p q z (c .count) (c .address) (c .given);
+    }
+
+-- what an accepted format has
+pub record FormatAdmitted (p : Params) (b : Board) : Type 0 where
+  pub fine : allowed p ≡ true
+  pub lengths : lengthsFit p b ≡ true
+  pub enough : p .mu * p .gamma + 1 ≤ goodBlocks p (b .chip)
+
+pub format-admitted : (p : Params) (b : Board) → formatReply p b ≡ Accepted → FormatAdmitted p b
+unfolding formatReply firstRow badParameter wrongLength tooFewBlocks
+format-admitted p b e =
+    let a = passed (badParameter p) _ _ (λ x. omega arith) e in
+    let l = passed (wrongLength p b) _ _ (λ x. omega arith) (a .1) in
+    let g = passed (tooFewBlocks p b) _ _ (λ x. omega arith) (l .1) in
+    record { fine = not-false _ (a .0); lengths = not-false _ (l .0); enough = ltb-false _ _ (g .0) }

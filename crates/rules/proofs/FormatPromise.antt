@@ -1,0 +1,171 @@
+-- An accepted format leaves an orderly state, whose sectors all read as 255, and does not touch a bad block.
+-- Assumes nothing.
+use mathlib.Core.Path.{_≡_, refl, sym, ap, _∙_}
+use mathlib.Core.Logic.{inl}
+use Prim.Native.Nat.{ℕ, zero, suc, _+_, _-_, _*_, _≤_, _<_}
+use native.Mathlib.Omega.{arith}
+use native.Mathlib.Decide.{ℕ-discrete, decLt}
+use mathlib.Core.Bool.{Bool, true, false, not, cond}
+use mathlib.Core.List.{List, [], _∷_}
+use lib.Dec.{eqb, ltb}
+use borrow.Author.Tests.{eqb-true, eq-eqb}
+use lib.ListN.{length, getD, replicate, length-replicate, getD-replicate, List·getD-eq-default}
+use Rattle.lists.specs.Below.{allBelow, countBelow, joinBelow}
+use Rattle.lists.proofs.Joins.{tab-at, tab-length}
+use Rattle.lists.proofs.Parts.{next}
+use Rattle.lists.proofs.Tests.{all-below-intro, all-true, count-cong, never, truths}
+use Rattle.rules.specs.declared.Params.{Params}
+use Rattle.rules.specs.declared.Reply.the-variants.{Accepted}
+use Rattle.rules.specs.Parameters.{blockBytes}
+use Rattle.rules.specs.Numbers.{regionOf}
+use Rattle.rules.specs.Tables.{Board, bstAt, btAt, btEntry, ctAt, fstAt, none}
+use Rattle.rules.specs.Pages.{block}
+use Rattle.rules.specs.Regions.{assigned, bodyAt, sector, sectorIn, view, viewOf}
+use Rattle.rules.specs.Orderly.{clusterRule, openRule, orderly, regionBlocks, regionFst}
+use Rattle.rules.specs.Traces.{erase, replayChip}
+use Rattle.rules.specs.Format.{bad, formatOps, formatted, goodBlocks}
+use Rattle.rules.specs.Write.{erasedBlock}
+use Rattle.rules.specs.Replies.{formatReply, lengthsFit}
+use Rattle.rules.proofs.Admitted.{FormatAdmitted, format-admitted, orderly-all}
+use Rattle.rules.proofs.Chip.{replay-append}
+use Rattle.rules.proofs.Opens.{fresh-all}
+use Rattle.rules.proofs.RegionFacts.{regionOrderly}
+use Rattle.rules.proofs.Replays.{erase-ran}
+use Rattle.rules.proofs.Sizes.{Sizes, sizes}
+use Rattle.rules.proofs.TableFacts.{Tables, chip-size}
+use Rattle.rules.proofs.Writes.{wear-length}
+
+-- ---- the erases
+
+-- of the blocks below k, the good ones are erased; the bad are as they were
+record Cleared (p : Params) (chip chip′ : List ℕ) (k : ℕ) : Type 0 where
+  size : length chip′ ≡ length chip
+  done : (m : ℕ) → m < k → bad p chip m ≡ false → block p chip′ m ≡ erasedBlock p
+  kept : (m : ℕ) → bad p chip m ≡ true → block p chip′ m ≡ block p chip m
+
+module _ (p : Params) (chip : List ℕ) (fits : length chip ≡ p .N * blockBytes p) where
+  upto : (k : ℕ) → k ≤ p .N → Cleared p chip (replayChip p chip (joinBelow k (λ n. cond (bad p chip n) [] (erase n ∷ [])))) k
+  unfolding joinBelow replayChip
+  upto zero h = record { size = refl; done = λ m a e. absurd (omega arith); kept = λ m e. refl }
+  upto (suc k) h =
+      rw (replay-append p chip (joinBelow k (λ n. cond (bad p chip n) [] (erase n ∷ []))) (cond (bad p chip k) [] (erase k ∷ [])))
+      (go (replayChip p chip (joinBelow k (λ n. cond (bad p chip n) [] (erase n ∷ [])))) (bad p chip k) refl (upto k (omega arith)))
+    where
+      go : (c₁ : List ℕ) (t : Bool) → bad p chip k ≡ t → Cleared p chip c₁ k → Cleared p chip (replayChip p c₁ (cond t [] (erase k ∷ []))) (suc k)
+      go c₁ true e u = record { size = u .size; done = λ m a f. u .done m (below m a (λ x. never e (sym (ap (bad p chip) x) ∙ f))) f; kept = u .kept }
+        where
+          below : (m : ℕ) → m < suc k → (m ≡ k → ⊥) → m < k
+          below m a ne = omega arith
+      go c₁ false e u =
+          let er = erase-ran p c₁ k (rw (u .size, fits) (next (blockBytes p) k (p .N) h)) in
+          record { size = er .size ∙ u .size; done = λ m a f. done m a f (ℕ-discrete m k); kept = λ m f. er .else m (λ x. never f (ap (bad p chip) x ∙ e)) ∙ u .kept m f }
+        where
+          done : (m : ℕ) → m < suc k → bad p chip m ≡ false → Dec (m ≡ k) → block p (replayChip p c₁ (erase k ∷ [])) m ≡ erasedBlock p
+          done m a f (yes x) = rw x ((erase-ran p c₁ k (rw (u .size, fits) (next (blockBytes p) k (p .N) h))) .here)
+          done m a f (no x) = (erase-ran p c₁ k (rw (u .size, fits) (next (blockBytes p) k (p .N) h))) .else m x ∙ u .done m (omega arith) f
+
+-- ---- the state that is left
+
+module _ (p : Params) (b : Board) (e : formatReply p b ≡ Accepted) where
+  checks : FormatAdmitted p b
+  checks = format-admitted p b e
+
+  z : Sizes p
+  z = sizes p (checks .fine)
+
+  chip-fits : length (b .chip) ≡ p .N * blockBytes p
+  unfolding lengthsFit
+  chip-fits = eqb-true _ _ ((truths _ (checks .lengths)) .0) ∙ chip-size p
+
+  wear-size : length (b .wear) ≡ p .N
+  unfolding lengthsFit
+  wear-size = eqb-true _ _ ((truths _ (checks .lengths)) .1 .1 .1 .1 .1 .0)
+
+  cleared : Cleared p (b .chip) ((formatted p b) .chip) (p .N)
+  unfolding formatted formatOps
+  cleared = upto p (b .chip) chip-fits (p .N) (omega arith)
+
+  kind : (m : ℕ) → m < p .N → bstAt ((formatted p b) .bst) m ≡ cond (bad p (b .chip) m) 2 0
+  unfolding bstAt formatted
+  kind m h = tab-at (p .N) (λ n. cond (bad p (b .chip) n) 2 0) m 0 h
+
+  getD-none : (n i : ℕ) → getD (replicate n none) i none ≡ none
+  getD-none n i = go (decLt i n)
+    where
+      go : Dec (i < n) → getD (replicate n none) i none ≡ none
+      go (yes h) = getD-replicate n i none none h
+      go (no h) = List·getD-eq-default (replicate n none) none (rw length-replicate (omega arith))
+
+  entry : (i : ℕ) → btEntry ((formatted p b) .bt) i ≡ none
+  unfolding btEntry formatted
+  entry i = getD-none (p .mu * p .gamma) i
+
+  two : (t : Bool) → (cond {A = ℕ} t 2 0 ≤ 2) × (cond {A = ℕ} t 2 0 ≡ 1 → ⊥) × (cond {A = ℕ} t 2 0 ≡ 0 → t ≡ false) × (not (eqb (cond t 2 0) 2) ≡ not t)
+  two true = (omega arith, λ x. omega arith, λ x. absurd (omega arith), refl)
+  two false = (omega arith, λ x. omega arith, λ x. refl, refl)
+
+  good-enough : p .mu * p .gamma + 1 ≤ countBelow (p .N) (λ m. not (bad p (b .chip) m))
+  unfolding goodBlocks
+  good-enough = checks .enough
+
+  tables : Tables p (formatted p b)
+  unfolding formatted
+  tables =
+      record {
+        chipLength = cleared .size ∙ chip-fits;
+        ctLength = length-replicate (p .C) none;
+        btLength = length-replicate (p .mu * p .gamma) none;
+        fstLength = length-replicate (p .mu) none;
+        bstLength = tab-length (p .N) (λ n. cond (bad p (b .chip) n) 2 0);
+        wearLength = wear-length (b .wear) (formatOps p (b .chip)) ∙ wear-size;
+        kinds = λ m h. rw (kind m h) ((two (bad p (b .chip) m)) .0);
+        names = λ i h. inl (entry i);
+        once = λ i j hi hj x ne. absurd (ne (entry i));
+        used = λ m h x. absurd ((two (bad p (b .chip) m)) .1 (sym (kind m h) ∙ x));
+        usedBack = λ i h m k x. absurd (omega (arith, entry i, x, z .blocks));
+        room = room;
+        free = λ m h x. rw (cleared .done m h ((two (bad p (b .chip) m)) .2 (sym (kind m h) ∙ x))) (fresh-all p);
+      }
+    where
+      room : p .mu * p .gamma + 1 ≤ countBelow (p .N) (λ m. not (eqb (bstAt ((formatted p b) .bst) m) 2))
+      room =
+          rw (count-cong (p .N) (λ m. not (eqb (bstAt ((formatted p b) .bst) m) 2)) (λ m. not (bad p (b .chip) m)) (λ m h. rw (kind m h) ((two (bad p (b .chip) m)) .3)))
+          good-enough
+
+  lacks : (r v : ℕ) → assigned (view p (formatted p b) r) v ≡ false
+  unfolding assigned viewOf bodyAt btAt btEntry
+  lacks r v = rw (entry (r * p .gamma + v)) (go (ltb v (p .gamma)))
+    where
+      go : (t : Bool) → ltb 0 (length (cond {A = List ℕ} t [] [])) ≡ false
+      go true = refl
+      go false = refl
+
+  no-segment : (r c : ℕ) → (view p (formatted p b) r) .segOf c ≡ none
+  unfolding viewOf ctAt formatted
+  no-segment r c = rw (getD-none (p .C) c) (go (eqb (regionOf p c) r))
+    where
+      go : (t : Bool) → cond t none none ≡ none
+      go true = refl
+      go false = refl
+
+  no-last : (r : ℕ) → (view p (formatted p b) r) .lastSeg ≡ none
+  unfolding viewOf fstAt formatted
+  no-last r = getD-none (p .mu) r
+
+  empty-region : (r : ℕ) → regionOrderly p r (view p (formatted p b) r) ≡ true
+  unfolding regionOrderly regionBlocks regionFst clusterRule
+  empty-region r =
+      all-true _ (all-below-intro (p .gamma) _ (λ v h. rw (lacks r v)), (opened, (all-below-intro (p .C) _ (λ c h. rw (no-segment r c)), tt)))
+    where
+      opened : cond (allBelow (p .gamma) (λ v. not (assigned (view p (formatted p b) r) v))) (eqb ((view p (formatted p b) r) .lastSeg) none) (openRule p (view p (formatted p b) r)) ≡ true
+      opened = rw (all-below-intro (p .gamma) (λ v. not (assigned (view p (formatted p b) r) v)) (λ v h. rw (lacks r v))) (eq-eqb _ _ (no-last r))
+
+  pub format-orderly : orderly p (formatted p b) ≡ true
+  format-orderly = orderly-all p (formatted p b) z tables (λ r h. empty-region r)
+
+  pub format-reads : (c j : ℕ) → sector p (formatted p b) c j ≡ replicate (p .s) 255
+  unfolding sector sectorIn
+  format-reads c j = rw (no-segment (regionOf p c) c)
+
+  pub format-bad : (m : ℕ) → bad p (b .chip) m ≡ true → block p ((formatted p b) .chip) m ≡ block p (b .chip) m
+  format-bad = cleared .kept

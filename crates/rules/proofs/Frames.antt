@@ -1,0 +1,59 @@
+-- Frames: what a programmed frame and an erased one read as; the arithmetic of segments.
+-- Assumes nothing.
+use mathlib.Core.Path.{_≡_, sym, ap, _∙_}
+use Prim.Native.Nat.{ℕ, _+_, _-_, _*_, _/_, _%_, _<_}
+use native.Mathlib.Nat.{mul-add-div-right, div-eq-of-lt, div-lt-iff-lt-mul, mul-add-mod-self-right, mod-eq-of-lt, add-zero, div-div-eq-div-mul, div-add-mod'}
+use native.Mathlib.Omega.{arith}
+use mathlib.Core.Bool.{true, false}
+use mathlib.Core.List.{List}
+use lib.ListN.{drop}
+use Rattle.lists.specs.Parts.{allAre, part}
+use Rattle.lists.proofs.Joins.{allAre-at, allAre-drop, allAre-part}
+use Rattle.lists.proofs.Parts.{next}
+use Rattle.rules.specs.declared.Params.{Params}
+use Rattle.rules.specs.Parameters.{frames, pageBytes}
+use Rattle.rules.specs.Numbers.{placeOf, segmentOf, vblockOf}
+use Rattle.rules.specs.Pages.{bytes32, held, le32, page, programmed, spare, spareBytes}
+use Rattle.rules.proofs.Sizes.{Sizes}
+
+-- ---- segments
+
+module _ (p : Params) (z : Sizes p) (v f : ℕ) (low : f < frames p) where
+  place-low : f / p .beta < p .d
+  unfolding frames
+  place-low = div-lt-iff-lt-mul (z .perSegment) .1 (omega arith)
+
+  pub seg-vblock : vblockOf p (segmentOf p v f) ≡ v
+  seg-vblock = rw (mul-add-div-right (z .segments), div-eq-of-lt place-low) (add-zero v)
+
+  pub seg-place : placeOf p (segmentOf p v f) ≡ f / p .beta
+  seg-place = rw mul-add-mod-self-right (mod-eq-of-lt place-low)
+
+  pub seg-low : v < p .gamma → segmentOf p v f < p .gamma * p .d
+  seg-low h = omega (arith, next (p .d) v (p .gamma) h, place-low)
+
+-- ---- a programmed frame and an erased one
+
+digits : (c a b e i j k : ℕ) → a * 256 + i ≡ c → b * 256 + j ≡ a → e * 256 + k ≡ b → c < 4294967296 → (e < 256) × (i + 256 * j + 65536 * k + 16777216 * e ≡ c)
+digits c a b e i j k p q r h = omega arith
+
+le-bytes : (c : ℕ) → c < 4294967296 → c % 256 + 256 * (c / 256 % 256) + 65536 * (c / 65536 % 256) + 16777216 * (c / 16777216 % 256) ≡ c
+le-bytes c h =
+    let e₁ : c / 65536 ≡ c / 256 / 256 = sym (div-div-eq-div-mul c 256 256) in
+    let e₂ : c / 16777216 ≡ c / 256 / 256 / 256 = sym (div-div-eq-div-mul c 65536 256) ∙ ap (λ (m : ℕ). m / 256) e₁ in
+    let r = digits c (c / 256) (c / 256 / 256) (c / 256 / 256 / 256) (c % 256) (c / 256 % 256) (c / 256 / 256 % 256)
+    (div-add-mod' c 256) (div-add-mod' (c / 256) 256) (div-add-mod' (c / 256 / 256) 256) h in
+    rw (e₁, e₂, mod-eq-of-lt (r .0)) (r .1)
+
+module _ (p : Params) (x : List ℕ) (c : ℕ) (marked : spare p x 0 ≡ spareBytes c 0) where
+  pub marked-programmed : programmed p x ≡ true
+  unfolding programmed spareBytes bytes32
+  marked-programmed = rw marked
+
+  pub marked-held : c < 4294967296 → held p x ≡ c
+  unfolding held spareBytes bytes32 le32
+  marked-held h = rw marked (le-bytes c h)
+
+pub erased-not : (p : Params) (fr : List ℕ) → allAre 255 fr ≡ true → programmed p fr ≡ false
+unfolding programmed spare page
+erased-not p fr h = rw (allAre-at 255 (drop (p .s) (part (pageBytes p) 0 fr)) 6 (allAre-drop 255 (p .s) _ (allAre-part 255 (pageBytes p) 0 fr h)))

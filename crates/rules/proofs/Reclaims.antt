@@ -1,0 +1,135 @@
+-- A plan that reclaims makes room.
+-- Assumes nothing.
+use mathlib.Core.Path.{_≡_, refl, sym, ap, _∙_}
+use Prim.Native.Nat.{ℕ, _+_, _-_, _*_, _≤_, _<_}
+use native.Mathlib.Omega.{arith}
+use mathlib.Core.Bool.{true, false}
+use mathlib.Core.List.{[], _∷_}
+use lib.ListN.{length, getD, set, length-set}
+use lib.Seq.{getD-set-same, getD-set-other}
+use Rattle.lists.proofs.Parts.{next}
+use Rattle.rules.specs.declared.Params.{Params}
+use Rattle.rules.specs.Parameters.{blockBytes, frameBytes, frames}
+use Rattle.rules.specs.Numbers.{regionOf}
+use Rattle.rules.specs.Tables.{Board, bstAt, btAt, btEntry, ctAt, none}
+use Rattle.rules.specs.Pages.{block, held}
+use Rattle.rules.specs.Regions.{assigned, validFrames, view}
+use Rattle.rules.specs.Traces.{clean, erase, framesOps, replayChip}
+use Rattle.rules.specs.Write.{copies, eraseOps, erasedBlock, follow, freeBlock, hasRoom, planBlock, planBst, planFrame, planVBlock, putFrames, reclaims, roomOps, withRoom}
+use Rattle.rules.proofs.Chip.{clean-append, replay-append}
+use Rattle.rules.proofs.Continues.{Makes, segs-in, segs-out}
+use Rattle.rules.proofs.Following.{follow-ct, follow-length, follow-miss}
+use Rattle.rules.proofs.Sizes.{Sizes}
+use Rattle.rules.proofs.Isolation.{index-low}
+use Rattle.rules.proofs.Opens.{free-fresh, fresh-all, fresh-frame}
+use Rattle.rules.proofs.ReclaimView.{body-else, body-here, copies-fit, copies-length, copy-at, nth-spec, nthValid, reclaim-base, reclaim-reads, seg-is, wholes}
+use Rattle.rules.proofs.RegionFacts.{GoodFrame, Neat, neat}
+use Rattle.rules.proofs.Replays.{Ran, erase-clean, erase-ran, frames-clean, frames-ran}
+use Rattle.rules.proofs.TableFacts.{Tables}
+use Rattle.rules.proofs.Victims.{good-at}
+use Rattle.rules.proofs.Views.{block-low, body-size, chip-fits, free-block, free-unnamed, has-block}
+
+module _ (p : Params) (z : Sizes p) (b : Board) (t : Tables p b) (r : ℕ) (region : r < p .mu) (neat : Neat p r (view p b r)) (no-room : hasRoom p (view p b r) ≡ false)
+    (every : (u : ℕ) → u < p .gamma → assigned (view p b r) u ≡ true) (v : ℕ) (low : v < p .gamma) (few : length (validFrames p (view p b r) v) < frames p) where
+  sized : (u : ℕ) → u < p .gamma → length ((view p b r) .body u) ≡ blockBytes p
+  sized u h = body-size p z b t r u region h (every u h)
+
+  taken : btAt p (b .bt) r v ≡ none → ⊥
+  taken = has-block p z b t r v region low (every v low)
+
+  index : r * p .gamma + v < p .mu * p .gamma
+  index = index-low p r v region low
+
+  old-used : bstAt (b .bst) (btAt p (b .bt) r v) ≡ 1
+  old-used = t .usedBack (r * p .gamma + v) index (btAt p (b .bt) r v) (block-low p z b t r v region low taken) (unfold btAt btEntry in refl)
+
+  differ : btAt p (b .bt) r v ≡ freeBlock p (b .bst) (b .wear) → ⊥
+  differ e = omega (arith, old-used, free-block p z b t .1, ap (bstAt (b .bst)) e)
+
+  free-fits : freeBlock p (b .bst) (b .wear) * blockBytes p + blockBytes p ≤ length (b .chip)
+  free-fits = rw (t .chipLength) (next (blockBytes p) (freeBlock p (b .bst) (b .wear)) (p .N) (free-block p z b t .0))
+
+  whole : (i : ℕ) → i < length (copies p (view p b r) (reclaims v)) → length (getD (copies p (view p b r) (reclaims v)) i []) ≡ frameBytes p
+  whole = wholes p z r (view p b r) neat no-room every sized v low few
+
+  fit : 0 + length (copies p (view p b r) (reclaims v)) ≤ frames p
+  fit = copies-fit p z r (view p b r) neat no-room every sized v low few
+
+  copied : Ran p (b .chip) (replayChip p (b .chip) (framesOps p (freeBlock p (b .bst) (b .wear)) 0 (copies p (view p b r) (reclaims v)))) (freeBlock p (b .bst) (b .wear))
+      (putFrames p 0 (copies p (view p b r) (reclaims v)) (block p (b .chip) (freeBlock p (b .bst) (b .wear))))
+  copied = frames-ran p (freeBlock p (b .bst) (b .wear)) (copies p (view p b r) (reclaims v)) 0 (b .chip) free-fits whole fit
+
+  old-fits : btAt p (b .bt) r v * blockBytes p + blockBytes p ≤ length (replayChip p (b .chip) (framesOps p (freeBlock p (b .bst) (b .wear)) 0 (copies p (view p b r) (reclaims v))))
+  old-fits = rw (copied .size) (chip-fits p z b t r v region low taken)
+
+  -- the chip once the victim is erased
+  chip-is : replayChip p (b .chip) (roomOps p b r (reclaims v)) ≡ replayChip p (replayChip p (b .chip) (framesOps p (freeBlock p (b .bst) (b .wear)) 0 (copies p (view p b r) (reclaims v)))) (erase (btAt p (b .bt) r v) ∷ [])
+  unfolding roomOps eraseOps planBlock
+  chip-is = replay-append p (b .chip) (framesOps p (freeBlock p (b .bst) (b .wear)) 0 (copies p (view p b r) (reclaims v))) (erase (btAt p (b .bt) r v) ∷ [])
+
+  erased : Ran p (replayChip p (b .chip) (framesOps p (freeBlock p (b .bst) (b .wear)) 0 (copies p (view p b r) (reclaims v)))) (replayChip p (b .chip) (roomOps p b r (reclaims v))) (btAt p (b .bt) r v) (erasedBlock p)
+  erased = rw chip-is (erase-ran p _ (btAt p (b .bt) r v) old-fits)
+
+  block-new : block p (replayChip p (b .chip) (roomOps p b r (reclaims v))) (freeBlock p (b .bst) (b .wear)) ≡ (withRoom p (view p b r) (reclaims v)) .body v
+  block-new =
+      erased .else (freeBlock p (b .bst) (b .wear)) (λ e. differ (sym e)) ∙ copied .here ∙ ap (putFrames p 0 (copies p (view p b r) (reclaims v))) (free-fresh p z b t)
+      ∙ sym (body-here p z r (view p b r) neat no-room every sized v low few)
+
+  block-same : (m : ℕ) → (m ≡ freeBlock p (b .bst) (b .wear) → ⊥) → (m ≡ btAt p (b .bt) r v → ⊥) → block p (replayChip p (b .chip) (roomOps p b r (reclaims v))) m ≡ block p (b .chip) m
+  block-same m ne k = erased .else m k ∙ copied .else m ne
+
+  not-old : (i : ℕ) → i < p .mu * p .gamma → (i ≡ r * p .gamma + v → ⊥) → (btEntry (b .bt) i ≡ none → ⊥) → btEntry (b .bt) i ≡ btAt p (b .bt) r v → ⊥
+  unfolding btAt btEntry
+  not-old i h ne k e = ne (t .once i (r * p .gamma + v) h index e k)
+
+  -- the copied frames' clusters
+  good-copy : (i : ℕ) → i < length (copies p (view p b r) (reclaims v)) → GoodFrame p r (getD (copies p (view p b r) (reclaims v)) i [])
+  good-copy i h =
+      let k : i < length (validFrames p (view p b r) v) = rw (copies-length p z r (view p b r) neat no-room every sized v low few) at h in
+      rw (copy-at p z r (view p b r) neat no-room every sized v low few i k)
+      (good-at p z (view p b r) r neat no-room every v (nthValid p (view p b r) v i) low ((nth-spec p z r (view p b r) neat no-room every sized v low few i k) .0))
+
+  held-low : (i : ℕ) → i < length (copies p (view p b r) (reclaims v)) → held p (getD (copies p (view p b r) (reclaims v)) i []) < length (b .ct)
+  held-low i h = rw (t .ctLength) ((good-copy i h) .low)
+
+  missed : (c : ℕ) → (regionOf p c ≡ r → ⊥) → (s : ℕ → ℕ) → follow p v 0 (copies p (view p b r) (reclaims v)) s c ≡ s c
+  missed c ne s = follow-miss p v c (copies p (view p b r) (reclaims v)) 0 s (λ i h e. ne (ap (regionOf p) (sym e) ∙ (good-copy i h) .mine))
+
+  tidy : clean p (b .chip) (roomOps p b r (reclaims v)) ≡ true
+  unfolding roomOps eraseOps planBlock
+  tidy =
+      clean-append p (b .chip) (framesOps p (freeBlock p (b .bst) (b .wear)) 0 (copies p (view p b r) (reclaims v))) (erase (btAt p (b .bt) r v) ∷ [])
+      (frames-clean p (freeBlock p (b .bst) (b .wear)) (copies p (view p b r) (reclaims v)) 0 (b .chip) free-fits whole fit (λ g a h. rw (free-fresh p z b t) (fresh-frame p g)))
+      (erase-clean p _ (btAt p (b .bt) r v) old-fits)
+
+  pub reclaim-makes : Makes p b r (reclaims v)
+  unfolding planVBlock planBlock planFrame planBst
+  reclaim-makes =
+      let w = free-block p z b t in
+      record {
+        room =
+            record {
+              chipLength = erased .size ∙ copied .size ∙ t .chipLength;
+              low = w .0;
+              taken = λ e. omega (arith, w .0, z .blocks);
+              own = λ i h ne k. free-unnamed p z b t i h;
+              here = block-new;
+              blockElse = λ i h ne k. block-same (btEntry (b .bt) i) (free-unnamed p z b t i h) (not-old i h ne k);
+              bodyElse = body-else p z r (view p b r) neat no-room every sized v low few;
+              ctLength = follow-length p v (copies p (view p b r) (reclaims v)) 0 (b .ct) ∙ t .ctLength;
+              segsHere = λ c e. follow-ct p v c (copies p (view p b r) (reclaims v)) 0 (b .ct) ((view p b r) .segOf) held-low (unfold ctAt in segs-in p b r c e)
+                  ∙ sym (seg-is p z r (view p b r) neat no-room every sized v low few c);
+              segsElse = λ c ne. follow-ct p v c (copies p (view p b r) (reclaims v)) 0 (b .ct) (ctAt (b .ct)) held-low (unfold ctAt in refl) ∙ missed c ne (ctAt (b .ct));
+              segsNone = λ c ne. seg-is p z r (view p b r) neat no-room every sized v low few c ∙ missed c ne ((view p b r) .segOf) ∙ segs-out p b r c ne;
+            };
+        base = reclaim-base p z r (view p b r) neat no-room every sized v low few;
+        tidy = tidy;
+        reads = reclaim-reads p z r (view p b r) neat no-room every sized v low few;
+        bstLength = length-set (set (b .bst) (freeBlock p (b .bst) (b .wear)) 1) (btAt p (b .bt) r v) 0 ∙ length-set (b .bst) (freeBlock p (b .bst) (b .wear)) 1 ∙ t .bstLength;
+        was = λ e. omega (arith, w .1);
+        kindHere = getD-set-other (set (b .bst) (freeBlock p (b .bst) (b .wear)) 1) (btAt p (b .bt) r v) (freeBlock p (b .bst) (b .wear)) 0 0 (λ e. differ (sym e)) ∙ getD-set-same (b .bst) (freeBlock p (b .bst) (b .wear)) 1 0 (rw (t .bstLength) (w .0));
+        kindOld = λ ne k. getD-set-same (set (b .bst) (freeBlock p (b .bst) (b .wear)) 1) (btAt p (b .bt) r v) 0 0 (rw (length-set (b .bst) (freeBlock p (b .bst) (b .wear)) 1, t .bstLength) (block-low p z b t r v region low taken));
+        eraseOld = λ ne k. rw (erased .here) (fresh-all p);
+        kindElse = λ m h ne k. unfold bstAt in (getD-set-other (set (b .bst) (freeBlock p (b .bst) (b .wear)) 1) (btAt p (b .bt) r v) m 0 0 k ∙ getD-set-other (b .bst) (freeBlock p (b .bst) (b .wear)) m 1 0 ne);
+        blockElse = λ m h ne k. block-same m ne k;
+      }

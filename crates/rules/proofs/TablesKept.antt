@@ -1,0 +1,145 @@
+-- A write leaves the tables' rules standing.
+-- Assumes nothing.
+use mathlib.Core.Path.{_≡_, sym, ap, _∙_}
+use mathlib.Core.Logic.{_⊎_, inr}
+use Prim.Native.Nat.{ℕ, _-_, _*_, _≤_, _<_}
+use native.Mathlib.Omega.{arith}
+use native.Mathlib.Decide.{ℕ-discrete}
+use mathlib.Core.Bool.{true, not}
+use lib.Dec.{eqb}
+use borrow.Author.Tests.{ne-eqb}
+use lib.ListN.{length}
+use Rattle.lists.specs.Parts.{allAre}
+use Rattle.lists.proofs.Tests.{count-cong}
+use Rattle.rules.specs.declared.Params.{Params}
+use Rattle.rules.specs.Parameters.{blockBytes}
+use Rattle.rules.specs.Tables.{Board, bstAt, btEntry, none}
+use Rattle.rules.specs.Pages.{block}
+use Rattle.rules.proofs.Sizes.{Sizes}
+use Rattle.rules.proofs.TableFacts.{Tables}
+
+-- entry k of BT comes to name block n, which is used from now on; the block that it named before, if another, is free and erased
+pub record Change (p : Params) (b b′ : Board) (k n : ℕ) : Type 0 where
+  pub chipLength : length (b′ .chip) ≡ p .N * blockBytes p
+  pub ctLength : length (b′ .ct) ≡ p .C
+  pub btLength : length (b′ .bt) ≡ p .mu * p .gamma
+  pub fstLength : length (b′ .fst) ≡ p .mu
+  pub bstLength : length (b′ .bst) ≡ p .N
+  pub wearLength : length (b′ .wear) ≡ p .N
+  pub index : k < p .mu * p .gamma
+  pub low : n < p .N
+  pub entryElse : (i : ℕ) → (i ≡ k → ⊥) → btEntry (b′ .bt) i ≡ btEntry (b .bt) i
+  pub entryHere : btEntry (b′ .bt) k ≡ n
+  pub own : (i : ℕ) → i < p .mu * p .gamma → (i ≡ k → ⊥) → (btEntry (b .bt) i ≡ none → ⊥) → btEntry (b .bt) i ≡ n → ⊥
+  pub was : bstAt (b .bst) n ≡ 2 → ⊥
+  pub kindHere : bstAt (b′ .bst) n ≡ 1
+  pub kindOld : (btEntry (b .bt) k ≡ n → ⊥) → (btEntry (b .bt) k ≡ none → ⊥) → bstAt (b′ .bst) (btEntry (b .bt) k) ≡ 0
+  pub eraseOld : (btEntry (b .bt) k ≡ n → ⊥) → (btEntry (b .bt) k ≡ none → ⊥) → allAre 255 (block p (b′ .chip) (btEntry (b .bt) k)) ≡ true
+  pub kindElse : (m : ℕ) → m < p .N → (m ≡ n → ⊥) → (m ≡ btEntry (b .bt) k → ⊥) → bstAt (b′ .bst) m ≡ bstAt (b .bst) m
+  pub blockElse : (m : ℕ) → m < p .N → (m ≡ n → ⊥) → (m ≡ btEntry (b .bt) k → ⊥) → block p (b′ .chip) m ≡ block p (b .chip) m
+
+module _ (p : Params) (z : Sizes p) (b b′ : Board) (t : Tables p b) (k n : ℕ) (ch : Change p b b′ k n) where
+  not-none : (m : ℕ) → m < p .N → m ≡ none → ⊥
+  not-none m h e = omega (arith, z .blocks)
+
+  -- a block is the new one, the old one, or neither
+  data Which (m : ℕ) : Type 0 where
+    new : m ≡ n → Which m
+    old : (m ≡ n → ⊥) → m ≡ btEntry (b .bt) k → Which m
+    else : (m ≡ n → ⊥) → (m ≡ btEntry (b .bt) k → ⊥) → Which m
+
+  which : (m : ℕ) → Which m
+  which m = go (ℕ-discrete m n) (ℕ-discrete m (btEntry (b .bt) k))
+    where
+      go : Dec (m ≡ n) → Dec (m ≡ btEntry (b .bt) k) → Which m
+      go (yes e) d = new e
+      go (no e) (yes d) = old e d
+      go (no e) (no d) = else e d
+
+  kind-old : (m : ℕ) → m < p .N → (m ≡ n → ⊥) → m ≡ btEntry (b .bt) k → bstAt (b′ .bst) m ≡ 0
+  kind-old m h ne e = rw e (ch .kindOld (λ x. ne (e ∙ x)) (λ x. not-none m h (e ∙ x)))
+
+  kinds : (m : ℕ) → m < p .N → bstAt (b′ .bst) m ≤ 2
+  kinds m h = go (which m)
+    where
+      go : Which m → bstAt (b′ .bst) m ≤ 2
+      go (new e) = rw (e, ch .kindHere) (omega arith)
+      go (old ne e) = rw (kind-old m h ne e) (omega arith)
+      go (else ne e) = rw (ch .kindElse m h ne e) (t .kinds m h)
+
+  names : (i : ℕ) → i < p .mu * p .gamma → (btEntry (b′ .bt) i ≡ none) ⊎ (btEntry (b′ .bt) i < p .N)
+  names i h = go (ℕ-discrete i k)
+    where
+      go : Dec (i ≡ k) → (btEntry (b′ .bt) i ≡ none) ⊎ (btEntry (b′ .bt) i < p .N)
+      go (yes e) = inr (rw (e, ch .entryHere) (ch .low))
+      go (no e) = rw (ch .entryElse i e) (t .names i h)
+
+  once : (i j : ℕ) → i < p .mu * p .gamma → j < p .mu * p .gamma → btEntry (b′ .bt) i ≡ btEntry (b′ .bt) j → (btEntry (b′ .bt) i ≡ none → ⊥) → i ≡ j
+  once i j hi hj e ne = go (ℕ-discrete i k) (ℕ-discrete j k)
+    where
+      go : Dec (i ≡ k) → Dec (j ≡ k) → i ≡ j
+      go (yes x) (yes y) = x ∙ sym y
+      go (yes x) (no y) =
+          let q : btEntry (b .bt) j ≡ n = sym (ch .entryElse j y) ∙ sym e ∙ ap (btEntry (b′ .bt)) x ∙ ch .entryHere in
+          absurd (ch .own j hj y (λ w. not-none n (ch .low) (sym q ∙ w)) q)
+      go (no x) (yes y) =
+          let q : btEntry (b .bt) i ≡ n = sym (ch .entryElse i x) ∙ e ∙ ap (btEntry (b′ .bt)) y ∙ ch .entryHere in
+          absurd (ch .own i hi x (λ w. not-none n (ch .low) (sym q ∙ w)) q)
+      go (no x) (no y) =
+          t .once i j hi hj (sym (ch .entryElse i x) ∙ e ∙ ch .entryElse j y) (λ w. ne (ch .entryElse i x ∙ w))
+
+  used : (m : ℕ) → m < p .N → bstAt (b′ .bst) m ≡ 1 → (i : ℕ) × (i < p .mu * p .gamma) × (btEntry (b′ .bt) i ≡ m)
+  used m h e = go (which m)
+    where
+      go : Which m → (i : ℕ) × (i < p .mu * p .gamma) × (btEntry (b′ .bt) i ≡ m)
+      go (new x) = (k, ch .index, ch .entryHere ∙ sym x)
+      go (old ne x) = absurd (omega (arith, kind-old m h ne x))
+      go (else ne x) =
+          let w = t .used m h (sym (ch .kindElse m h ne x) ∙ e) in
+          (w .0, w .1, ch .entryElse (w .0) (λ y. x (sym (w .2) ∙ ap (btEntry (b .bt)) y)) ∙ w .2)
+
+  usedBack : (i : ℕ) → i < p .mu * p .gamma → (m : ℕ) → m < p .N → btEntry (b′ .bt) i ≡ m → bstAt (b′ .bst) m ≡ 1
+  usedBack i hi m h e = go (ℕ-discrete i k) (which m)
+    where
+      go : Dec (i ≡ k) → Which m → bstAt (b′ .bst) m ≡ 1
+      go (yes x) s = rw (sym e ∙ ap (btEntry (b′ .bt)) x ∙ ch .entryHere) (ch .kindHere)
+      go (no x) (new y) = rw y (ch .kindHere)
+      go (no x) (old ne y) =
+          let q : btEntry (b .bt) i ≡ m = sym (ch .entryElse i x) ∙ e in
+          absurd (x (t .once i k hi (ch .index) (q ∙ y) (λ w. not-none m h (sym q ∙ w))))
+      go (no x) (else ne y) = rw (ch .kindElse m h ne y) (t .usedBack i hi m h (sym (ch .entryElse i x) ∙ e))
+
+  -- no block becomes reserved, and none ceases to be
+  reserved : (m : ℕ) → m < p .N → eqb (bstAt (b .bst) m) 2 ≡ eqb (bstAt (b′ .bst) m) 2
+  reserved m h = go (which m)
+    where
+      go : Which m → eqb (bstAt (b .bst) m) 2 ≡ eqb (bstAt (b′ .bst) m) 2
+      go (new e) = rw (e, ch .kindHere) (ne-eqb _ _ (ch .was))
+      go (old ne e) = rw (kind-old m h ne e) (ne-eqb (bstAt (b .bst) m) 2 (λ x. omega (arith, t .usedBack k (ch .index) m h (sym e))))
+      go (else ne e) = rw (ch .kindElse m h ne e)
+
+  free : (m : ℕ) → m < p .N → bstAt (b′ .bst) m ≡ 0 → allAre 255 (block p (b′ .chip) m) ≡ true
+  free m h e = go (which m)
+    where
+      go : Which m → allAre 255 (block p (b′ .chip) m) ≡ true
+      go (new x) = absurd (omega (arith, ch .kindHere, ap (bstAt (b′ .bst)) x))
+      go (old ne x) = rw x (ch .eraseOld (λ y. ne (x ∙ y)) (λ y. not-none m h (x ∙ y)))
+      go (else ne x) = rw (ch .blockElse m h ne x) (t .free m h (sym (ch .kindElse m h ne x) ∙ e))
+
+  pub tables-kept : Tables p b′
+  tables-kept =
+      record {
+        chipLength = ch .chipLength;
+        ctLength = ch .ctLength;
+        btLength = ch .btLength;
+        fstLength = ch .fstLength;
+        bstLength = ch .bstLength;
+        wearLength = ch .wearLength;
+        kinds = kinds;
+        names = names;
+        once = once;
+        used = used;
+        usedBack = usedBack;
+        free = free;
+        room = rw (sym (count-cong (p .N) (λ m. not (eqb (bstAt (b .bst) m) 2)) (λ m. not (eqb (bstAt (b′ .bst) m) 2)) (λ m h. ap not (reserved m h)))) (t .room);
+      }

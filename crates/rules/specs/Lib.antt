@@ -1,0 +1,12 @@
+pub mod Parameters
+pub mod Numbers
+pub mod Tables
+pub mod Pages
+pub mod Regions
+pub mod Orderly
+pub mod Traces
+pub mod Format
+pub mod Write
+pub mod Replies
+pub mod Calls
+pub mod BoardT

@@ -1,0 +1,124 @@
+-- Document 01, "When a state is orderly": nine rules, each a test with a name, in the document's order.
+-- Assumes nothing.
+use Prim.Native.Nat.{ℕ, _+_, _-_, _*_}
+use mathlib.Core.Bool.{Bool, true, not, _&&_, _||_, Bool·beq, cond}
+use mathlib.Core.List.{List, [], _∷_}
+use lib.Dec.{leb, ltb, eqb}
+use Rattle.lists.specs.Below.{allBelow, allTrue, countBelow}
+use Rattle.lists.specs.Parts.{sameList}
+use Rattle.rules.specs.declared.Params.{Params}
+use Rattle.rules.specs.Parameters.{frames}
+use Rattle.rules.specs.Numbers.{regionOf, vblockOf, placeOf, segmentOf}
+use Rattle.rules.specs.Tables.{Board, none, btEntry, bstAt}
+use Rattle.rules.specs.Pages.{block, frame, spare, spareBytes, erased, held, filled, lastIn}
+use Rattle.rules.specs.Regions.{View, view, assigned}
+
+-- "BST holds 0, 1 or 2"
+unfoldable pub bstRule : Params → List ℕ → Bool
+bstRule p bst = allBelow (p .N) (λ n. leb (bstAt bst n) 2)
+
+-- "BT entries are none or below N"
+unfoldable pub btRule : Params → List ℕ → Bool
+btRule p bt = allBelow (p .mu * p .gamma) (λ i. eqb (btEntry bt i) none || ltb (btEntry bt i) (p .N))
+
+-- "no block is named twice"
+unfoldable pub onceRule : Params → List ℕ → Bool
+onceRule p bt =
+    allBelow (p .mu * p .gamma)
+    (λ i. allBelow (p .mu * p .gamma) (λ j. eqb i j || (eqb (btEntry bt i) none || not (eqb (btEntry bt i) (btEntry bt j)))))
+
+-- BT names block n
+unfoldable pub named : Params → List ℕ → ℕ → Bool
+named p bt n = not (allBelow (p .mu * p .gamma) (λ i. not (eqb (btEntry bt i) n)))
+
+-- "a block is used exactly if BT names it"
+unfoldable pub usedRule : Params → List ℕ → List ℕ → Bool
+usedRule p bt bst = allBelow (p .N) (λ n. Bool·beq (eqb (bstAt bst n) 1) (named p bt n))
+
+-- "At least μγ+1 blocks are not reserved"
+unfoldable pub roomRule : Params → List ℕ → Bool
+roomRule p bst = leb (p .mu * p .gamma + 1) (countBelow (p .N) (λ n. not (eqb (bstAt bst n) 2)))
+
+-- "Free blocks are erased throughout. Reserved blocks may hold anything"
+unfoldable pub freeRule : Params → List ℕ → List ℕ → Bool
+freeRule p chip bst = allBelow (p .N) (λ n. not (eqb (bstAt bst n) 0) || erased (block p chip n))
+
+-- "with spare bytes as above and clusters below C of that region": a frame of region r
+unfoldable pub goodFrame : Params → ℕ → List ℕ → Bool
+goodFrame p r fr =
+    allTrue (ltb (held p fr) (p .C) ∷ eqb (regionOf p (held p fr)) r ∷ allBelow (p .alpha) (λ j. sameList (spare p fr j) (spareBytes (held p fr) j)) ∷ [])
+
+-- the first k frames are programmed so, and "The rest is erased"
+unfoldable pub goodUpTo : Params → ℕ → ℕ → List ℕ → Bool
+goodUpTo p r k blk = allBelow (frames p) (λ f. cond (ltb f k) (goodFrame p r (frame p blk f)) (erased (frame p blk f)))
+
+-- "In a used block the first k frames are programmed, k from 1 to F"
+unfoldable pub blockRule : Params → ℕ → List ℕ → Bool
+blockRule p r blk = ltb 0 (filled p blk) && goodUpTo p r (filled p blk) blk
+
+unfoldable pub regionBlocks : Params → ℕ → View → Bool
+regionBlocks p r vw = allBelow (p .gamma) (λ v. not (assigned vw v) || blockRule p r (vw .body v))
+
+unfoldable pub blocksRule : Params → Board → Bool
+blocksRule p b = allBelow (p .mu) (λ r. regionBlocks p r (view p b r))
+
+-- "and every other block of the region is full"
+unfoldable pub fullRule : Params → View → ℕ → Bool
+fullRule p vw v = eqb v (vblockOf p (vw .lastSeg)) || (not (assigned vw v) || eqb (filled p (vw .body v)) (frames p))
+
+-- "Otherwise it names the segment of the last programmed frame of one of the region's blocks, the open block"
+unfoldable pub openRule : Params → View → Bool
+openRule p vw =
+    let o = vblockOf p (vw .lastSeg) in
+    allTrue
+    (ltb (vw .lastSeg) (p .gamma * p .d)
+    ∷ assigned vw o
+    ∷ eqb (vw .lastSeg) (segmentOf p o (filled p (vw .body o) - 1))
+    ∷ allBelow (p .gamma) (fullRule p vw)
+    ∷ [])
+
+-- "FST is none exactly if the region has no block"
+unfoldable pub regionFst : Params → View → Bool
+regionFst p vw = cond (allBelow (p .gamma) (λ v. not (assigned vw v))) (eqb (vw .lastSeg) none) (openRule p vw)
+
+unfoldable pub fstRule : Params → Board → Bool
+fstRule p b = allBelow (p .mu) (λ r. regionFst p (view p b r))
+
+-- "names a segment, in its own region, that holds a programmed frame of that cluster"
+unfoldable pub entryRule : Params → View → ℕ → Bool
+entryRule p vw c =
+    let sg = vw .segOf c in
+    allTrue
+    (ltb sg (p .gamma * p .d)
+    ∷ assigned vw (vblockOf p sg)
+    ∷ ltb (lastIn p (vw .body (vblockOf p sg)) (placeOf p sg) c) (frames p)
+    ∷ [])
+
+-- "A CT entry is none or" does so
+unfoldable pub clusterRule : Params → View → ℕ → Bool
+clusterRule p vw c = eqb (vw .segOf c) none || entryRule p vw c
+
+unfoldable pub ctRule : Params → Board → Bool
+ctRule p b = allBelow (p .C) (λ c. clusterRule p (view p b (regionOf p c)) c)
+
+-- the nine rules in order
+unfoldable pub rulesOf : Params → Board → List Bool
+rulesOf p b =
+    bstRule p (b .bst)
+    ∷ btRule p (b .bt)
+    ∷ onceRule p (b .bt)
+    ∷ usedRule p (b .bt) (b .bst)
+    ∷ roomRule p (b .bst)
+    ∷ freeRule p (b .chip) (b .bst)
+    ∷ blocksRule p b
+    ∷ fstRule p b
+    ∷ ctRule p b
+    ∷ []
+
+unfoldable pub orderly : Params → Board → Bool
+orderly p b = allTrue (rulesOf p b)
+
+-- every definition of this file, for an `unfolding` line
+unfoldable pub all-orderly : Unit {0}
+unfolding bstRule btRule onceRule named usedRule roomRule freeRule goodFrame goodUpTo blockRule regionBlocks blocksRule fullRule openRule regionFst fstRule entryRule clusterRule ctRule rulesOf orderly
+all-orderly = tt

@@ -1,0 +1,64 @@
+-- Document 01, "Parameters" and the spare bytes: blocks, frames and pages are parts of the chip's bytes, each a part of the one before.
+-- Assumes nothing.
+use Prim.Native.Nat.{ℕ, _+_, _*_, _/_, _%_}
+use mathlib.Core.Bool.{Bool, _&&_}
+use mathlib.Core.List.{List, [], _∷_, _++_}
+use lib.ListN.{getD, drop, replicate}
+use lib.Dec.{eqb}
+use Rattle.lists.specs.Below.{countBelow, lastBelow}
+use Rattle.lists.specs.Parts.{part, allAre}
+use Rattle.rules.specs.declared.Params.{Params}
+use Rattle.rules.specs.Parameters.{frames, pageBytes, frameBytes, blockBytes}
+use Rattle.rules.specs.Tables.{none}
+
+-- block n of the chip, frame f of a block, page j of a frame, and that page's spare bytes
+unfoldable pub block : Params → List ℕ → ℕ → List ℕ
+block p chip n = part (blockBytes p) n chip
+
+unfoldable pub frame : Params → List ℕ → ℕ → List ℕ
+frame p blk f = part (frameBytes p) f blk
+
+unfoldable pub page : Params → List ℕ → ℕ → List ℕ
+page p fr j = part (pageBytes p) j fr
+
+unfoldable pub spare : Params → List ℕ → ℕ → List ℕ
+spare p fr j = drop (p .s) (page p fr j)
+
+-- "low byte first"
+unfoldable pub le32 : List ℕ → ℕ
+le32 l = getD l 0 0 + 256 * getD l 1 0 + 65536 * getD l 2 0 + 16777216 * getD l 3 0
+
+unfoldable pub bytes32 : ℕ → List ℕ
+bytes32 n = n % 256 ∷ n / 256 % 256 ∷ n / 65536 % 256 ∷ n / 16777216 % 256 ∷ []
+
+-- "Spare bytes of a programmed page: 0 to 3 cluster number, low byte first; 4 the sector's place in its cluster; 5 always 255; 6 zero; 7 to 15
+-- all 255"
+unfoldable pub spareBytes : ℕ → ℕ → List ℕ
+spareBytes c j = bytes32 c ++ (j ∷ 255 ∷ 0 ∷ replicate 9 255)
+
+-- "An erased page is 255 throughout", and so is what consists of erased pages
+abbrev pub erased : List ℕ → Bool
+erased l = allAre 255 l
+
+-- "The α pages of a frame hold one cluster in order": which one, by its first page; and whether it is programmed
+unfoldable pub held : Params → List ℕ → ℕ
+held p fr = le32 (spare p fr 0)
+
+unfoldable pub programmed : Params → List ℕ → Bool
+programmed p fr = eqb (getD (spare p fr 0) 6 255) 0
+
+unfoldable pub holds : Params → List ℕ → ℕ → Bool
+holds p fr c = programmed p fr && eqb (held p fr) c
+
+-- how many frames of a block are programmed
+unfoldable pub filled : Params → List ℕ → ℕ
+filled p blk = countBelow (frames p) (λ f. programmed p (frame p blk f))
+
+-- the last frame of the segment in place k of a block that holds cluster c
+unfoldable pub lastIn : Params → List ℕ → ℕ → ℕ → ℕ
+lastIn p blk k c = lastBelow none (frames p) (λ f. eqb (f / p .beta) k && holds p (frame p blk f) c)
+
+-- every definition of this file, for an `unfolding` line
+unfoldable pub all-pages : Unit {0}
+unfolding block frame page spare le32 bytes32 spareBytes held programmed holds filled lastIn
+all-pages = tt

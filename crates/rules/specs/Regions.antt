@@ -1,0 +1,65 @@
+-- A region's view of a board, the frames that are valid in it, and what its sectors read as. The plan of a write and the view after it are
+-- functions of the view alone, which is what condition 3 rests on.
+-- Assumes nothing.
+use Prim.Native.Nat.{ℕ, _/_}
+use mathlib.Core.Bool.{Bool, _&&_, cond}
+use mathlib.Core.List.{List, []}
+use lib.ListN.{length, take, replicate}
+use lib.Dec.{ltb, eqb}
+use Rattle.lists.specs.Below.{keepBelow}
+use Rattle.rules.specs.declared.Params.{Params}
+use Rattle.rules.specs.Parameters.{frames}
+use Rattle.rules.specs.Numbers.{regionOf, vblockOf, placeOf, segmentOf}
+use Rattle.rules.specs.Tables.{Board, none, ctAt, btAt, fstAt}
+use Rattle.rules.specs.Pages.{block, frame, page, held, programmed, lastIn}
+
+-- The CT entries of the region's clusters (none for another region's), its FST entry, and the bytes of its virtual blocks, [] for one without a
+-- physical block. No physical block number and no wear is in it.
+pub record View : Type 0 where
+  pub segOf : ℕ → ℕ
+  pub lastSeg : ℕ
+  pub body : ℕ → List ℕ
+
+-- the bytes of the block that a BT entry names
+unfoldable pub bodyAt : Params → List ℕ → ℕ → List ℕ
+bodyAt p chip n = cond (eqb n none) [] (block p chip n)
+
+unfoldable pub viewOf : Params → List ℕ → List ℕ → List ℕ → List ℕ → ℕ → View
+viewOf p chip ct bt fst r =
+    record { segOf = λ c. cond (eqb (regionOf p c) r) (ctAt ct c) none; lastSeg = fstAt fst r; body = λ v. cond (ltb v (p .gamma)) (bodyAt p chip (btAt p bt r v)) [] }
+
+abbrev pub view : Params → Board → ℕ → View
+view p b r = viewOf p (b .chip) (b .ct) (b .bt) (b .fst) r
+
+-- virtual block v has a physical block
+unfoldable pub assigned : View → ℕ → Bool
+assigned vw v = ltb 0 (length (vw .body v))
+
+-- "A frame is valid if its cluster's CT entry names its segment and no later frame of that segment holds the same cluster"
+unfoldable pub valid : Params → View → ℕ → ℕ → Bool
+valid p vw v f =
+    let fr = frame p (vw .body v) f in
+    programmed p fr && (eqb (vw .segOf (held p fr)) (segmentOf p v f) && eqb (lastIn p (vw .body v) (f / p .beta) (held p fr)) f)
+
+-- the valid frames of virtual block v, in order
+unfoldable pub validFrames : Params → View → ℕ → List ℕ
+validFrames p vw v = keepBelow (frames p) (valid p vw v)
+
+-- the bytes of the cluster's valid frame, where CT has one
+unfoldable pub frameOf : Params → View → ℕ → List ℕ
+frameOf p vw c =
+    let sg = vw .segOf c in
+    let blk = vw .body (vblockOf p sg) in
+    frame p blk (lastIn p blk (placeOf p sg) c)
+
+-- "Read. For each sector, the bytes at its place in the cluster's valid frame; 255 if CT has none"
+unfoldable pub sectorIn : Params → View → ℕ → ℕ → List ℕ
+sectorIn p vw c j = cond (eqb (vw .segOf c) none) (replicate (p .s) 255) (take (p .s) (page p (frameOf p vw c) j))
+
+unfoldable pub sector : Params → Board → ℕ → ℕ → List ℕ
+sector p b c j = sectorIn p (view p b (regionOf p c)) c j
+
+-- every definition of this file, for an `unfolding` line
+unfoldable pub all-regions : Unit {0}
+unfolding bodyAt viewOf assigned valid validFrames frameOf sectorIn sector
+all-regions = tt

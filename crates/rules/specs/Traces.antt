@@ -1,0 +1,72 @@
+-- What a call does to the chip, as a trace: page programs and block erases in their order. The chip and the wear after a call are the trace's
+-- replay, and what the call reports is counted on it.
+-- Assumes nothing.
+use Prim.Native.Nat.{ℕ, suc, _+_, _*_, min}
+use mathlib.Core.Bool.{Bool, true, false, _&&_, cond}
+use mathlib.Core.List.{List, [], _∷_, _++_}
+use lib.ListN.{set, replicate}
+use Rattle.lists.specs.Below.{joinBelow}
+use Rattle.lists.specs.Parts.{part, putPart}
+use Rattle.rules.specs.declared.Params.{Params}
+use Rattle.rules.specs.Parameters.{pages, pageBytes, blockBytes}
+use Rattle.rules.specs.Tables.{wearAt}
+use Rattle.rules.specs.Pages.{page, erased}
+
+-- page q of block n programmed with these bytes; block n erased
+pub data Op : Type 0 where
+  program : ℕ → ℕ → List ℕ → Op
+  erase : ℕ → Op
+
+-- page q of block n, counted over the chip, "pages in block order"
+abbrev pub pageAt : Params → ℕ → ℕ → ℕ
+pageAt p n q = n * pages p + q
+
+unfoldable pub onChip : Params → List ℕ → Op → List ℕ
+onChip p chip (program n q x) = putPart (pageBytes p) (pageAt p n q) x chip
+onChip p chip (erase n) = putPart (blockBytes p) n (replicate (blockBytes p) 255) chip
+
+-- "a 32-bit erase count per block, which stays at 4,294,967,295 once there"
+unfoldable pub onWear : List ℕ → Op → List ℕ
+onWear wear (program n q x) = wear
+onWear wear (erase n) = set wear n (min (wearAt wear n + 1) 4294967295)
+
+unfoldable pub replayChip : Params → List ℕ → List Op → List ℕ
+replayChip p chip [] = chip
+replayChip p chip (o ∷ os) = replayChip p (onChip p chip o) os
+
+unfoldable pub replayWear : List ℕ → List Op → List ℕ
+replayWear wear [] = wear
+replayWear wear (o ∷ os) = replayWear (onWear wear o) os
+
+-- "Each page that the steps program is 255 throughout just before"
+unfoldable pub clean : Params → List ℕ → List Op → Bool
+clean p chip [] = true
+clean p chip (program n q x ∷ os) = erased (part (pageBytes p) (pageAt p n q) chip) && clean p (onChip p chip (program n q x)) os
+clean p chip (erase n ∷ os) = clean p (onChip p chip (erase n)) os
+
+unfoldable pub isErase : Op → Bool
+isErase (program n q x) = false
+isErase (erase n) = true
+
+-- the two counts of an answer
+unfoldable pub programsIn : List Op → ℕ
+programsIn [] = 0
+programsIn (o ∷ os) = cond (isErase o) 0 1 + programsIn os
+
+unfoldable pub erasesIn : List Op → ℕ
+erasesIn [] = 0
+erasesIn (o ∷ os) = cond (isErase o) 1 0 + erasesIn os
+
+-- the first k pages of frame f of block n, programmed with those of x in order
+unfoldable pub frameOps : Params → ℕ → ℕ → List ℕ → ℕ → List Op
+frameOps p n f x k = joinBelow k (λ j. program n (f * p .alpha + j) (page p x j) ∷ [])
+
+-- the frames of a list, one after the other from frame `to` on
+unfoldable pub framesOps : Params → ℕ → ℕ → List (List ℕ) → List Op
+framesOps p n to [] = []
+framesOps p n to (x ∷ xs) = frameOps p n to x (p .alpha) ++ framesOps p n (suc to) xs
+
+-- every definition of this file, for an `unfolding` line
+unfoldable pub all-traces : Unit {0}
+unfolding onChip onWear replayChip replayWear clean isErase programsIn erasesIn frameOps framesOps
+all-traces = tt

@@ -1,0 +1,193 @@
+-- Document 01, "Write", "Reclaim" and "Free block". Where a write goes, its plan, and the region's view after it follow from the region's view
+-- alone; on the board it is a trace and the tables that follow it.
+-- Assumes nothing.
+use Prim.Native.Nat.{ℕ, suc, _+_, _-_, _*_}
+use mathlib.Core.Bool.{Bool, true, not, _&&_, cond}
+use mathlib.Core.List.{List, [], _∷_, _++_, map}
+use lib.ListN.{length, set, replicate}
+use lib.Dec.{leb, ltb, eqb}
+use Rattle.lists.specs.Below.{joinBelow, firstBelow, leastBelow, updated}
+use Rattle.lists.specs.Parts.{part, putPart}
+use Rattle.rules.specs.declared.Params.{Params}
+use Rattle.rules.specs.Parameters.{frames, frameBytes, blockBytes}
+use Rattle.rules.specs.Numbers.{clusterOf, sectorOf, regionOf, vblockOf, segmentOf}
+use Rattle.rules.specs.Tables.{Board, none, btAt, bstAt, wearAt}
+use Rattle.rules.specs.Pages.{frame, spareBytes, held, filled}
+use Rattle.rules.specs.Regions.{View, view, assigned, validFrames, sectorIn}
+use Rattle.rules.specs.Traces.{Op, erase, replayChip, replayWear, frameOps, framesOps}
+
+-- an access: its LBA, its count, and the lent data as it is at entry
+pub record Request : Type 0 where
+  pub lba : ℕ
+  pub count : ℕ
+  pub bytes : List ℕ
+
+unfoldable pub requestCluster : Params → Request → ℕ
+requestCluster p q = clusterOf p (q .lba)
+
+unfoldable pub requestRegion : Params → Request → ℕ
+requestRegion p q = regionOf p (requestCluster p q)
+
+-- ---- the plan
+
+-- `continues v f`: frame f of the open virtual block v. `opens v`: v takes a free block, frame 0. `reclaims v`: v's valid frames go to a free
+-- block first, and the write takes the next frame
+pub data Plan : Type 0 where
+  continues : ℕ → ℕ → Plan
+  opens : ℕ → Plan
+  reclaims : ℕ → Plan
+
+-- there is an open block, and it is not full
+unfoldable pub hasRoom : Params → View → Bool
+hasRoom p vw = not (eqb (vw .lastSeg) none) && ltb (filled p (vw .body (vblockOf p (vw .lastSeg)))) (frames p)
+
+-- "the lowest virtual block without a physical block"
+unfoldable pub lowestUnassigned : Params → View → ℕ
+lowestUnassigned p vw = firstBelow none (p .gamma) (λ v. not (assigned vw v))
+
+-- "The victim is the virtual block with fewest valid frames, the lowest on a tie"
+unfoldable pub victim : Params → View → ℕ
+victim p vw = leastBelow (λ v. length (validFrames p vw v)) none (p .gamma) (λ v. true)
+
+-- "It goes to the lowest erased frame of the open block", which is the one after its programmed ones. "If there is no open block or it is full: the
+-- lowest virtual block without a physical block takes a free block, frame 0. If all are assigned, reclaim first"
+unfoldable pub planOf : Params → View → Plan
+planOf p vw =
+    let o = vblockOf p (vw .lastSeg) in
+    let v = lowestUnassigned p vw in
+    cond (hasRoom p vw) (continues o (filled p (vw .body o))) (cond (eqb v none) (reclaims (victim p vw)) (opens v))
+
+-- the plan's virtual block
+unfoldable pub planVBlock : Plan → ℕ
+planVBlock (continues v f) = v
+planVBlock (opens v) = v
+planVBlock (reclaims v) = v
+
+-- "The victim's valid frames, the old frame of the cluster being written included, are copied"
+unfoldable pub copies : Params → View → Plan → List (List ℕ)
+copies p vw (continues v f) = []
+copies p vw (opens v) = []
+copies p vw (reclaims v) = map (frame p (vw .body v)) (validFrames p vw v)
+
+-- "The write takes the next frame"
+unfoldable pub planFrame : Params → View → Plan → ℕ
+planFrame p vw (continues v f) = f
+planFrame p vw (opens v) = 0
+planFrame p vw (reclaims v) = length (validFrames p vw v)
+
+-- ---- the region's view after it
+
+unfoldable pub erasedBlock : Params → List ℕ
+erasedBlock p = replicate (blockBytes p) 255
+
+-- "are copied to it in order from frame 0"
+unfoldable pub putFrames : Params → ℕ → List (List ℕ) → List ℕ → List ℕ
+putFrames p to [] blk = blk
+putFrames p to (x ∷ xs) blk = putFrames p (suc to) xs (putPart (frameBytes p) to x blk)
+
+-- "and CT follows each"
+unfoldable pub follow : Params → ℕ → ℕ → List (List ℕ) → (ℕ → ℕ) → ℕ → ℕ
+follow p v to [] seg = seg
+follow p v to (x ∷ xs) seg = follow p v (suc to) xs (updated seg (held p x) (segmentOf p v to))
+
+-- the view once the plan has made room
+unfoldable pub withRoom : Params → View → Plan → View
+withRoom p vw (continues v f) = vw
+withRoom p vw (opens v) = record { segOf = vw .segOf; lastSeg = vw .lastSeg; body = updated (vw .body) v (erasedBlock p) }
+withRoom p vw (reclaims v) =
+    let xs = copies p vw (reclaims v) in
+    record { segOf = follow p v 0 xs (vw .segOf); lastSeg = vw .lastSeg; body = updated (vw .body) v (putFrames p 0 xs (erasedBlock p)) }
+
+-- "The new cluster is the old one (all 255 if CT has none) with the given sectors replaced": its sector j, its page j, its frame
+unfoldable pub newSector : Params → View → Request → ℕ → List ℕ
+newSector p vw q j =
+    cond (leb (sectorOf p (q .lba)) j && ltb j (sectorOf p (q .lba) + q .count))
+    (part (p .s) (j - sectorOf p (q .lba)) (q .bytes))
+    (sectorIn p vw (requestCluster p q) j)
+
+unfoldable pub newPage : Params → View → Request → ℕ → List ℕ
+newPage p vw q j = newSector p vw q j ++ spareBytes (requestCluster p q) j
+
+unfoldable pub newFrame : Params → View → Request → List ℕ
+newFrame p vw q = joinBelow (p .alpha) (newPage p vw q)
+
+-- frame f of virtual block v is x, of cluster c, and "Then CT and FST name the segment just written"
+unfoldable pub withFrame : Params → View → ℕ → ℕ → ℕ → List ℕ → View
+withFrame p vw v f c x =
+    record {
+      segOf = updated (vw .segOf) c (segmentOf p v f);
+      lastSeg = segmentOf p v f;
+      body = updated (vw .body) v (putPart (frameBytes p) f x (vw .body v));
+    }
+
+unfoldable pub viewAfter : Params → View → Request → View
+viewAfter p vw q =
+    let pl = planOf p vw in
+    withFrame p (withRoom p vw pl) (planVBlock pl) (planFrame p vw pl) (requestCluster p q) (newFrame p vw q)
+
+-- ---- the write on the board
+
+-- "Free block. The one with the lowest wear, the lowest number on a tie"
+unfoldable pub freeBlock : Params → List ℕ → List ℕ → ℕ
+freeBlock p bst wear = leastBelow (wearAt wear) none (p .N) (λ n. eqb (bstAt bst n) 0)
+
+-- the physical block that is written
+unfoldable pub planBlock : Params → Board → ℕ → Plan → ℕ
+planBlock p b r (continues v f) = btAt p (b .bt) r v
+planBlock p b r (opens v) = freeBlock p (b .bst) (b .wear)
+planBlock p b r (reclaims v) = freeBlock p (b .bst) (b .wear)
+
+-- "The victim is erased"
+unfoldable pub eraseOps : Params → Board → ℕ → Plan → List Op
+eraseOps p b r (continues v f) = []
+eraseOps p b r (opens v) = []
+eraseOps p b r (reclaims v) = erase (btAt p (b .bt) r v) ∷ []
+
+-- the operations that make room, copies before the erase; then the new frame's
+unfoldable pub roomOps : Params → Board → ℕ → Plan → List Op
+roomOps p b r pl = framesOps p (planBlock p b r pl) 0 (copies p (view p b r) pl) ++ eraseOps p b r pl
+
+unfoldable pub planOps : Params → Board → ℕ → Request → Plan → List Op
+planOps p b r q pl =
+    let vw = view p b r in
+    roomOps p b r pl ++ frameOps p (planBlock p b r pl) (planFrame p vw pl) (newFrame p vw q) (p .alpha)
+
+-- "CT follows each" copy, on the table
+unfoldable pub followCt : Params → ℕ → ℕ → List (List ℕ) → List ℕ → List ℕ
+followCt p v to [] ct = ct
+followCt p v to (x ∷ xs) ct = followCt p v (suc to) xs (set ct (held p x) (segmentOf p v to))
+
+-- "takes a free block"; "The victim .. becomes free"
+unfoldable pub planBst : Params → Board → ℕ → Plan → List ℕ
+planBst p b r (continues v f) = b .bst
+planBst p b r (opens v) = set (b .bst) (freeBlock p (b .bst) (b .wear)) 1
+planBst p b r (reclaims v) = set (set (b .bst) (freeBlock p (b .bst) (b .wear)) 1) (btAt p (b .bt) r v) 0
+
+unfoldable pub writtenBy : Params → Board → ℕ → Request → Plan → Board
+writtenBy p b r q pl =
+    let vw = view p b r in
+    let ops = planOps p b r q pl in
+    let sg = segmentOf p (planVBlock pl) (planFrame p vw pl) in
+    record {
+      chip = replayChip p (b .chip) ops;
+      ct = set (followCt p (planVBlock pl) 0 (copies p vw pl) (b .ct)) (requestCluster p q) sg;
+      bt = set (b .bt) (r * p .gamma + planVBlock pl) (planBlock p b r pl);
+      fst = set (b .fst) r sg;
+      bst = planBst p b r pl;
+      wear = replayWear (b .wear) ops;
+    }
+
+unfoldable pub writeOps : Params → Board → Request → List Op
+writeOps p b q =
+    let r = requestRegion p q in
+    planOps p b r q (planOf p (view p b r))
+
+unfoldable pub written : Params → Board → Request → Board
+written p b q =
+    let r = requestRegion p q in
+    writtenBy p b r q (planOf p (view p b r))
+
+-- every definition of this file, for an `unfolding` line
+unfoldable pub all-write : Unit {0}
+unfolding requestCluster requestRegion hasRoom lowestUnassigned victim planOf planVBlock copies planFrame erasedBlock putFrames follow withRoom newSector newPage newFrame withFrame viewAfter freeBlock planBlock eraseOps roomOps planOps followCt planBst writtenBy writeOps written
+all-write = tt

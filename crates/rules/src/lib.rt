@@ -1,0 +1,117 @@
+// Document 01's types: the parameters, one type for each kind of number, the reply and the answer; and its number rules as code.
+ghost use mathlib.Core.Path.{_≡_};
+ghost use mathlib.Core.Bool.{true};
+ghost use Prim.Native.Nat.{_<_};
+ghost use Rattle.rules.specs.Parameters.{allowed};
+ghost use Rattle.rules.specs.Numbers.{clusterOf, sectorOf, regionOf, vblockOf, placeOf, segmentOf};
+ghost use Rattle.rules.specs.Replies.{numberOf};
+
+// The eight parameters of a board: s bytes of a sector, α sectors in a cluster, β frames in a segment, d segments in a block,
+// μ regions, γ virtual blocks in a region, C clusters, N physical blocks.
+pub struct Params {
+    pub s: usize,
+    pub alpha: usize,
+    pub beta: usize,
+    pub d: usize,
+    pub mu: usize,
+    pub gamma: usize,
+    pub C: usize,
+    pub N: usize,
+}
+
+// A cluster number: an index of CT.
+pub struct Cluster(pub usize);
+
+// A segment number, counted within its region: what CT and FST hold.
+pub struct Segment(pub usize);
+
+// A virtual block number, counted within its region: with the region, an index of BT.
+pub struct VBlock(pub usize);
+
+// A physical block number: what BT holds, an index of BST and of the wear.
+pub struct PBlock(pub usize);
+
+// Why a call is refused, or that it is accepted. `numberOf` gives document 01's number of each.
+pub enum Reply {
+    Accepted,
+    BadParameter,
+    WrongLength,
+    BadCount,
+    BadAddress,
+    WrongData,
+    TooFewBlocks,
+    NotOrderly,
+}
+
+// One record that holds the reply, and both counts.
+pub struct Answer {
+    pub reply: Reply,
+    pub programs: u32,
+    pub erases: u32,
+}
+
+// The number that document 01 gives a reply.
+pub fn number(r: Reply) -> u32
+    ensures { λ n. ⌜ n ≡ numberOf r ⌝ }
+{
+    match r {
+        Reply::Accepted => 0,
+        Reply::BadParameter => 1,
+        Reply::WrongLength => 2,
+        Reply::BadCount => 3,
+        Reply::BadAddress => 4,
+        Reply::WrongData => 5,
+        Reply::TooFewBlocks => 6,
+        Reply::NotOrderly => 7,
+    }
+}
+
+// The cluster of an LBA.
+pub fn cluster_of(p: Params, lba: usize) -> Cluster
+    requires { ⌜ 0 < p .alpha ⌝ }
+    ensures { λ c. ⌜ c .0 ≡ clusterOf p lba ⌝ }
+{
+    Cluster(lba / p.alpha)
+}
+
+// The place of an LBA's sector in its cluster.
+pub fn sector_of(p: Params, lba: usize) -> usize
+    requires { ⌜ 0 < p .alpha ⌝ }
+    ensures { λ j. ⌜ j ≡ sectorOf p lba ⌝ }
+{
+    lba % p.alpha
+}
+
+// The region of a cluster.
+pub fn region_of(p: Params, c: Cluster) -> usize
+    requires { ⌜ 0 < p .mu ⌝ }
+    ensures { λ r. ⌜ r ≡ regionOf p (c .0) ⌝ }
+{
+    c.0 % p.mu
+}
+
+// The virtual block of a segment.
+pub fn vblock_of(p: Params, sg: Segment) -> VBlock
+    requires { ⌜ 0 < p .d ⌝ }
+    ensures { λ v. ⌜ v .0 ≡ vblockOf p (sg .0) ⌝ }
+{
+    VBlock(sg.0 / p.d)
+}
+
+// The place of a segment in its virtual block.
+pub fn place_of(p: Params, sg: Segment) -> usize
+    requires { ⌜ 0 < p .d ⌝ }
+    ensures { λ k. ⌜ k ≡ placeOf p (sg .0) ⌝ }
+{
+    sg.0 % p.d
+}
+
+// The segment of frame f of a virtual block.
+pub fn segment_of(p: Params, v: VBlock, f: usize) -> Segment
+    requires { ⌜ allowed p ≡ true ⌝ }
+    requires { ⌜ v .0 < p .gamma ⌝ }
+    requires { ⌜ f < 256 ⌝ }
+    ensures { λ sg. ⌜ sg .0 ≡ segmentOf p (v .0) f ⌝ }
+{
+    Segment(v.0 * p.d + f / p.beta)
+}
