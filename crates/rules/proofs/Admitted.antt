@@ -71,7 +71,7 @@ pub record Admitted (p : Params) (b : Board) (q : Request) : Type 0 where
   pub asked : Asked p q
 
 pub asked-in : (p : Params) (q : Request) → Sizes p → badCount p q ≡ false → badAddress p q ≡ false → wrongData p q ≡ false → Asked p q
-unfolding badCount badAddress wrongData requestCluster
+unfolding badCount badAddress wrongData
 asked-in p q z c a d =
     let k = or-neither (eqb (q .count) 0) c in
     let n = eqb-false (q .count) 0 (k .0) in

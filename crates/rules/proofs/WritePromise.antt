@@ -95,7 +95,7 @@ unfolding programsIn
 programs-append [] ys = omega arith
 programs-append (o ∷ xs) ys = rw (programs-append xs ys) (omega arith)
 
-erases-append : (xs ys : List Op) → erasesIn (xs ++ ys) ≡ erasesIn xs + erasesIn ys
+pub erases-append : (xs ys : List Op) → erasesIn (xs ++ ys) ≡ erasesIn xs + erasesIn ys
 unfolding erasesIn
 erases-append [] ys = omega arith
 erases-append (o ∷ xs) ys = rw (erases-append xs ys) (omega arith)
@@ -176,7 +176,7 @@ pub record Promise (p : Params) (b : Board) (q : Request) (b′ : Board) : Type 
   pub erases : erasesIn (writeOps p b q) ≡ erasesOf (planOf p (view p b (requestRegion p q)))
 
 pub write-promise : (p : Params) (b : Board) (q : Request) → accessReply p b q ≡ Accepted → Promise p b q (written p b q)
-unfolding written writeOps requestRegion viewAfter
+unfolding written writeOps viewAfter
 write-promise p b q e =
     let acc = admitted p b q e in
     let r = regionOf p (requestCluster p q) in

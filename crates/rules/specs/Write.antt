@@ -22,10 +22,10 @@ pub record Request : Type 0 where
   pub count : ℕ
   pub bytes : List ℕ
 
-unfoldable pub requestCluster : Params → Request → ℕ
+abbrev pub requestCluster : Params → Request → ℕ
 requestCluster p q = clusterOf p (q .lba)
 
-unfoldable pub requestRegion : Params → Request → ℕ
+abbrev pub requestRegion : Params → Request → ℕ
 requestRegion p q = regionOf p (requestCluster p q)
 
 -- ---- the plan
@@ -189,5 +189,5 @@ written p b q =
 
 -- every definition of this file, for an `unfolding` line
 unfoldable pub all-write : Unit {0}
-unfolding requestCluster requestRegion hasRoom lowestUnassigned victim planOf planVBlock copies planFrame erasedBlock putFrames follow withRoom newSector newPage newFrame withFrame viewAfter freeBlock planBlock eraseOps roomOps planOps followCt planBst writtenBy writeOps written
+unfolding hasRoom lowestUnassigned victim planOf planVBlock copies planFrame erasedBlock putFrames follow withRoom newSector newPage newFrame withFrame viewAfter freeBlock planBlock eraseOps roomOps planOps followCt planBst writtenBy writeOps written
 all-write = tt

@@ -1,0 +1,42 @@
+-- A format reports no program, and one erase for each block not bad.
+-- Assumes nothing.
+use mathlib.Core.Path.{_≡_, refl, sym, ap, _∙_}
+use Prim.Native.Nat.{ℕ, zero, suc, _+_}
+use native.Mathlib.Omega.{arith}
+use mathlib.Core.Bool.{Bool, true, false, not, cond}
+use mathlib.Core.List.{List, [], _∷_, _++_}
+use Rattle.lists.specs.Below.{countBelow, joinBelow}
+use Rattle.rules.specs.declared.Params.{Params}
+use Rattle.rules.specs.declared.Reply.the-variants.{Accepted}
+use Rattle.rules.specs.Tables.{Board}
+use Rattle.rules.specs.Traces.{Op, erase, erasesIn, isErase, programsIn}
+use Rattle.rules.specs.Format.{bad, formatOps, goodBlocks}
+use Rattle.rules.specs.Calls.{Outcome, accepts, answerOf, format, outcomeOf}
+use Rattle.claims.specs.Runs.{replyTo}
+use Rattle.claims.proofs.Outcomes.{format-accepted, format-reply}
+
+counts-append : (xs ys : List Op) → (programsIn (xs ++ ys) ≡ programsIn xs + programsIn ys) × (erasesIn (xs ++ ys) ≡ erasesIn xs + erasesIn ys)
+unfolding programsIn erasesIn
+counts-append [] ys = omega arith
+counts-append (o ∷ xs) ys = let w = counts-append xs ys in (rw (w .0) (omega arith), rw (w .1) (omega arith))
+
+-- the erases of the blocks below k
+erases-good : (p : Params) (chip : List ℕ) (k : ℕ)
+    → (programsIn (joinBelow k (λ n. cond (bad p chip n) [] (erase n ∷ []))) ≡ 0) × (erasesIn (joinBelow k (λ n. cond (bad p chip n) [] (erase n ∷ []))) ≡ countBelow k (λ n. not (bad p chip n)))
+unfolding joinBelow countBelow programsIn erasesIn isErase
+erases-good p chip zero = (refl, refl)
+erases-good p chip (suc k) =
+    let w = counts-append (joinBelow k (λ n. cond (bad p chip n) [] (erase n ∷ []))) (cond (bad p chip k) [] (erase k ∷ [])) in
+    let below = erases-good p chip k in
+    let here = one (bad p chip k) in
+    (w .0 ∙ omega arith, w .1 ∙ omega arith)
+  where
+    one : (t : Bool) → (programsIn (cond t [] (erase k ∷ [])) ≡ 0) × (erasesIn (cond t [] (erase k ∷ [])) ≡ cond (not t) 1 0)
+    one true = (refl, refl)
+    one false = (refl, refl)
+
+pub format-counts : (p : Params) (b : Board) → replyTo p b format ≡ Accepted → (outcomeOf p b format) .answer ≡ record { reply = Accepted; programs = 0; erases = goodBlocks p (b .chip) }
+unfolding accepts answerOf goodBlocks formatOps
+format-counts p b e =
+    let k = erases-good p (b .chip) (p .N) in
+    ap (λ (o : Outcome). o .answer) (format-accepted p b (sym (format-reply p b) ∙ e)) ∙ (λ i. record { reply = Accepted; programs = k .0 i; erases = k .1 i })

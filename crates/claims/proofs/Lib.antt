@@ -1,0 +1,13 @@
+pub mod Outcomes
+pub mod Once
+pub mod Programs
+pub mod Kept
+pub mod Memory
+pub mod ReplyTable
+pub mod Condition1
+pub mod FormatCounts
+pub mod Condition2
+pub mod RegionMachine
+pub mod Condition3
+pub mod Unique
+pub mod ValidFrames

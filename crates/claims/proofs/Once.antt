@@ -1,0 +1,149 @@
+-- No page is programmed twice between erases: a programmed page carries a zero, which stays until its block is erased, and a page that is
+-- programmed is all ones just before.
+-- Assumes nothing.
+use mathlib.Core.Path.{_≡_, refl, sym, ap, _∙_}
+use mathlib.Core.Logic.{_⊎_, inl, inr}
+use Prim.Native.Nat.{ℕ, zero, suc, _+_, _*_, _≤_, _<_}
+use native.Mathlib.Omega.{arith}
+use native.Mathlib.Decide.{ℕ-discrete}
+use mathlib.Core.Bool.{true, false}
+use mathlib.Core.List.{List, [], _∷_, _++_}
+use lib.Dec.{eqb}
+use borrow.Author.Tests.{eqb-false}
+use lib.ListN.{length, replicate, length-replicate}
+use Rattle.lists.specs.Below.{joinBelow}
+use Rattle.lists.specs.Parts.{allAre, part, putPart}
+use Rattle.lists.proofs.Parts.{next, part-part, put-length, put-other, put-same}
+use Rattle.lists.proofs.Tests.{and-left, and-right, never, or-neither, so}
+use Rattle.rules.specs.declared.Params.{Params}
+use Rattle.rules.specs.Parameters.{blockBytes, chipBytes, frameBytes, pageBytes, pages}
+use Rattle.rules.specs.Traces.{Op, clean, erase, onChip, pageAt, program, replayChip}
+use Rattle.rules.proofs.TableFacts.{chip-size}
+use Rattle.claims.specs.Runs.{erasesBlock, noPageTwice}
+
+-- ---- operations that fit the chip
+
+-- a page of the chip is programmed with a whole page that is not all ones; a block of the chip is erased
+abbrev pub Fits : Params → Op → Type 0
+Fits p (program n q x) = (n < p .N) × (q < pages p) × (length x ≡ pageBytes p) × (allAre 255 x ≡ false)
+Fits p (erase n) = n < p .N
+
+abbrev pub AllFit : Params → List Op → Type 0
+AllFit p [] = Unit {0}
+AllFit p (o ∷ os) = Fits p o × AllFit p os
+
+pub fit-append : (p : Params) (xs ys : List Op) → AllFit p xs → AllFit p ys → AllFit p (xs ++ ys)
+fit-append p [] ys h k = k
+fit-append p (o ∷ xs) ys h k = (h .0, fit-append p xs ys (h .1) k)
+
+fit-back : (p : Params) (xs ys : List Op) → AllFit p (xs ++ ys) → AllFit p xs × AllFit p ys
+fit-back p [] ys h = (tt, h)
+fit-back p (o ∷ xs) ys h = let w = fit-back p xs ys (h .1) in ((h .0, w .0), w .1)
+
+pub fit-join : (p : Params) (k : ℕ) (g : ℕ → List Op) → ((i : ℕ) → i < k → AllFit p (g i)) → AllFit p (joinBelow k g)
+unfolding joinBelow
+fit-join p zero g h = tt
+fit-join p (suc k) g h = fit-append p (joinBelow k g) (g k) (fit-join p k g (λ i m. h i (omega arith))) (h k (omega arith))
+
+-- ---- a page of the chip
+
+block-pages : (p : Params) → blockBytes p ≡ pages p * pageBytes p
+unfolding blockBytes frameBytes pages
+block-pages p = omega arith
+
+page-fits : (p : Params) (chip : List ℕ) (n q : ℕ) → length chip ≡ chipBytes p → n < p .N → q < pages p → pageAt p n q * pageBytes p + pageBytes p ≤ length chip
+unfolding chipBytes
+page-fits p chip n q e h k =
+    rw e (next (pageBytes p) (pageAt p n q) (p .N * pages p) (omega (arith, next (pages p) n (p .N) h)))
+
+block-fits : (p : Params) (chip : List ℕ) (n : ℕ) → length chip ≡ chipBytes p → n < p .N → n * blockBytes p + blockBytes p ≤ length chip
+block-fits p chip n e h = rw (e, chip-size p) (next (blockBytes p) n (p .N) h)
+
+op-length : (p : Params) (chip : List ℕ) (o : Op) → length chip ≡ chipBytes p → Fits p o → length (onChip p chip o) ≡ chipBytes p
+unfolding onChip
+op-length p chip (program n q x) e h = put-length (pageBytes p) (pageAt p n q) x chip (page-fits p chip n q e (h .0) (h .1)) (h .2) ∙ e
+op-length p chip (erase n) e h = put-length (blockBytes p) n (replicate (blockBytes p) 255) chip (block-fits p chip n e h) (length-replicate (blockBytes p) 255) ∙ e
+
+pub replay-length : (p : Params) (chip : List ℕ) (os : List Op) → length chip ≡ chipBytes p → AllFit p os → length (replayChip p chip os) ≡ chipBytes p
+unfolding replayChip
+replay-length p chip [] e h = e
+replay-length p chip (o ∷ os) e h = replay-length p (onChip p chip o) os (op-length p chip o e (h .0)) (h .1)
+
+-- a page lies in its block
+page-of : (p : Params) (chip : List ℕ) (n q : ℕ) → q < pages p → part (pageBytes p) (pageAt p n q) chip ≡ part (pageBytes p) q (part (blockBytes p) n chip)
+page-of p chip n q h = rw (block-pages p) (sym (part-part (pageBytes p) (pages p) n q chip h))
+
+-- the erase of another block leaves it
+page-kept : (p : Params) (chip : List ℕ) (n q m : ℕ) → length chip ≡ chipBytes p → q < pages p → m < p .N → (n ≡ m → ⊥)
+    → part (pageBytes p) (pageAt p n q) (onChip p chip (erase m)) ≡ part (pageBytes p) (pageAt p n q) chip
+unfolding onChip
+page-kept p chip n q m e h k ne =
+    page-of p (putPart (blockBytes p) m (replicate (blockBytes p) 255) chip) n q h
+    ∙ ap (part (pageBytes p) q) (put-other (blockBytes p) m (replicate (blockBytes p) 255) chip (block-fits p chip m e k) (length-replicate (blockBytes p) 255) n ne)
+    ∙ sym (page-of p chip n q h)
+
+-- ---- a page that is not all ones stays so until its block is erased
+
+module _ (p : Params) (n q : ℕ) (block : n < p .N) (page : q < pages p) where
+  pub written-page : (chip x : List ℕ) → length chip ≡ chipBytes p → length x ≡ pageBytes p → part (pageBytes p) (pageAt p n q) (onChip p chip (program n q x)) ≡ x
+  unfolding onChip
+  written-page chip x e w = put-same (pageBytes p) (pageAt p n q) x chip (page-fits p chip n q e block page) w
+
+  one-op : (chip : List ℕ) (o : Op) → length chip ≡ chipBytes p → Fits p o → allAre 255 (part (pageBytes p) (pageAt p n q) chip) ≡ false
+      → erasesBlock n (o ∷ []) ≡ false → allAre 255 (part (pageBytes p) (pageAt p n q) (onChip p chip o)) ≡ false
+  unfolding erasesBlock
+  one-op chip (program m k x) e h d s = go (ℕ-discrete (pageAt p n q) (pageAt p m k))
+    where
+      go : Dec (pageAt p n q ≡ pageAt p m k) → allAre 255 (part (pageBytes p) (pageAt p n q) (onChip p chip (program m k x))) ≡ false
+      go (yes i) = unfold onChip in rw (i, put-same (pageBytes p) (pageAt p m k) x chip (page-fits p chip m k e (h .0) (h .1)) (h .2)) (h .3)
+      go (no i) = unfold onChip in rw (put-other (pageBytes p) (pageAt p m k) x chip (page-fits p chip m k e (h .0) (h .1)) (h .2) (pageAt p n q) i) d
+  one-op chip (erase m) e h d s = rw (page-kept p chip n q m e page h (λ i. eqb-false m n ((or-neither (eqb m n) s) .0) (sym i))) d
+
+  stays : (os : List Op) (chip : List ℕ) → length chip ≡ chipBytes p → AllFit p os → allAre 255 (part (pageBytes p) (pageAt p n q) chip) ≡ false
+      → erasesBlock n os ≡ false → allAre 255 (part (pageBytes p) (pageAt p n q) (replayChip p chip os)) ≡ false
+  unfolding replayChip erasesBlock
+  stays [] chip e h d s = d
+  stays (program m k x ∷ os) chip e h d s = stays os (onChip p chip (program m k x)) (op-length p chip (program m k x) e (h .0)) (h .1) (one-op chip (program m k x) e (h .0) d refl) s
+  stays (erase m ∷ os) chip e h d s =
+      let w = or-neither (eqb m n) s in
+      stays os (onChip p chip (erase m)) (op-length p chip (erase m) e (h .0)) (h .1) (one-op chip (erase m) e (h .0) d (rw (w .0))) (w .1)
+
+-- ---- the law
+
+-- the later part of a clean trace is clean where the earlier part leaves the chip
+clean-back : (p : Params) (chip : List ℕ) (xs ys : List Op) → clean p chip (xs ++ ys) ≡ true → clean p (replayChip p chip xs) ys ≡ true
+unfolding clean replayChip
+clean-back p chip [] ys h = h
+clean-back p chip (program n q x ∷ xs) ys h = clean-back p (onChip p chip (program n q x)) xs ys (and-right (allAre 255 (part (pageBytes p) (pageAt p n q) chip)) h)
+clean-back p chip (erase n ∷ xs) ys h = clean-back p (onChip p chip (erase n)) xs ys h
+
+-- a clean trace that fits the chip programs no page twice between erases
+pub clean-once : (p : Params) (chip : List ℕ) (os : List Op) → length chip ≡ chipBytes p → AllFit p os → clean p chip os ≡ true → noPageTwice os
+unfolding noPageTwice clean
+clean-once p chip os e fit h n q x y before between after is = go (so (erasesBlock n between))
+  where
+    chip₁ : List ℕ
+    chip₁ = replayChip p chip before
+
+    fits : AllFit p (before ++ (program n q x ∷ (between ++ (program n q y ∷ after))))
+    fits = rw is at fit
+
+    tail : Fits p (program n q x) × AllFit p (between ++ (program n q y ∷ after))
+    tail = (fit-back p before (program n q x ∷ (between ++ (program n q y ∷ after))) fits) .1
+
+    size : length chip₁ ≡ chipBytes p
+    size = replay-length p chip before e ((fit-back p before (program n q x ∷ (between ++ (program n q y ∷ after))) fits) .0)
+
+    first : clean p chip₁ (program n q x ∷ (between ++ (program n q y ∷ after))) ≡ true
+    first = clean-back p chip before (program n q x ∷ (between ++ (program n q y ∷ after))) (rw is at h)
+
+    second : clean p (replayChip p (onChip p chip₁ (program n q x)) between) (program n q y ∷ after) ≡ true
+    second = clean-back p (onChip p chip₁ (program n q x)) between (program n q y ∷ after) (and-right (allAre 255 (part (pageBytes p) (pageAt p n q) chip₁)) first)
+
+    go : (erasesBlock n between ≡ true) ⊎ (erasesBlock n between ≡ false) → erasesBlock n between ≡ true
+    go (inl t) = t
+    go (inr t) =
+        let f = tail .0 in
+        let d = stays p n q (f .0) (f .1) between (onChip p chip₁ (program n q x)) (op-length p chip₁ (program n q x) size f) ((fit-back p between (program n q y ∷ after) (tail .1)) .0)
+        (rw (written-page p n q (f .0) (f .1) chip₁ x size (f .2)) (f .3)) t in
+        absurd (never (and-left (allAre 255 (part (pageBytes p) (pageAt p n q) (replayChip p (onChip p chip₁ (program n q x)) between))) _ second) d)

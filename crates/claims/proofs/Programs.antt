@@ -1,0 +1,170 @@
+-- The operations of an accepted call fit the chip: each program is of a whole page with a zero in its spare bytes, each erase of a block.
+-- Assumes nothing.
+use mathlib.Core.Path.{_≡_, refl, sym, ap, _∙_}
+use mathlib.Core.Logic.{_⊎_, inl, inr}
+use Prim.Native.Nat.{ℕ, suc, _+_, _*_, _≤_, _<_}
+use native.Mathlib.Nat.{mod-lt}
+use native.Mathlib.Omega.{arith}
+use native.Mathlib.Decide.{decLt}
+use mathlib.Core.Bool.{Bool, true, false, not, cond}
+use mathlib.Core.List.{List, [], _∷_}
+use lib.Dec.{eqb, ltb}
+use borrow.Author.Tests.{eqb-true, ltb-false, not-false}
+use lib.ListN.{length, getD, drop, length-map}
+use Rattle.lists.specs.Below.{keepBelow}
+use Rattle.lists.specs.Parts.{allAre, part}
+use Rattle.lists.proofs.Joins.{allAre-at, allAre-drop, allAre-part}
+use Rattle.lists.proofs.Parts.{next, part-length}
+use Rattle.lists.proofs.Ranks.{keep-length, keep-nth, map-at}
+use Rattle.lists.proofs.Tests.{never, so}
+use Rattle.lists.proofs.Searches.{first-spec}
+use Rattle.rules.specs.declared.Params.{Params}
+use Rattle.rules.specs.declared.Reply.the-variants.{Accepted}
+use Rattle.rules.specs.Parameters.{frameBytes, frames, pageBytes, pages}
+use Rattle.rules.specs.Numbers.{regionOf}
+use Rattle.rules.specs.Tables.{Board, none}
+use Rattle.rules.specs.Pages.{bytes32, filled, frame, held, page, programmed, spare, spareBytes}
+use Rattle.rules.specs.Regions.{assigned, valid, validFrames, view}
+use Rattle.rules.specs.Traces.{erase, frameOps, framesOps, program}
+use Rattle.rules.specs.Format.{bad, formatOps}
+use Rattle.rules.specs.Write.{Plan, Request, continues, copies, eraseOps, hasRoom, lowestUnassigned, newFrame, opens, planBlock, planFrame, planOf, planOps, planVBlock, reclaims, requestCluster, requestRegion, roomOps, writeOps}
+use Rattle.rules.specs.Replies.{accessReply}
+use Rattle.rules.proofs.Admitted.{admitted}
+use Rattle.rules.proofs.Continues.{Makes}
+use Rattle.rules.proofs.Frames.{erased-not}
+use Rattle.rules.proofs.FramePut.{Sheet}
+use Rattle.rules.proofs.NewFrames.{host-sheet}
+use Rattle.rules.proofs.RegionFacts.{Neat, neat}
+use Rattle.rules.proofs.Replays.{one-fits}
+use Rattle.rules.proofs.Sizes.{Sizes}
+use Rattle.rules.proofs.TableFacts.{Tables}
+use Rattle.rules.proofs.Victims.{Valid, valid-in}
+use Rattle.rules.proofs.Views.{block-low, body-size, has-block}
+use Rattle.rules.proofs.WritePromise.{erasesOf, makes}
+use Rattle.claims.proofs.Once.{AllFit, Fits, fit-append, fit-join}
+
+-- ---- a format erases blocks of the chip
+
+pub format-fits : (p : Params) (chip : List ℕ) → AllFit p (formatOps p chip)
+unfolding formatOps
+format-fits p chip = fit-join p (p .N) _ (λ n h. go n h (bad p chip n))
+  where
+    go : (n : ℕ) → n < p .N → (t : Bool) → AllFit p (cond t [] (erase n ∷ []))
+    go n h true = tt
+    go n h false = (h, tt)
+
+-- ---- a frame's programs
+
+-- a whole frame whose pages are all marked
+pub record Marked (p : Params) (x : List ℕ) : Type 0 where
+  pub whole : length x ≡ frameBytes p
+  pub marks : (j : ℕ) → j < p .alpha → (c : ℕ) × (spare p x j ≡ spareBytes c j)
+
+-- spare byte 6 is zero
+marked-page : (p : Params) (x : List ℕ) (j c : ℕ) → spare p x j ≡ spareBytes c j → allAre 255 (page p x j) ≡ false
+unfolding spare spareBytes bytes32
+marked-page p x j c e = go (so (allAre 255 (page p x j)))
+  where
+    go : (allAre 255 (page p x j) ≡ true) ⊎ (allAre 255 (page p x j) ≡ false) → allAre 255 (page p x j) ≡ false
+    go (inl t) = let k : _≡_ {A = ℕ} 0 255 = sym (ap (λ (l : List ℕ). getD l 6 255) e) ∙ allAre-at 255 (drop (p .s) (page p x j)) 6 (allAre-drop 255 (p .s) (page p x j) t) in absurd (omega arith)
+    go (inr t) = t
+
+module _ (p : Params) (n : ℕ) (low : n < p .N) where
+  frame-fits : (f : ℕ) (x : List ℕ) → f < frames p → Marked p x → AllFit p (frameOps p n f x (p .alpha))
+  unfolding frameOps
+  frame-fits f x h m = fit-join p (p .alpha) _ (λ j k. (one j k, tt))
+    where
+      one : (j : ℕ) → j < p .alpha → Fits p (program n (f * p .alpha + j) (page p x j))
+      one j k =
+          let w = m .marks j k in
+          (low, unfold pages in omega (arith, next (p .alpha) f (frames p) h), unfold page in part-length (pageBytes p) j x (rw (m .whole) (unfold frameBytes in next (pageBytes p) j (p .alpha) k)), marked-page p x j (w .0) (w .1))
+
+  frames-fit : (xs : List (List ℕ)) (to : ℕ) → to + length xs ≤ frames p → ((i : ℕ) → i < length xs → Marked p (getD xs i [])) → AllFit p (framesOps p n to xs)
+  unfolding framesOps
+  frames-fit [] to h m = tt
+  frames-fit (x ∷ xs) to h m = fit-append p (frameOps p n to x (p .alpha)) _ (frame-fits to x (omega arith) (m 0 (omega arith))) (frames-fit xs (suc to) (omega arith) (λ i k. m (suc i) (omega arith)))
+
+-- ---- the copies of a reclaim are marked
+
+module _ (p : Params) (z : Sizes p) (b : Board) (t : Tables p b) (r : ℕ) (region : r < p .mu) (nt : Neat p r (view p b r)) (v : ℕ) (mine : v < p .gamma) where
+  -- a block without a physical one has no programmed frame
+  none-written : (f : ℕ) → assigned (view p b r) v ≡ false → programmed p (frame p ((view p b r) .body v) f) ≡ false
+  unfolding assigned frame
+  none-written f a = erased-not p _ (empty ((view p b r) .body v) a)
+    where
+      empty : (l : List ℕ) → ltb 0 (length l) ≡ false → allAre 255 (part (frameBytes p) f l) ≡ true
+      empty [] e = allAre-part 255 (frameBytes p) f [] (unfold allAre in refl)
+      empty (y ∷ l) e = absurd (omega (arith, ltb-false 0 (length (y ∷ l)) e))
+
+  valid-marked : (f : ℕ) → f < frames p → Valid p (view p b r) v f → Marked p (frame p ((view p b r) .body v) f)
+  valid-marked f h w = go (so (assigned (view p b r) v))
+    where
+      go : (assigned (view p b r) v ≡ true) ⊎ (assigned (view p b r) v ≡ false) → Marked p (frame p ((view p b r) .body v) f)
+      go (inr a) = absurd (never (w .written) (none-written f a))
+      go (inl a) = pick (decLt f (filled p ((view p b r) .body v)))
+        where
+          pick : Dec (f < filled p ((view p b r) .body v)) → Marked p (frame p ((view p b r) .body v) f)
+          pick (yes k) =
+              let g = (nt .blocks v mine a) .1 .front f k h in
+              record { whole = unfold frame in part-length (frameBytes p) f ((view p b r) .body v) (one-fits p ((view p b r) .body v) f (body-size p z b t r v region mine a) h); marks = λ j i. (held p (frame p ((view p b r) .body v) f), g .marks j i) }
+          pick (no k) = absurd (never (w .written) (erased-not p _ ((nt .blocks v mine a) .1 .rest f (omega arith) h)))
+
+  copies-marked : (i : ℕ) → i < length (copies p (view p b r) (reclaims v)) → Marked p (getD (copies p (view p b r) (reclaims v)) i [])
+  unfolding copies validFrames
+  copies-marked i h =
+      let k : i < length (keepBelow (frames p) (valid p (view p b r) v)) = rw length-map at h in
+      let w = keep-nth (frames p) (valid p (view p b r) v) i 0 (rw keep-length at k) in
+      rw (map-at (frame p ((view p b r) .body v)) (keepBelow (frames p) (valid p (view p b r) v)) i 0 [] k)
+      (valid-marked _ (w .0) (valid-in p (view p b r) v _ (w .1)))
+
+-- ---- a write's operations
+
+module _ (p : Params) (z : Sizes p) (b : Board) (t : Tables p b) (r : ℕ) (region : r < p .mu) (nt : Neat p r (view p b r)) where
+  -- a reclaim is planned where every virtual block has a physical one
+  all-assigned : (v : ℕ) → planOf p (view p b r) ≡ reclaims v → (u : ℕ) → u < p .gamma → assigned (view p b r) u ≡ true
+  unfolding planOf lowestUnassigned
+  all-assigned v e u h = go (so (hasRoom p (view p b r))) (so (eqb (lowestUnassigned p (view p b r)) none)) e
+    where
+      other : (pl : Plan) → pl ≡ reclaims v → erasesOf pl ≡ 0 → ⊥
+      other pl i k = let one : erasesOf (reclaims v) ≡ 1 = unfold erasesOf in refl in omega (arith, sym (ap erasesOf i) ∙ k)
+
+      found : ((lowestUnassigned p (view p b r) ≡ none) × ((i : ℕ) → i < p .gamma → not (assigned (view p b r) i) ≡ false))
+          ⊎ ((lowestUnassigned p (view p b r) < p .gamma) × (not (assigned (view p b r) (lowestUnassigned p (view p b r))) ≡ true)) → lowestUnassigned p (view p b r) ≡ none → assigned (view p b r) u ≡ true
+      found (inl w) k = not-false _ (w .1 u h)
+      found (inr w) k = absurd (omega (arith, w .0, k, z .gammaHigh))
+
+      go : (hasRoom p (view p b r) ≡ true) ⊎ (hasRoom p (view p b r) ≡ false) → (eqb (lowestUnassigned p (view p b r)) none ≡ true) ⊎ (eqb (lowestUnassigned p (view p b r)) none ≡ false)
+          → planOf p (view p b r) ≡ reclaims v → assigned (view p b r) u ≡ true
+      go (inl a) s k = absurd (other _ (rw a at k) (unfold erasesOf in refl))
+      go (inr a) (inr s) k = absurd (other _ (rw (a, s) at k) (unfold erasesOf in refl))
+      go (inr a) (inl s) k = found (first-spec none (p .gamma) (λ v. not (assigned (view p b r) v)) (omega (arith, z .gammaHigh))) (eqb-true _ _ s)
+
+  room-fits : (pl : Plan) → planOf p (view p b r) ≡ pl → Makes p b r pl → AllFit p (roomOps p b r pl)
+  unfolding roomOps copies framesOps eraseOps
+  room-fits (continues v f) is m = tt
+  room-fits (opens v) is m = tt
+  room-fits (reclaims v) is m =
+      fit-append p (framesOps p (planBlock p b r (reclaims v)) 0 (copies p (view p b r) (reclaims v))) _
+      (frames-fit p (planBlock p b r (reclaims v)) (m .room .low) (copies p (view p b r) (reclaims v)) 0 few (copies-marked p z b t r region nt v mine))
+      (block-low p z b t r v region mine (has-block p z b t r v region mine (all-assigned v is v mine)), tt)
+    where
+      mine : v < p .gamma
+      mine = unfold planVBlock in m .base .ready .mine
+
+      few : 0 + length (copies p (view p b r) (reclaims v)) ≤ frames p
+      few = unfold copies planFrame in omega (arith, m .base .ready .low, length-map (validFrames p (view p b r) v) (frame p ((view p b r) .body v)))
+
+pub write-fits : (p : Params) (b : Board) (q : Request) → accessReply p b q ≡ Accepted → AllFit p (writeOps p b q)
+unfolding writeOps planOps
+write-fits p b q e =
+    let acc = admitted p b q e in
+    let r = regionOf p (requestCluster p q) in
+    let region : r < p .mu = mod-lt (requestCluster p q) (acc .sized .regions) in
+    let nt = neat p r (view p b r) (acc .tidy r region) in
+    let pl = planOf p (view p b r) in
+    let m : Makes p b r pl = makes p (acc .sized) b (acc .tables) r region nt in
+    let sh : Sheet p (requestCluster p q) (newFrame p (view p b r) q) =
+    host-sheet p (acc .sized) (view p b r) (λ v h a. body-size p (acc .sized) b (acc .tables) r v region h a) q (acc .asked) (nt .entries (requestCluster p q) (acc .asked .cluster)) in
+    fit-append p (roomOps p b r pl) _ (room-fits p (acc .sized) b (acc .tables) r region nt pl refl m)
+    (frame-fits p (planBlock p b r pl) (m .room .low) (planFrame p (view p b r) pl) (newFrame p (view p b r) q) (m .base .ready .low)
+    (record { whole = sh .whole; marks = λ j h. (requestCluster p q, sh .marked j h) }))
