@@ -33,9 +33,10 @@ clean-append p chip (erase n ∷ xs) ys e k = clean-append p (onChip p chip (era
 
 -- ---- the operations of one frame
 
-step : (d x : List ℕ) (a m w : ℕ) → a + m + w ≤ length d → m + w ≤ length x
+-- a paste, one page longer
+pub paste-more : (d x : List ℕ) (a m w : ℕ) → a + m + w ≤ length d → m + w ≤ length x
     → take (a + m) (paste d a x m) ++ take w (drop m x) ++ drop (a + m + w) (paste d a x m) ≡ paste d a x (m + w)
-step d x a m w hd hx =
+paste-more d x a m w hd hx =
     let h : a ≤ length d = omega arith in
     let k : m ≤ length x = omega arith in
     let e : a + (m + w) ≡ a + m + w = omega arith in
@@ -56,7 +57,7 @@ module _ (p : Params) (chip x : List ℕ) (n f : ℕ) (fits : (n * frames p + f)
   frame-run (suc k) h =
       let i : k * pageBytes p + pageBytes p ≤ frameBytes p = inside k h in
       rw (replay-append p chip (joinBelow k (λ j. program n (f * p .alpha + j) (page p x j) ∷ [])), frame-run k (omega arith), address k, suc-mul k (pageBytes p))
-      (step chip x ((n * frames p + f) * frameBytes p) (k * pageBytes p) (pageBytes p) (omega arith) (omega arith))
+      (paste-more chip x ((n * frames p + f) * frameBytes p) (k * pageBytes p) (pageBytes p) (omega arith) (omega arith))
 
   -- the chip after them
   pub frame-put : replayChip p chip (frameOps p n f x (p .alpha)) ≡ putPart (frameBytes p) (n * frames p + f) x chip

@@ -123,7 +123,7 @@ erasesOf (continues v f) = 0
 erasesOf (opens v) = 0
 erasesOf (reclaims v) = 1
 
-erase-counts : (p : Params) (b : Board) (r : ℕ) (pl : Plan) → (programsIn (eraseOps p b r pl) ≡ 0) × (erasesIn (eraseOps p b r pl) ≡ erasesOf pl)
+pub erase-counts : (p : Params) (b : Board) (r : ℕ) (pl : Plan) → (programsIn (eraseOps p b r pl) ≡ 0) × (erasesIn (eraseOps p b r pl) ≡ erasesOf pl)
 unfolding eraseOps programsIn erasesIn isErase erasesOf
 erase-counts p b r (continues v f) = (refl, refl)
 erase-counts p b r (opens v) = (refl, refl)
@@ -138,7 +138,7 @@ counts p b r q pl =
     let f = frame-programs p (planBlock p b r pl) (planFrame p (view p b r) pl) (newFrame p (view p b r) q) (p .alpha) in
     (simp (programs-append, a .0, e .0, f .0) (omega arith), simp (erases-append, a .1, e .1, f .1) (omega arith))
 
-copies-few : (p : Params) (vw : View) (pl : Plan) → length (copies p vw pl) ≤ planFrame p vw pl
+pub copies-few : (p : Params) (vw : View) (pl : Plan) → length (copies p vw pl) ≤ planFrame p vw pl
 unfolding copies planFrame
 copies-few p vw (continues v f) = omega arith
 copies-few p vw (opens v) = omega arith

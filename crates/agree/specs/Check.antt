@@ -1,0 +1,87 @@
+-- The check as the code goes: over the lent tables, in the order that is cheapest, with no search but in one region.
+-- Assumes nothing.
+use mathlib.Core.Path.{_≡_}
+use mathlib.Core.Bool.{_&&_, Bool, cond, not, true}
+use mathlib.Core.List.{List}
+use Prim.Native.Nat.{_*_, _-_, ℕ}
+use lib.Dec.{eqb, ltb}
+use lib.ListN.{length}
+use Rattle.lists.specs.Below.{allBelow}
+use Rattle.lists.specs.Parts.{allAre}
+use Rattle.rules.specs.declared.Params.{Params}
+use Rattle.rules.specs.Numbers.{placeOf, regionOf, segmentOf, vblockOf}
+use Rattle.rules.specs.Orderly.{blockRule, bstRule, btRule, roomRule}
+use Rattle.rules.specs.Pages.{block, filled, frame, held, lastIn}
+use Rattle.rules.specs.Parameters.{allowed, chipBytes, frames}
+use Rattle.rules.specs.Tables.{bstAt, btAt, ctAt, fstAt, none}
+use Rattle.tables.specs.Entries.{differs, emptyAt, unnamed}
+
+-- the region that the first page of block n tells
+unfoldable pub home : Params → List ℕ → ℕ → ℕ
+home p chip n = regionOf p (held p (frame p (block p chip n) 0))
+
+-- a free block is erased; of a used one, the region that its first page tells names it
+unfoldable pub blockOk : Params → List ℕ → List ℕ → List ℕ → ℕ → Bool
+blockOk p chip bt bst n =
+    cond (eqb (bstAt bst n) 0) (allAre 255 (block p chip n)) (cond (eqb (bstAt bst n) 1) (not (unnamed p bt (home p chip n) n)) true)
+
+-- a named block is named once in its region, is used, and is a block of that region
+unfoldable pub vblockOk : Params → List ℕ → List ℕ → List ℕ → ℕ → ℕ → Bool
+vblockOk p chip bt bst r v =
+    cond (eqb (btAt p bt r v) none) true
+    (differs p bt r v && (eqb (bstAt bst (btAt p bt r v)) 1 && blockRule p r (block p chip (btAt p bt r v))))
+
+-- virtual block v is the open block, or has no block, or is full
+unfoldable pub fullOk : Params → List ℕ → List ℕ → ℕ → ℕ → ℕ → Bool
+fullOk p chip bt r o v =
+    cond (eqb v o) true (cond (eqb (btAt p bt r v) none) true (eqb (filled p (block p chip (btAt p bt r v))) (frames p)))
+
+-- segment sg is that of the last programmed frame of one of the region's blocks, and every other block is full
+unfoldable pub openOk : Params → List ℕ → List ℕ → ℕ → ℕ → Bool
+openOk p chip bt r sg =
+    ltb sg (p .gamma * p .d) && (not (eqb (btAt p bt r (vblockOf p sg)) none)
+    && (eqb sg (segmentOf p (vblockOf p sg) (filled p (block p chip (btAt p bt r (vblockOf p sg))) - 1))
+    && allBelow (p .gamma) (fullOk p chip bt r (vblockOf p sg))))
+
+-- FST is none exactly if the region has no block
+unfoldable pub fstOk : Params → List ℕ → List ℕ → List ℕ → ℕ → Bool
+fstOk p chip bt fst r = cond (emptyAt p bt r) (eqb (fstAt fst r) none) (openOk p chip bt r (fstAt fst r))
+
+-- the rules of region r
+unfoldable pub regionOk : Params → List ℕ → List ℕ → List ℕ → List ℕ → ℕ → Bool
+regionOk p chip bt fst bst r = allBelow (p .gamma) (vblockOk p chip bt bst r) && fstOk p chip bt fst r
+
+-- segment sg, in the region of cluster c, holds a programmed frame of that cluster
+unfoldable pub segmentOk : Params → List ℕ → List ℕ → ℕ → ℕ → Bool
+segmentOk p chip bt c sg =
+    ltb sg (p .gamma * p .d) && (not (eqb (btAt p bt (regionOf p c) (vblockOf p sg)) none)
+    && ltb (lastIn p (block p chip (btAt p bt (regionOf p c) (vblockOf p sg))) (placeOf p sg) c) (frames p))
+
+-- cluster c's entry is none, or names such a segment
+unfoldable pub clusterOk : Params → List ℕ → List ℕ → List ℕ → ℕ → Bool
+clusterOk p chip ct bt c = cond (eqb (ctAt ct c) none) true (segmentOk p chip bt c (ctAt ct c))
+
+-- the rules of the tables that look at no byte of the chip
+unfoldable pub tablesOk : Params → List ℕ → List ℕ → Bool
+tablesOk p bt bst = bstRule p bst && (btRule p bt && roomRule p bst)
+
+-- the rules that look at the chip
+unfoldable pub chipOk : Params → List ℕ → List ℕ → List ℕ → List ℕ → List ℕ → Bool
+chipOk p chip ct bt fst bst =
+    allBelow (p .N) (blockOk p chip bt bst) && (allBelow (p .mu) (regionOk p chip bt fst bst) && allBelow (p .C) (clusterOk p chip ct bt))
+
+-- the lent chip and tables, of the right lengths
+pub record Lengths (p : Params) (chip ct bt fst bst : List ℕ) : Type 0 where
+  pub fine : allowed p ≡ true
+  pub chipLength : length chip ≡ chipBytes p
+  pub ctLength : length ct ≡ p .C
+  pub btLength : length bt ≡ p .mu * p .gamma
+  pub fstLength : length fst ≡ p .mu
+  pub bstLength : length bst ≡ p .N
+
+-- the lent chip and BT, of which every entry is none or names a block
+pub record Lent (p : Params) (chip bt : List ℕ) : Type 0 where
+  pub fine : allowed p ≡ true
+  pub chipLength : length chip ≡ chipBytes p
+  pub btLength : length bt ≡ p .mu * p .gamma
+  pub names : btRule p bt ≡ true

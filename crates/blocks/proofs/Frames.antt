@@ -1,0 +1,102 @@
+-- The blocks of the chip and the frames of a block: where they stand, when one is good, and the last in a place that holds a cluster.
+-- Assumes nothing.
+use mathlib.Core.Path.{sym, _∙_, _≡_}
+use mathlib.Core.Bool.{_&&_, Bool, and-true, false}
+use mathlib.Core.List.{List}
+use Prim.Native.Nat.{_%_, _*_, _+_, _-_, _/_, _<_, ℕ, _≤_}
+use native.Mathlib.Nat.{add-zero, div-eq-of-lt, div-lt-iff-lt-mul, mul-add-div-right}
+use native.Mathlib.Omega.{arith}
+use lib.Dec.{eqb}
+use lib.ListN.{drop, length, take}
+use borrow.Author.Tests.{eq-eqb, le-ltb, lt-ltb, ne-eqb}
+use Rattle.lists.specs.Below.{allBelow, allTrue, lastBelow}
+use Rattle.lists.specs.Parts.{sameList}
+use Rattle.lists.proofs.Parts.{next}
+use Rattle.rules.specs.declared.Params.{Params}
+use Rattle.rules.specs.Orderly.{goodFrame}
+use Rattle.rules.specs.Pages.{block, frame, held, holds, lastIn, spare, spareBytes}
+use Rattle.rules.specs.Parameters.{blockBytes, chipBytes, frameBytes, frames, pageBytes}
+use Rattle.rules.specs.Tables.{none}
+use Rattle.loops.proofs.Below.{last-skip}
+use Rattle.loops.proofs.Lent.{lent-part}
+use Rattle.nand.proofs.Places.{block-fits}
+
+-- ---- a block of the chip
+
+pub block-in : (p : Params) (chip : List ℕ) (n w : ℕ) → w ≡ blockBytes p → length chip ≡ chipBytes p → n < p .N → n * w + w ≤ length chip
+block-in p chip n w e k h = rw e (block-fits p chip n k h)
+
+pub block-lent : (p : Params) (chip : List ℕ) (n w : ℕ) → w ≡ blockBytes p → take (n * w + w - n * w) (drop (n * w) chip) ≡ block p chip n
+unfolding block
+block-lent p chip n w e = lent-part w n chip ∙ rw e
+
+-- ---- a frame of a block
+
+pub frame-in : (p : Params) (f w n : ℕ) → w ≡ frameBytes p → n ≡ blockBytes p → f < frames p → f * w + w ≤ n
+unfolding blockBytes
+frame-in p f w n e k h = rw (e, k) (next (frameBytes p) f (frames p) h)
+
+pub frame-lent : (p : Params) (blk : List ℕ) (f w : ℕ) → w ≡ frameBytes p → take (f * w + w - f * w) (drop (f * w) blk) ≡ frame p blk f
+unfolding frame
+frame-lent p blk f w e = lent-part w f blk ∙ rw e
+
+-- ---- a good frame
+
+pub good-high : (p : Params) (r : ℕ) (fr : List ℕ) (c : ℕ) → c ≡ held p fr → p .C ≤ c → false ≡ goodFrame p r fr
+unfolding goodFrame allTrue
+good-high p r fr c e h = rw (← e, le-ltb c (p .C) h)
+
+pub good-other : (p : Params) (r : ℕ) (fr : List ℕ) (c : ℕ) → c ≡ held p fr → c < p .C → (c % p .mu ≡ r → ⊥) → false ≡ goodFrame p r fr
+unfolding goodFrame allTrue
+good-other p r fr c e h n = rw (← e, lt-ltb c (p .C) h, ne-eqb (c % p .mu) r n)
+
+pub good-is : (p : Params) (r : ℕ) (fr : List ℕ) (c : ℕ) → c ≡ held p fr → c < p .C → c % p .mu ≡ r → allBelow (p .alpha) (λ j. sameList (spare p fr j) (spareBytes c j)) ≡ goodFrame p r fr
+unfolding goodFrame allTrue
+good-is p r fr c e h n = rw (← e, lt-ltb c (p .C) h, eq-eqb (c % p .mu) r n, and-true)
+
+-- ---- the last frame of a place
+
+pub seg-in : (p : Params) (k : ℕ) → k < p .d → k * p .beta + p .beta ≤ frames p
+unfolding frames
+seg-in p k h = omega (arith, next (p .beta) k (p .d) h)
+
+in-place : (b k j : ℕ) → 1 ≤ b → k * b ≤ j → j < k * b + b → j / b ≡ k
+in-place b k j h x y =
+    let e : j ≡ k * b + (j - k * b) = omega arith in
+    let l : j - k * b < b = omega arith in
+    rw (e, mul-add-div-right h, div-eq-of-lt l) (add-zero k)
+
+over-place : (b k j : ℕ) → 1 ≤ b → k * b + b ≤ j → j / b ≡ k → ⊥
+over-place b k j h x e =
+    let w : j / b < k + 1 = omega arith in
+    let z : j < (k + 1) * b = div-lt-iff-lt-mul h .0 w in
+    omega (arith, z)
+
+under-place : (b k j : ℕ) → 1 ≤ b → j < k * b → j / b ≡ k → ⊥
+under-place b k j h x e = omega (arith, div-lt-iff-lt-mul {k = b} {x = j} {y = k} h .1 x)
+
+module _ (p : Params) (blk : List ℕ) (k c : ℕ) (some : 1 ≤ p .beta) where
+  abbrev pub test : ℕ → Bool
+  test f = eqb (f / p .beta) k && holds p (frame p blk f) c
+
+  pub last-start : k < p .d → lastBelow none (k * p .beta + p .beta) test ≡ lastIn p blk k c
+  unfolding lastIn
+  last-start h =
+      sym (last-skip none (frames p) (k * p .beta + p .beta) test (seg-in p k h) (λ j x y. rw (ne-eqb (j / p .beta) k (over-place (p .beta) k j some x))))
+
+  pub last-end : lastBelow none (k * p .beta) test ≡ none
+  unfolding lastBelow
+  last-end = last-skip none (k * p .beta) 0 test (omega arith) (λ j x y. rw (ne-eqb (j / p .beta) k (under-place (p .beta) k j some y)))
+
+  pub test-is : (f : ℕ) → k * p .beta ≤ f → f < k * p .beta + p .beta → test f ≡ holds p (frame p blk f) c
+  test-is f x y = rw (eq-eqb (f / p .beta) k (in-place (p .beta) k f some x y))
+
+-- ---- pages
+
+pub frame-pages : (p : Params) (w n : ℕ) → n ≡ frameBytes p → w ≡ pageBytes p → n ≡ p .alpha * w
+unfolding frameBytes
+frame-pages p w n e k = rw (e, k)
+
+pub block-pages : (p : Params) (f w n : ℕ) → n ≡ blockBytes p → f ≡ frames p → w ≡ pageBytes p → n ≡ p .alpha * f * w
+unfolding blockBytes frameBytes
+block-pages p f w n e l k = rw (e, l, k) (omega arith)

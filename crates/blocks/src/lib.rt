@@ -1,0 +1,180 @@
+// One block of the chip, read: its frames, the clusters that they hold, and whether it is as its region wants it.
+ghost use mathlib.Core.Path.{_≡_};
+ghost use mathlib.Core.Bool.{true, cond};
+ghost use Prim.Native.Nat.{_<_};
+ghost use lib.ListN.{length};
+ghost use lib.Dec.{ltb};
+ghost use Rattle.lists.specs.Parts.{allAre};
+ghost use Rattle.rules.specs.Parameters.{allowed, frames, frameBytes, blockBytes, chipBytes};
+ghost use Rattle.rules.specs.Pages.{block, frame, held, holds, filled, lastIn};
+ghost use Rattle.rules.specs.Orderly.{goodFrame, goodUpTo, blockRule};
+use rules::Cluster;
+use rules::PBlock;
+use rules::Params;
+
+// Block n of the chip.
+pub fn block_of(p: Params, chip: &[u8], n: PBlock) -> &[u8]
+    requires { ⌜ allowed p ≡ true ⌝ }
+    requires { ⌜ length (now chip) ≡ chipBytes p ⌝ }
+    requires { ⌜ n .0 < p .N ⌝ }
+    ensures { λ r. ⌜ now r ≡ block p (now (chip .entry)) (n .0) ⌝ }
+    ensures { λ r. ⌜ length (now r) ≡ blockBytes p ⌝ }
+{
+    let w = sizes::block_bytes(p);
+    let a = n.0 * w;
+    let b = a + w;
+    &chip[a..b]
+}
+
+// Frame f of a block.
+pub fn frame_of(p: Params, blk: &[u8], f: usize) -> &[u8]
+    requires { ⌜ allowed p ≡ true ⌝ }
+    requires { ⌜ length (now blk) ≡ blockBytes p ⌝ }
+    requires { ⌜ f < frames p ⌝ }
+    ensures { λ r. ⌜ now r ≡ frame p (now (blk .entry)) f ⌝ }
+    ensures { λ r. ⌜ length (now r) ≡ frameBytes p ⌝ }
+{
+    let w = sizes::frame_bytes(p);
+    let a = f * w;
+    let b = a + w;
+    &blk[a..b]
+}
+
+// Is a frame as programming leaves it, with a cluster of region r?
+fn good_frame(p: Params, r: usize, fr: &[u8]) -> bool
+    requires { ⌜ allowed p ≡ true ⌝ }
+    requires { ⌜ length (now fr) ≡ frameBytes p ⌝ }
+    ensures { λ ok. ⌜ ok ≡ goodFrame p r (now (fr .entry)) ⌝ }
+{
+    let c = nand::cluster_in(p, fr);
+    if c.0 >= p.C {
+        return false;
+    }
+    if rules::region_of(p, c) != r {
+        return false;
+    }
+    let m = p.alpha;
+    let mut j = 0;
+    while j < m {
+        if !nand::is_marked(p, fr, c, j) {
+            return false;
+        }
+        j += 1;
+    }
+    true
+}
+
+// Does a frame hold cluster c?
+pub fn holds(p: Params, fr: &[u8], c: Cluster) -> bool
+    requires { ⌜ allowed p ≡ true ⌝ }
+    requires { ⌜ length (now fr) ≡ frameBytes p ⌝ }
+    ensures { λ ok. ⌜ ok ≡ holds p (now (fr .entry)) (c .0) ⌝ }
+{
+    if nand::is_programmed(p, fr) {
+        return nand::cluster_in(p, fr).0 == c.0;
+    }
+    false
+}
+
+// The cluster that the block's first frame holds.
+pub fn first_cluster(p: Params, blk: &[u8]) -> Cluster
+    requires { ⌜ allowed p ≡ true ⌝ }
+    requires { ⌜ length (now blk) ≡ blockBytes p ⌝ }
+    ensures { λ c. ⌜ c .0 ≡ held p (frame p (now (blk .entry)) 0) ⌝ }
+{
+    nand::cluster_in(p, frame_of(p, blk, 0))
+}
+
+// How many frames of the block are programmed.
+pub fn filled(p: Params, blk: &[u8]) -> usize
+    requires { ⌜ allowed p ≡ true ⌝ }
+    requires { ⌜ length (now blk) ≡ blockBytes p ⌝ }
+    ensures { λ k. ⌜ k ≡ filled p (now (blk .entry)) ⌝ }
+{
+    let n = sizes::frames(p);
+    let mut k = 0;
+    let mut f = 0;
+    while f < n {
+        if nand::is_programmed(p, frame_of(p, blk, f)) {
+            k += 1;
+        }
+        f += 1;
+    }
+    k
+}
+
+// Frame f is a good frame of region r where it is below k, else erased.
+fn frame_ok(p: Params, r: usize, k: usize, blk: &[u8], f: usize) -> bool
+    requires { ⌜ allowed p ≡ true ⌝ }
+    requires { ⌜ length (now blk) ≡ blockBytes p ⌝ }
+    requires { ⌜ f < frames p ⌝ }
+    ensures { λ ok. ⌜ ok ≡ cond (ltb f k) (goodFrame p r (frame p (now (blk .entry)) f)) (allAre 255 (frame p (now (blk .entry)) f)) ⌝ }
+{
+    let fr = frame_of(p, blk, f);
+    if f < k {
+        return good_frame(p, r, fr);
+    }
+    let page = sizes::page_bytes(p);
+    nand::are_erased(fr, page, p.alpha)
+}
+
+// Are the first k frames good frames of region r, and the others erased?
+fn good_up_to(p: Params, r: usize, k: usize, blk: &[u8]) -> bool
+    requires { ⌜ allowed p ≡ true ⌝ }
+    requires { ⌜ length (now blk) ≡ blockBytes p ⌝ }
+    ensures { λ ok. ⌜ ok ≡ goodUpTo p r k (now (blk .entry)) ⌝ }
+{
+    let n = sizes::frames(p);
+    let mut f = 0;
+    while f < n {
+        if !frame_ok(p, r, k, blk, f) {
+            return false;
+        }
+        f += 1;
+    }
+    true
+}
+
+// Is the block a used block of region r?
+pub fn block_ok(p: Params, r: usize, blk: &[u8]) -> bool
+    requires { ⌜ allowed p ≡ true ⌝ }
+    requires { ⌜ length (now blk) ≡ blockBytes p ⌝ }
+    ensures { λ ok. ⌜ ok ≡ blockRule p r (now (blk .entry)) ⌝ }
+{
+    let k = filled(p, blk);
+    if k == 0 {
+        return false;
+    }
+    good_up_to(p, r, k, blk)
+}
+
+// The last of the β frames in place k of the block that holds cluster c; 65535 if none does.
+pub fn last_in(p: Params, blk: &[u8], k: usize, c: Cluster) -> usize
+    requires { ⌜ allowed p ≡ true ⌝ }
+    requires { ⌜ length (now blk) ≡ blockBytes p ⌝ }
+    requires { ⌜ k < p .d ⌝ }
+    ensures { λ f. ⌜ f ≡ lastIn p (now (blk .entry)) k (c .0) ⌝ }
+{
+    let lo = k * p.beta;
+    let mut i = lo + p.beta;
+    while lo < i {
+        let f = i - 1;
+        if holds(p, frame_of(p, blk, f), c) {
+            return f;
+        }
+        i = f;
+    }
+    65535
+}
+
+// Is the whole block erased?
+pub fn block_erased(p: Params, blk: &[u8]) -> bool
+    requires { ⌜ allowed p ≡ true ⌝ }
+    requires { ⌜ length (now blk) ≡ blockBytes p ⌝ }
+    ensures { λ ok. ⌜ ok ≡ allAre 255 (now (blk .entry)) ⌝ }
+{
+    let page = sizes::page_bytes(p);
+    let n = sizes::frames(p);
+    let k = p.alpha * n;
+    nand::are_erased(blk, page, k)
+}

@@ -1,0 +1,66 @@
+// What a write chooses: the free block, and the lowest virtual block without a physical block.
+ghost use mathlib.Core.Path.{_≡_};
+ghost use mathlib.Core.Bool.{true, _&&_, _||_, cond};
+ghost use Prim.Native.Nat.{_*_, _<_};
+ghost use lib.Dec.{eqb, ltb};
+ghost use lib.ListN.{length};
+ghost use Rattle.rules.specs.Parameters.{allowed};
+ghost use Rattle.rules.specs.Write.{freeBlock};
+ghost use Rattle.choose.specs.Search.{Pool, Compared, better, lowestNone};
+use rules::PBlock;
+use rules::Params;
+use rules::VBlock;
+
+// The first of two numbers if the test passed, else the second.
+pub fn pick(first: bool, x: usize, y: usize) -> usize
+    ensures { λ r. ⌜ r ≡ cond first x y ⌝ }
+{
+    if first { x } else { y }
+}
+
+// Block i is free, and better than m, the best so far.
+fn is_better(bst: &[u8], wear: &[u32], i: usize, m: usize) -> bool
+    requires { ⌜ Compared (now bst) (now wear) i m ⌝ }
+    ensures { λ r. ⌜ r ≡ better (now (bst .entry)) (now (wear .entry)) i m ⌝ }
+{
+    if bst[i] == 0 {
+        if m == 65535 {
+            return true;
+        }
+        return wear[i] < wear[m];
+    }
+    false
+}
+
+// The free block with the lowest wear, the lowest number on a tie; 65,535 where none is free.
+pub fn free_block(p: Params, bst: &[u8], wear: &[u32]) -> PBlock
+    requires { ⌜ Pool p (now bst) (now wear) ⌝ }
+    ensures { λ n. ⌜ n .0 ≡ freeBlock p (now (bst .entry)) (now (wear .entry)) ⌝ }
+{
+    let n = p.N;
+    let mut m: usize = 65535;
+    let mut i: usize = 0;
+    while i < n {
+        m = pick(is_better(bst, wear, i, m), i, m);
+        i += 1;
+    }
+    PBlock(m)
+}
+
+// The lowest virtual block of region r that BT gives no block, 65,535 where each has one.
+pub fn lowest_unassigned(p: Params, bt: &[u16], r: usize) -> VBlock
+    requires { ⌜ allowed p ≡ true ⌝ }
+    requires { ⌜ length (now bt) ≡ p .mu * p .gamma ⌝ }
+    requires { ⌜ r < p .mu ⌝ }
+    ensures { λ v. ⌜ v .0 ≡ lowestNone p (now (bt .entry)) r (p .gamma) ⌝ }
+{
+    let n = p.gamma;
+    let mut m: usize = 65535;
+    let mut v: usize = 0;
+    while v < n {
+        let b = tables::bt_at(p, bt, r, VBlock(v));
+        m = pick((m == 65535) & (b.0 == 65535), v, m);
+        v += 1;
+    }
+    VBlock(m)
+}

@@ -1,0 +1,65 @@
+-- A loop over the numbers below n: what one turn adds to a test of all, to a count, and to a search from above.
+-- Assumes nothing.
+use mathlib.Core.Path.{_≡_, refl, sym}
+use mathlib.Core.Logic.{_⊎_, inl, inr}
+use mathlib.Core.Bool.{Bool, true, false, _&&_, cond}
+use Prim.Native.Nat.{ℕ, zero, suc, _+_, _≤_, _<_}
+use native.Mathlib.Numerals.{add-one}
+use native.Mathlib.Nat.{add-zero}
+use native.Mathlib.Decide.{decLt}
+use native.Mathlib.Omega.{arith}
+use Rattle.lists.specs.Below.{allBelow, countBelow, lastBelow}
+use Rattle.lists.proofs.Tests.{all-at, so, never}
+
+-- ---- every number passes
+
+pub all-start : (f : ℕ → Bool) → allBelow 0 f ≡ true
+unfolding allBelow
+all-start f = refl
+
+pub all-more : (i : ℕ) (f : ℕ → Bool) → allBelow i f ≡ true → f i ≡ true → allBelow (i + 1) f ≡ true
+unfolding allBelow
+all-more i f h k = rw (add-one, h, k)
+
+pub all-fails : (n i : ℕ) (f : ℕ → Bool) → i < n → f i ≡ false → allBelow n f ≡ false
+all-fails n i f h k = go (so (allBelow n f))
+  where
+    go : (allBelow n f ≡ true) ⊎ (allBelow n f ≡ false) → allBelow n f ≡ false
+    go (inl e) = absurd (never (all-at n f e i h) k)
+    go (inr e) = e
+
+pub all-end : (n i : ℕ) (f : ℕ → Bool) → i ≡ n → allBelow i f ≡ true → allBelow n f ≡ true
+all-end n i f e h = rw e at h
+
+-- ---- a count
+
+pub count-start : (f : ℕ → Bool) → _≡_ {A = ℕ} 0 (countBelow 0 f)
+unfolding countBelow
+count-start f = refl
+
+pub count-yes : (i k : ℕ) (f : ℕ → Bool) → k ≡ countBelow i f → f i ≡ true → k + 1 ≡ countBelow (i + 1) f
+unfolding countBelow
+count-yes i k f h e = rw (add-one i, e, h)
+
+pub count-no : (i k : ℕ) (f : ℕ → Bool) → k ≡ countBelow i f → f i ≡ false → k ≡ countBelow (i + 1) f
+unfolding countBelow
+count-no i k f h e = rw (add-one i, e, h, add-zero)
+
+-- ---- the last that passes, from above
+
+pub last-skip : (o n m : ℕ) (f : ℕ → Bool) → m ≤ n → ((j : ℕ) → m ≤ j → j < n → f j ≡ false) → lastBelow o n f ≡ lastBelow o m f
+unfolding lastBelow
+last-skip o zero m f h k = let e : m ≡ 0 = omega arith in rw e
+last-skip o (suc n) m f h k = go (decLt n m) (last-skip o n m f)
+  where
+    go : Dec (n < m) → (m ≤ n → ((j : ℕ) → m ≤ j → j < n → f j ≡ false) → lastBelow o n f ≡ lastBelow o m f) → cond (f n) n (lastBelow o n f) ≡ lastBelow o m f
+    go (yes a) rec = let e : m ≡ suc n = omega arith in rw e
+    go (no a) rec = rw (k n (omega arith) (omega arith)) (rec (omega arith) (λ j x y. k j x (omega arith)))
+
+pub last-here : (o i : ℕ) (f : ℕ → Bool) → f i ≡ true → lastBelow o (i + 1) f ≡ i
+unfolding lastBelow
+last-here o i f e = rw (add-one, e)
+
+pub last-lower : (o i : ℕ) (f : ℕ → Bool) → f i ≡ false → lastBelow o (i + 1) f ≡ lastBelow o i f
+unfolding lastBelow
+last-lower o i f e = rw (add-one, e)

@@ -1,0 +1,151 @@
+-- A loop over the elements of a list: what one turn adds to the test that all are 255, to the comparison of two lists and to a copy.
+-- Assumes nothing.
+use mathlib.Core.Path.{ap, refl, sym, _∙_, _≡_}
+use mathlib.Core.Logic.{⊎-elim}
+use mathlib.Core.Bool.{_&&_, Bool, and-assoc, and-false, and-true, false, true}
+use mathlib.Core.List.{_++_, List, [], _∷_}
+use Prim.Native.Nat.{_*_, _+_, _<_, suc, zero, ℕ, _≤_}
+use native.Mathlib.Nat.{add-mul, eq-or-lt-of-le, le-of-lt, one-mul}
+use native.Mathlib.Numerals.{add-one}
+use native.Mathlib.Omega.{arith}
+use lib.Bits.{and-le-l, and-le-r, bitAnd}
+use lib.Dec.{eqb}
+use lib.ListN.{drop, getD, length, length-take, set, take, take-append-drop}
+use lib.Seq.{append-snoc, drop-cons, drop-drop, length-take-le, set-at, take-add, take-all, take-suc, take-suc-set}
+use borrow.Author.Tests.{eq-eqb, ne-eqb}
+use Rattle.lists.specs.Parts.{allAre, part, sameList}
+
+-- ---- every element is x
+
+all-append : (x : ℕ) (a b : List ℕ) → allAre x (a ++ b) ≡ allAre x a && allAre x b
+unfolding allAre
+all-append x [] b = refl
+all-append x (y ∷ a) b = rw (all-append x a b) (sym (and-assoc (eqb y x) (allAre x a) (allAre x b)))
+
+all-step : (x : ℕ) (s : List ℕ) (i : ℕ) → i < length s → allAre x (take (i + 1) s) ≡ allAre x (take i s) && eqb (getD s i 0) x
+unfolding allAre
+all-step x s i h = rw (add-one, take-suc s i 0, all-append, and-true)
+
+pub all-none : (x : ℕ) (s : List ℕ) → true ≡ allAre x (take 0 s)
+unfolding allAre
+all-none x s = refl
+
+-- the bits that two bytes have in common are all bits exactly if both are 255
+both-full : (a x : ℕ) → a < 256 → x < 256 → eqb (bitAnd a x) 255 ≡ eqb a 255 && eqb x 255
+both-full a x ha hx =
+    ⊎-elim
+    (λ (e : a ≡ 255). ⊎-elim (λ (f : x ≡ 255). rw (e, f))
+    (λ (l : x < 255). rw (ne-eqb x 255 (λ g. omega arith), and-false) (ne-eqb (bitAnd a x) 255 (λ g. omega (arith, and-le-r a x))))
+    (eq-or-lt-of-le {n = x} {m = 255} (omega arith)))
+    (λ (l : a < 255). rw (ne-eqb a 255 (λ g. omega arith)) (ne-eqb (bitAnd a x) 255 (λ g. omega (arith, and-le-l a x))))
+    (eq-or-lt-of-le {n = a} {m = 255} (omega arith))
+
+-- a turn of the loop that gathers the bits that all bytes have
+pub bits-more : (s : List ℕ) (i a : ℕ) → i < length s → a < 256 → getD s i 0 < 256 → eqb a 255 ≡ allAre 255 (take i s)
+    → (bitAnd a (getD s i 0) < 256) × (eqb (bitAnd a (getD s i 0)) 255 ≡ allAre 255 (take (i + 1) s))
+bits-more s i a h ha hx e =
+    (omega (arith, and-le-l a (getD s i 0)), both-full a (getD s i 0) ha hx ∙ ap (λ (t : Bool). t && eqb (getD s i 0) 255) e ∙ sym (all-step 255 s i h))
+
+-- the same of two lists in one loop
+shuffle : (a b x y : Bool) → (a && b) && (x && y) ≡ (a && x) && (b && y)
+shuffle true b true y = refl
+shuffle true true false y = refl
+shuffle true false false y = refl
+shuffle false b x y = refl
+
+pub bits-more-two : (s t : List ℕ) (i a : ℕ) → i < length s → i < length t → a < 256 → getD s i 0 < 256 → getD t i 0 < 256
+    → eqb a 255 ≡ allAre 255 (take i s) && allAre 255 (take i t)
+    → (bitAnd (bitAnd a (getD s i 0)) (getD t i 0) < 256)
+    × (eqb (bitAnd (bitAnd a (getD s i 0)) (getD t i 0)) 255 ≡ allAre 255 (take (i + 1) s) && allAre 255 (take (i + 1) t))
+bits-more-two s t i a hs ht ha hx hy e =
+    let l : bitAnd a (getD s i 0) < 256 = omega (arith, and-le-l a (getD s i 0)) in (
+      omega (arith, and-le-l (bitAnd a (getD s i 0)) (getD t i 0)),
+      rw (both-full (bitAnd a (getD s i 0)) (getD t i 0) l hy, both-full a (getD s i 0) ha hx, e, all-step 255 s i hs, all-step 255 t i ht)
+          (and-assoc (allAre 255 (take i s) && allAre 255 (take i t)) (eqb (getD s i 0) 255) (eqb (getD t i 0) 255)
+          ∙ shuffle (allAre 255 (take i s)) (allAre 255 (take i t)) (eqb (getD s i 0) 255) (eqb (getD t i 0) 255)),
+    )
+
+pub both-done : (s t : List ℕ) (i : ℕ) (ok : Bool) → length s ≤ i → length t ≤ i → ok ≡ allAre 255 (take i s) && allAre 255 (take i t) → ok ≡ allAre 255 s && allAre 255 t
+both-done s t i ok h k e = rw (take-all i s h, take-all i t k) at e
+
+pub all-done : (x : ℕ) (s : List ℕ) (i : ℕ) (ok : Bool) → length s ≤ i → ok ≡ allAre x (take i s) → ok ≡ allAre x s
+all-done x s i ok h k = k ∙ ap (allAre x) (take-all i s h)
+
+-- part by part
+pub parts-more : (x w i : ℕ) (s : List ℕ) → allAre x (take (i * w) s) ≡ true → allAre x (part w i s) ≡ true → allAre x (take ((i + 1) * w) s) ≡ true
+unfolding part
+parts-more x w i s h k =
+    let e : (i + 1) * w ≡ i * w + w = omega (arith, add-mul i 1 w, one-mul w) in
+    rw (e, take-add (i * w) w s, all-append, h, k)
+
+pub parts-fail : (x w i : ℕ) (s : List ℕ) → allAre x (part w i s) ≡ false → false ≡ allAre x s
+unfolding part
+parts-fail x w i s e =
+    sym (and-false (allAre x (take (i * w) s))) ∙ ap (λ (t : Bool). allAre x (take (i * w) s) && t) rest ∙ sym whole
+  where
+    rest : false ≡ allAre x (take w (drop (i * w) s)) && allAre x (drop w (drop (i * w) s))
+    rest = rw e
+
+    whole : allAre x s ≡ allAre x (take (i * w) s) && (allAre x (take w (drop (i * w) s)) && allAre x (drop w (drop (i * w) s)))
+    whole =
+        ap (allAre x) (sym (take-append-drop (i * w) s)) ∙ all-append x (take (i * w) s) (drop (i * w) s)
+        ∙ ap (λ (t : Bool). allAre x (take (i * w) s) && t) (ap (allAre x) (sym (take-append-drop w (drop (i * w) s))) ∙ all-append x (take w (drop (i * w) s)) (drop w (drop (i * w) s)))
+
+-- two halves, and what is left behind them
+pub halves : (x n : ℕ) (s : List ℕ) → allAre x (take n s) ≡ true → allAre x (take n (drop n s)) ≡ true → allAre x s ≡ allAre x (drop (n + n) s)
+halves x n s a b =
+    ap (allAre x) (sym (take-append-drop (n + n) s)) ∙ all-append x (take (n + n) s) (drop (n + n) s)
+    ∙ rw (take-add n n s, all-append x (take n s) (take n (drop n s)), a, b)
+
+-- part i of the list from part h on
+pub part-from : (w h i : ℕ) (s : List ℕ) → part w i (drop (h * w) s) ≡ part w (h + i) s
+unfolding part
+part-from w h i s =
+    let e : (h + i) * w ≡ h * w + i * w = add-mul h i w in
+    rw (e, drop-drop (i * w) (h * w) s)
+
+-- ---- two lists are the same
+
+same-append : (a b : List ℕ) (x y : ℕ) → length a ≡ length b → sameList (a ++ (x ∷ [])) (b ++ (y ∷ [])) ≡ sameList a b && eqb x y
+unfolding sameList
+same-append [] [] x y h = and-true (eqb x y)
+same-append [] (w ∷ b) x y h = absurd (omega arith)
+same-append (v ∷ a) [] x y h = absurd (omega arith)
+same-append (v ∷ a) (w ∷ b) x y h = rw (same-append a b x y (omega arith)) (sym (and-assoc (eqb v w) (sameList a b) (eqb x y)))
+
+same-step : (a b : List ℕ) (i : ℕ) → i < length a → i < length b → sameList (take (i + 1) a) (take (i + 1) b) ≡ sameList (take i a) (take i b) && eqb (getD a i 0) (getD b i 0)
+same-step a b i h k = rw (add-one, take-suc a i 0, take-suc b i 0) (same-append (take i a) (take i b) (getD a i 0) (getD b i 0) (simp length-take (omega arith)))
+
+pub same-none : (a b : List ℕ) → true ≡ sameList (take 0 a) (take 0 b)
+unfolding sameList
+same-none a b = refl
+
+pub same-no : (a b : List ℕ) (i : ℕ) → i < length a → i < length b → (getD a i 0 ≡ getD b i 0 → ⊥) → false ≡ sameList (take (i + 1) a) (take (i + 1) b)
+same-no a b i h k n = rw (same-step a b i h k, ne-eqb (getD a i 0) (getD b i 0) n, and-false)
+
+pub same-yes : (a b : List ℕ) (i : ℕ) (ok : Bool) → i < length a → i < length b → ok ≡ sameList (take i a) (take i b) → getD a i 0 ≡ getD b i 0 → ok ≡ sameList (take (i + 1) a) (take (i + 1) b)
+same-yes a b i ok h k e n = rw (same-step a b i h k, eq-eqb (getD a i 0) (getD b i 0) n, and-true) e
+
+pub same-done : (a b : List ℕ) (i : ℕ) (ok : Bool) → length a ≤ i → length b ≤ i → ok ≡ sameList (take i a) (take i b) → ok ≡ sameList a b
+same-done a b i ok h k e = rw (take-all i a h, take-all i b k) at e
+
+-- ---- a copy and a fill
+
+-- b is copied to the head of d
+pub copy-more : (d b : List ℕ) (i : ℕ) → i < length d → i < length b → set (take i b ++ drop i d) i (getD b i 0) ≡ take (i + 1) b ++ drop (i + 1) d
+copy-more d b i hd hb =
+    rw (drop-cons d i 0 hd)
+    (set-at (take i b) (getD d i 0) (drop (suc i) d) (getD b i 0) i (length-take-le i b (le-of-lt hb))
+    ∙ sym (append-snoc (take i b) (getD b i 0) (drop (suc i) d))
+    ∙ rw (add-one, take-suc b i 0))
+
+-- b is copied to a buffer
+pub held-more : (l b : List ℕ) (i : ℕ) → i < length l → i < length b → take i l ≡ take i b → take (i + 1) (set l i (getD b i 0)) ≡ take (i + 1) b
+held-more l b i hl hb e = rw (add-one, take-suc-set l i (getD b i 0) hl, take-suc b i 0 hb, e)
+
+-- ---- an element that is there, whatever is said of one past the end
+
+pub default : (l : List ℕ) (i a b : ℕ) → i < length l → getD l i a ≡ getD l i b
+default [] i a b h = absurd (omega arith)
+default (x ∷ l) zero a b h = refl
+default (x ∷ l) (suc i) a b h = default l i a b (omega arith)

@@ -1,0 +1,86 @@
+-- Where pages and blocks stand on the chip, each bound once; an erased page and what is put into it.
+-- Assumes nothing.
+use mathlib.Core.Path.{_≡_, refl, sym, ap, _∙_}
+use mathlib.Core.Bool.{true}
+use mathlib.Core.List.{List, [], _∷_, _++_, append-nil}
+use Prim.Native.Nat.{ℕ, _+_, _*_, _-_, _≤_, _<_}
+use native.Mathlib.Omega.{arith}
+use lib.ListN.{length, take, drop, replicate, length-append, length-replicate, replicate-append-replicate, drop-of-length-le}
+use lib.Seq.{drop-at, take-at}
+use Rattle.lists.specs.Parts.{part, allAre}
+use Rattle.lists.proofs.Parts.{next, part-length}
+use Rattle.lists.proofs.Joins.{replicate-of}
+use Rattle.rules.specs.declared.Params.{Params}
+use Rattle.rules.specs.Parameters.{allowed, pages, pageBytes, blockBytes, chipBytes}
+use Rattle.rules.specs.Traces.{pageAt}
+use Rattle.rules.proofs.Sizes.{sizes}
+use Rattle.rules.proofs.TableFacts.{chip-size}
+use Rattle.loops.proofs.Lent.{width, lent-part}
+use Rattle.nand.specs.Asked.{Blank}
+
+-- ---- the ends of pages and blocks
+
+-- block n ends on the chip
+pub block-fits : (p : Params) (chip : List ℕ) (n : ℕ) → length chip ≡ chipBytes p → n < p .N → n * blockBytes p + blockBytes p ≤ length chip
+block-fits p chip n e h = rw (e, chip-size p) (next (blockBytes p) n (p .N) h)
+
+-- page q of block n ends on the chip
+pub page-fits : (p : Params) (chip : List ℕ) (n q : ℕ) → length chip ≡ chipBytes p → n < p .N → q < pages p
+    → pageAt p n q * pageBytes p + pageBytes p ≤ length chip
+unfolding chipBytes
+page-fits p chip n q e h k =
+    let low : n * pages p + q < p .N * pages p = omega (arith, next (pages p) n (p .N) h) in
+    rw e (next (pageBytes p) (n * pages p + q) (p .N * pages p) low)
+
+-- and may be programmed where it is erased
+pub page-blank : (p : Params) (chip : List ℕ) (n q : ℕ) → allowed p ≡ true → length chip ≡ chipBytes p → n < p .N → q < pages p
+    → allAre 255 (part (pageBytes p) (pageAt p n q) chip) ≡ true → Blank chip (pageBytes p) (pageAt p n q)
+page-blank p chip n q a e h k t =
+    let fits = page-fits p chip n q e h k in
+    record {
+      small = (sizes p a) .pageHigh;
+      fits = fits;
+      clean = replicate-of 255 _ t ∙ ap (λ (m : ℕ). replicate m 255) (part-length (pageBytes p) (pageAt p n q) chip fits);
+    }
+
+-- ---- a page in two pieces
+
+-- a page whose data bytes are x and whose spare area is erased
+module _ (x l : List ℕ) (s : ℕ) (size : length x ≡ s) (e : l ≡ x ++ replicate 16 255) where
+  page-length : length l ≡ s + 16
+  page-length = ap length e ∙ length-append x (replicate 16 255) ∙ ap (λ (n : ℕ). n + 16) size
+
+  spare-is : drop s l ≡ replicate 16 255
+  spare-is = rw e (drop-at x (replicate 16 255) s size)
+
+  spare-width : length l - s ≡ 16
+  spare-width = omega (arith, page-length)
+
+  pub spare-left : take (length l - s) (drop s l) ≡ replicate 16 255
+  spare-left = rw (spare-is, spare-width)
+
+  pub page-done : (y : List ℕ) → take s l ++ (y ++ drop (length l - s) (drop s l)) ≡ x ++ y
+  page-done y =
+      let t : take s l ≡ x = rw e (take-at x (replicate 16 255) s size) in
+      rw (spare-is, spare-width, t, append-nil)
+
+pub erased-split : (s : ℕ) → replicate {A = ℕ} (s + 16) 255 ≡ replicate s 255 ++ replicate 16 255
+erased-split s = sym (replicate-append-replicate {A = ℕ} s 16 255)
+
+-- an erased page once x is put at its head
+pub put-erased : (x page l : List ℕ) → page ≡ replicate (length x + 16) 255 → l ≡ x ++ drop (length x) page → l ≡ x ++ replicate 16 255
+put-erased x page l e f =
+    f ∙ ap (λ (t : List ℕ). x ++ t) (rw (e, erased-split (length x)) (drop-at (replicate (length x) 255) (replicate 16 255) (length x) (length-replicate {A = ℕ} (length x) 255)))
+
+-- a page once all of it is put
+pub put-whole : (x page : List ℕ) → length page ≡ length x → x ++ drop (length x) page ≡ x
+put-whole x page e =
+    let d : drop (length x) page ≡ [] = drop-of-length-le page {i = length x} (omega (arith, e)) in
+    rw (d, append-nil)
+
+-- what is held of a part
+pub held-part : (l r : List ℕ) (i w : ℕ) → i * w + w ≤ length l
+    → take (length (take (i * w + w - i * w) (drop (i * w) l))) r ≡ take (i * w + w - i * w) (drop (i * w) l) → take w r ≡ part w i l
+held-part l r i w h e =
+    let f : take (length (part w i l)) r ≡ part w i l = rw (lent-part w i l) at e in
+    rw (part-length w i l h) at f

@@ -1,0 +1,52 @@
+-- The spare areas of a frame, byte by byte, and where they stand in the frame.
+-- Assumes nothing.
+use mathlib.Core.Path.{_≡_}
+use mathlib.Core.List.{List, [], _∷_}
+use Prim.Native.Nat.{_*_, _+_, _-_, _<_, suc, zero, ℕ, _≤_}
+use native.Mathlib.Nat.{add-zero, suc-add, zero-add, zero-mul}
+use native.Mathlib.Omega.{arith}
+use lib.Dec.{eqb}
+use lib.ListN.{drop, getD, length, take}
+use lib.Seq.{drop-drop, getD-drop, getD-take, take-nil}
+use Rattle.lists.specs.Parts.{part}
+use Rattle.lists.proofs.Parts.{next}
+use Rattle.rules.specs.declared.Params.{Params}
+use Rattle.rules.specs.Pages.{held, le32, page, programmed, spare}
+use Rattle.rules.specs.Parameters.{frameBytes, pageBytes}
+use Rattle.loops.proofs.Elements.{default}
+use Rattle.loops.proofs.Lent.{lent}
+
+drop-take : (n m : ℕ) (l : List ℕ) → drop n (take (n + m) l) ≡ take m (drop n l)
+drop-take zero m l = rw zero-add
+drop-take (suc n) m [] = rw (take-nil (suc n + m), take-nil m)
+drop-take (suc n) m (x ∷ l) = rw suc-add (drop-take n m l)
+
+spare-is : (p : Params) (fr : List ℕ) (j : ℕ) → spare p fr j ≡ take 16 (drop (p .s) (drop (j * pageBytes p) fr))
+unfolding spare page part pageBytes
+spare-is p fr j = drop-take (p .s) 16 (drop (j * (p .s + 16)) fr)
+
+pub spare-at : (p : Params) (fr : List ℕ) (k z : ℕ) → k < 16 → getD (spare p fr 0) k z ≡ getD fr (p .s + k) z
+spare-at p fr k z h = rw (spare-is, getD-take 16 _ k z h, getD-drop, zero-mul)
+
+-- the cluster, from the first four bytes of the first spare area
+pub held-is : (p : Params) (fr : List ℕ) → held p fr ≡ getD fr (p .s) 0 + 256 * getD fr (p .s + 1) 0 + 65536 * getD fr (p .s + 2) 0 + 16777216 * getD fr (p .s + 3) 0
+unfolding held le32
+held-is p fr = rw (spare-at p fr 0 0 (omega arith), spare-at p fr 1 0 (omega arith), spare-at p fr 2 0 (omega arith), spare-at p fr 3 0 (omega arith), add-zero)
+
+-- whether it is programmed, from byte 6
+pub programmed-is : (p : Params) (fr : List ℕ) → p .s + 6 < length fr → programmed p fr ≡ eqb (getD fr (p .s + 6) 0) 0
+unfolding programmed
+programmed-is p fr h = rw (spare-at p fr 6 255 (omega arith), default fr (p .s + 6) 255 0 h)
+
+-- a frame has at least its first page
+pub first-page : (p : Params) → 0 < p .alpha → p .s + 16 ≤ frameBytes p
+unfolding frameBytes pageBytes
+first-page p h = omega (arith, next (p .s + 16) 0 (p .alpha) h)
+
+-- the spare area of page j lies in the frame, and is what is lent of it
+pub spare-fits : (p : Params) (j w n : ℕ) → w ≡ pageBytes p → n ≡ frameBytes p → j < p .alpha → j * w + p .s + 16 ≤ n
+unfolding frameBytes pageBytes
+spare-fits p j w n e k h = rw (e, k) (omega (arith, next (p .s + 16) j (p .alpha) h))
+
+pub spare-lent : (p : Params) (fr : List ℕ) (j w : ℕ) → w ≡ pageBytes p → take (j * w + p .s + 16 - (j * w + p .s)) (drop (j * w + p .s) fr) ≡ spare p fr j
+spare-lent p fr j w e = rw (lent (j * w + p .s) 16 fr, spare-is p fr j, drop-drop, e)

@@ -1,0 +1,4 @@
+pub mod Frames
+pub mod Runs
+pub mod Views
+pub mod Requests

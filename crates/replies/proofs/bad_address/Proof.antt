@@ -1,0 +1,17 @@
+-- `replies::bad_address`: the number of all sectors fits.
+-- Assumes nothing.
+use native.Mathlib.Omega.{arith}
+use Rattle.rules.specs.Replies.{badAddress}
+use Rattle.replies.proofs.Rows.{sectors-low}
+use Rattle.replies.proofs.bad_address.Statement.{statement}
+use Rattle.replies.proofs.bad_address.Tie as tie
+
+mul-result : tie.Need-mul-result
+mul-result c = omega (arith, sectors-low _ (c .before .pre))
+
+returns : tie.Need-returns
+unfolding badAddress
+returns c = λ q l. rw l
+
+pub bad-address-spec : {M : Type 1} → statement M
+bad-address-spec = tie.close (tie.spec mul-result returns)

@@ -1,0 +1,83 @@
+-- `state::segment_ok`: test by test.
+-- Assumes nothing.
+use mathlib.Core.Path.{_≡_}
+use Prim.Native.Nat.{_%_, _*_, _/_, _<_, ℕ}
+use native.Mathlib.Nat.{mod-lt}
+use native.Mathlib.Omega.{arith}
+use borrow.Author.Tests.{eq-eqb, le-ltb, lt-ltb, ne-eqb}
+use Rattle.rules.specs.Tables.{none}
+use Rattle.rules.proofs.Sizes.{sizes}
+use Rattle.agree.specs.Check.{segmentOk}
+use Rattle.state.proofs.Blocks.{name-low, vblock-low}
+use Rattle.state.proofs.segment_ok.Statement.{statement}
+use Rattle.state.proofs.segment_ok.Tie as tie
+
+-- the virtual block of sg is one of the region
+vlow : (a : tie.Start) (v : ℕ) → v ≡ a .args .sg .0 / a .args .p .d → a .args .sg .0 < a .args .p .gamma * a .args .p .d → v < a .args .p .gamma
+vlow a v e h = rw e (vblock-low _ _ _ ((sizes _ (a .pre .fine)) .segments) h)
+
+-- the region of c is one of the board
+rlow : (a : tie.Start) (r : ℕ) → r ≡ a .args .c .0 % a .args .p .mu → r < a .args .p .mu
+rlow a r e = rw e (mod-lt _ ((sizes _ (a .pre .fine)) .regions))
+
+mul-if1 : tie.Need-mul-if1
+mul-if1 c = let z = sizes _ (c .before .before .before .pre .fine) in omega (arith, z .few)
+
+returns : tie.Need-returns
+unfolding segmentOk
+returns c = rw (le-ltb _ _ (c .if1 .taken))
+
+region-of-requires : tie.Need-region-of-requires
+region-of-requires c κs = (sizes _ (c .before .before .before .before .before .pre .fine)) .regions
+
+vblock-of-requires : tie.Need-vblock-of-requires
+vblock-of-requires c κs = (sizes _ (c .before .before .before .before .before .before .pre .fine)) .segments
+
+bt-at-requires : tie.Need-bt-at-requires
+bt-at-requires c κs = let a = c .before .before .before .before .before .before .before in (a .pre .btLength, (rlow a _ (c .before .region-of .ensures), vlow a _ (c .vblock-of .ensures) (c .before .before .if1 .left)))
+
+returns-2 : tie.Need-returns-2
+unfolding segmentOk
+returns-2 c =
+    rw (lt-ltb _ _ (c .before .before .before .before .before .if1 .left), ← (c .before .before .before .before .region-of .ensures), ← (c .before .before .before .vblock-of .ensures), ← (c .before .before .bt-at .ensures .0), eq-eqb _ none (c .if2 .taken))
+
+place-of-requires : tie.Need-place-of-requires
+place-of-requires c κs = (sizes _ (c .before .before .before .before .before .before .before .before .before .before .pre .fine)) .segments
+
+frames-requires : tie.Need-frames-requires
+frames-requires c κs = c .before .before .before .before .before .before .before .before .before .before .before .pre .fine
+
+block-of-requires : tie.Need-block-of-requires
+block-of-requires c κs =
+    let a = c .before .before .before .before .before .before .before .before .before .before .before .before in (
+      a .pre .fine,
+      (
+        a .pre .chipLength,
+        name-low (a .args .p) (a .args .chip .now) (a .args .bt .now) (a .pre) _ _ (c .before .before .before .before .bt-at .result .0) (rlow a _ (c .before .before .before .before .before .before .region-of .ensures)) (vlow a _ (c .before .before .before .before .before .vblock-of .ensures) (c .before .before .before .before .before .before .before .if1 .left)) (c .before .before .before .before .bt-at .ensures .0) (c .before .before .if2 .left),
+      ),
+    )
+
+last-in-requires : tie.Need-last-in-requires
+last-in-requires c κs = let a = c .before .before .before .before .before .before .before .before .before .before .before .before .before in (a .pre .fine, (c .block-of .ensures .1, rw (c .before .before .place-of .ensures) (mod-lt _ ((sizes _ (a .pre .fine)) .segments))))
+
+returns-3 : tie.Need-returns-3
+unfolding segmentOk
+returns-3 c =
+    rw
+    (lt-ltb _ _ (c .before .before .before .before .before .before .before .before .before .if1 .left), ← (c .before .before .before .before .before .before .before .before .region-of .ensures), ← (c .before .before .before .before .before .before .before .vblock-of .ensures), ← (c .before .before .before .before .before .before .bt-at .ensures .0), ne-eqb (c .before .before .before .before .before .before .bt-at .result .0) none (c .before .before .before .before .if2 .left), ← (c .before .block-of .ensures .0), ← (c .before .before .before .place-of .ensures), ← (c .last-in .ensures), ← (c .before .before .frames .ensures))
+
+pub segment-ok-spec : {M : Type 1} → statement M
+segment-ok-spec =
+    tie.close
+    (tie.spec
+    mul-if1
+    returns
+    region-of-requires
+    vblock-of-requires
+    bt-at-requires
+    returns-2
+    place-of-requires
+    frames-requires
+    block-of-requires
+    last-in-requires
+    returns-3)

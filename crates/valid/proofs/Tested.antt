@@ -1,0 +1,70 @@
+-- Each test of `is_valid`, as the rule of validity takes it: of any view that shows the lent bytes.
+-- Assumes nothing.
+use mathlib.Core.Path.{_≡_, refl, sym, _∙_}
+use mathlib.Core.Bool.{Bool, true, false, _&&_, cond}
+use mathlib.Core.List.{List}
+use Prim.Native.Nat.{ℕ, _*_, _/_, _≤_, _<_}
+use native.Mathlib.Omega.{arith}
+use native.Mathlib.Nat.{div-lt-iff-lt-mul}
+use lib.Dec.{eqb}
+use borrow.Author.Tests.{eq-eqb, ne-eqb}
+use lib.ListN.{length, List·getD-eq-default}
+use Rattle.rules.specs.declared.Params.{Params}
+use Rattle.rules.specs.Parameters.{frames}
+use Rattle.rules.specs.Numbers.{regionOf, segmentOf}
+use Rattle.rules.specs.Tables.{none, ctAt}
+use Rattle.rules.specs.Pages.{frame, held, programmed, lastIn}
+use Rattle.rules.specs.Regions.{View, valid}
+use Rattle.rules.proofs.Sizes.{Sizes, sizes}
+use Rattle.rules.proofs.Frames.{seg-low}
+use Rattle.valid.specs.Shown.{OneFrame, Shows}
+
+module _ (p : Params) (blk ct : List ℕ) (v f : ℕ) (a : OneFrame p blk ct v f) where
+  z : Sizes p
+  z = sizes p (a .block .fine)
+
+  -- the place of the frame's segment is one of the block's
+  pub place-low : f / p .beta < p .d
+  unfolding frames
+  place-low = div-lt-iff-lt-mul (z .perSegment) .1 (omega (arith, a .low))
+
+  pub frame-few : f < 256
+  frame-few = omega (arith, a .low, z .short)
+
+  module _ (r : ℕ) (vw : View) (s : Shows p r v blk ct vw) (fr : List ℕ) (is : fr ≡ frame p blk f) where
+    pub unprogrammed : programmed p fr ≡ false → false ≡ valid p vw v f
+    unfolding valid
+    unprogrammed h = rw (s .body, ← is, h)
+
+    module _ (h : programmed p fr ≡ true) (c : ℕ) (e : c ≡ held p fr) where
+      valid-is : valid p vw v f ≡ eqb (vw .segOf c) (segmentOf p v f) && eqb (lastIn p blk (f / p .beta) c) f
+      unfolding valid
+      valid-is = rw (s .body, ← is, h, ← e)
+
+      not-here : (x : ℕ) → vw .segOf c ≡ x → (x ≡ segmentOf p v f → ⊥) → false ≡ valid p vw v f
+      not-here x w ne = rw (valid-is, w, ne-eqb x (segmentOf p v f) ne)
+
+      none-ne : none ≡ segmentOf p v f → ⊥
+      none-ne x = omega (arith, seg-low p z v f (a .low) (a .block .low), z .few)
+
+      seg-none : ctAt ct c ≡ none → vw .segOf c ≡ none
+      seg-none x = s .segs c ∙ rw x (go (eqb (regionOf p c) r))
+        where
+          go : (t : Bool) → cond t none none ≡ none
+          go true = refl
+          go false = refl
+
+      pub high : p .C ≤ c → false ≡ valid p vw v f
+      high l = not-here none (seg-none (unfold ctAt in List·getD-eq-default ct none (rw (a .block .ctLength) l))) none-ne
+
+      pub elsewhere : (r′ : ℕ) → r′ ≡ regionOf p c → (r′ ≡ r → ⊥) → false ≡ valid p vw v f
+      elsewhere r′ x ne = not-here none (s .segs c ∙ rw (ne-eqb (regionOf p c) r (λ y. ne (x ∙ y)))) none-ne
+
+      here : (r′ : ℕ) → r′ ≡ regionOf p c → r′ ≡ r → vw .segOf c ≡ ctAt ct c
+      here r′ x y = s .segs c ∙ rw (eq-eqb (regionOf p c) r (sym x ∙ y))
+
+      pub stale : (r′ sg g : ℕ) → r′ ≡ regionOf p c → r′ ≡ r → sg ≡ ctAt ct c → g ≡ segmentOf p v f → (sg ≡ g → ⊥) → false ≡ valid p vw v f
+      stale r′ sg g x y w q ne = not-here sg (here r′ x y ∙ sym w) (λ k. ne (k ∙ sym q))
+
+      pub last : (r′ sg g l : ℕ) → r′ ≡ regionOf p c → r′ ≡ r → sg ≡ ctAt ct c → g ≡ segmentOf p v f → sg ≡ g → l ≡ lastIn p blk (f / p .beta) c → eqb l f ≡ valid p vw v f
+      last r′ sg g l x y w q k i = rw (valid-is, here r′ x y, ← w, eq-eqb sg (segmentOf p v f) (k ∙ q), ← i)

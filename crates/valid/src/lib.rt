@@ -1,0 +1,69 @@
+// Which frames are valid, and which virtual block of a region has fewest of them.
+ghost use mathlib.Core.Path.{_≡_};
+ghost use Prim.Native.Nat.{ℕ};
+ghost use mathlib.Core.List.{List};
+ghost use lib.ListN.{length};
+ghost use Rattle.rules.specs.Regions.{View, viewOf, valid, validFrames};
+ghost use Rattle.rules.specs.Write.{victim};
+ghost use Rattle.valid.specs.Shown.{OneFrame, OneBlock, Full, Shows};
+use rules::Params;
+use rules::VBlock;
+
+// Is frame f of virtual block v of region r, whose bytes are lent, valid?
+pub fn is_valid(p: Params, blk: &[u8], ct: &[u16], r: usize, v: VBlock, f: usize) -> bool
+    requires { ⌜ OneFrame p (now blk) (now ct) (v .0) f ⌝ }
+    ensures { λ ok. ⌜ ((vw : View) → Shows p r (v .0) (now (blk .entry)) (now (ct .entry)) vw → ok ≡ valid p vw (v .0) f) ⌝ }
+{
+    let fr = blocks::frame_of(p, blk, f);
+    if !nand::is_programmed(p, fr) {
+        return false;
+    }
+    let c = nand::cluster_in(p, fr);
+    if c.0 >= p.C {
+        return false;
+    }
+    if rules::region_of(p, c) != r {
+        return false;
+    }
+    if tables::ct_at(ct, c).0 != rules::segment_of(p, v, f).0 {
+        return false;
+    }
+    blocks::last_in(p, blk, f / p.beta, c) == f
+}
+
+// How many frames of it are valid.
+pub fn valid_count(p: Params, blk: &[u8], ct: &[u16], r: usize, v: VBlock) -> usize
+    requires { ⌜ OneBlock p (now blk) (now ct) (v .0) ⌝ }
+    ensures { λ n. ⌜ ((vw : View) → Shows p r (v .0) (now (blk .entry)) (now (ct .entry)) vw → n ≡ length (validFrames p vw (v .0))) ⌝ }
+{
+    let m = sizes::frames(p);
+    let mut n = 0;
+    let mut f = 0;
+    while f < m {
+        if is_valid(p, blk, ct, r, v, f) {
+            n += 1;
+        }
+        f += 1;
+    }
+    n
+}
+
+// The virtual block of region r with fewest valid frames, the lowest on a tie.
+pub fn victim(p: Params, chip: &[u8], ct: &[u16], bt: &[u16], r: usize) -> VBlock
+    requires { ⌜ Full p (now chip) (now ct) (now bt) r ⌝ }
+    ensures { λ v. ⌜ ((fst : List ℕ) → v .0 ≡ victim p (viewOf p (now (chip .entry)) (now (ct .entry)) (now (bt .entry)) fst r)) ⌝ }
+{
+    let n = p.gamma;
+    let mut m: usize = 65535;
+    let mut best: usize = 0;
+    let mut v: usize = 0;
+    while v < n {
+        let b = tables::bt_at(p, bt, r, VBlock(v));
+        let k = valid_count(p, blocks::block_of(p, chip, b), ct, r, VBlock(v));
+        let less = (m == 65535) | (k < best);
+        m = choose::pick(less, v, m);
+        best = choose::pick(less, k, best);
+        v += 1;
+    }
+    VBlock(m)
+}

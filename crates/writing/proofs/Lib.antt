@@ -1,0 +1,5 @@
+pub mod Plans
+pub mod Rooms
+pub mod Put
+pub mod Made
+pub mod Writes

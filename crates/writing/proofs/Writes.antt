@@ -1,0 +1,207 @@
+-- A write that has passed its checks: what its plan asks is there, and what it leaves is the rules' outcome.
+-- Assumes nothing.
+use mathlib.Core.Path.{_≡_, refl, sym, ap, ap₂, _∙_}
+use mathlib.Core.Logic.{_⊎_, inl, inr}
+use mathlib.Core.Bool.{Bool, true, false, not, cond}
+use mathlib.Core.List.{List, [], _∷_, _++_}
+use Prim.Native.Nat.{ℕ, _+_, _*_, _≤_, _<_}
+use native.Mathlib.Omega.{arith}
+use native.Mathlib.Nat.{mod-lt, div-lt-iff-lt-mul}
+use lib.Dec.{eqb}
+use borrow.Author.Tests.{eqb-true, not-false}
+use lib.ListN.{length}
+use Rattle.lists.proofs.Tests.{so}
+use Rattle.lists.proofs.Searches.{first-spec}
+use Rattle.rules.specs.declared.Params.{Params}
+use Rattle.rules.specs.declared.Answer.{Answer}
+use Rattle.rules.specs.declared.Reply.the-variants.{Accepted}
+use Rattle.rules.specs.Parameters.{frames, blockBytes}
+use Rattle.rules.specs.Numbers.{clusterOf, regionOf, vblockOf}
+use Rattle.rules.specs.Tables.{Board, boardOf, none, btAt, btEntry, fstAt}
+use Rattle.rules.specs.Pages.{block, frame, held}
+use Rattle.rules.specs.Regions.{View, view, viewOf, assigned}
+use Rattle.rules.specs.Traces.{programsIn, erasesIn}
+use Rattle.rules.specs.Write.{Request, requestCluster, requestRegion, Plan, continues, opens, reclaims, hasRoom, lowestUnassigned, victim, planOf, planVBlock, planFrame, copies, freeBlock, eraseOps, planOps, writeOps, written, writtenBy}
+use Rattle.rules.specs.Replies.{isAccepted, accessReply}
+use Rattle.rules.specs.Calls.{answerOf, accepts, writeCall}
+use Rattle.rules.proofs.Sizes.{Sizes}
+use Rattle.rules.proofs.Isolation.{index-low}
+use Rattle.rules.proofs.Views.{body-some, has-block, block-low, free-block, free-unnamed}
+use Rattle.rules.proofs.RegionFacts.{GoodFrame, Open, Neat, neat}
+use Rattle.rules.proofs.Admitted.{Admitted, admitted}
+use Rattle.rules.proofs.Continues.{Makes}
+use Rattle.rules.proofs.Opens.{free-fresh, fresh-frame}
+use Rattle.rules.proofs.Victims.{good-at}
+use Rattle.rules.proofs.WritePromise.{makes, counts, copies-few, erase-counts}
+use Rattle.choose.specs.Search.{Pool}
+use Rattle.reclaim.specs.Moves.{FromTo}
+use Rattle.writing.specs.Plans.{PlanAsked}
+use Rattle.writing.specs.Rooms.{OpenAsked, ReclaimReady, RoomAsked, RoomMade}
+use Rattle.writing.specs.Clusters.{Standing, ClusterPut, acceptedAnswer, Gives}
+use Rattle.writing.proofs.Made as made
+
+-- a plan that reclaims: the open block has no room, and every virtual block has a block
+record Reclaiming (p : Params) (vw : View) : Type 0 where
+  noRoom : hasRoom p vw ≡ false
+  full : lowestUnassigned p vw ≡ none
+
+kind : Plan → ℕ
+kind (continues v f) = 0
+kind (opens v) = 1
+kind (reclaims v) = 2
+
+reclaiming : (p : Params) (vw : View) (v : ℕ) → planOf p vw ≡ reclaims v → Reclaiming p vw
+unfolding planOf kind
+reclaiming p vw v e = go (so (hasRoom p vw)) (so (eqb (lowestUnassigned p vw) none))
+  where
+    go : (hasRoom p vw ≡ true) ⊎ (hasRoom p vw ≡ false) → (eqb (lowestUnassigned p vw) none ≡ true) ⊎ (eqb (lowestUnassigned p vw) none ≡ false) → Reclaiming p vw
+    go (inl h) s = absurd (omega (arith, ap kind (rw h at e)))
+    go (inr h) (inr s) = absurd (omega (arith, ap kind (rw (h, s) at e)))
+    go (inr h) (inl s) = record { noRoom = h; full = eqb-true _ _ s }
+
+module _ (p : Params) (b : Board) (q : Request) (e : accessReply p b q ≡ Accepted) where
+  acc : Admitted p b q
+  acc = admitted p b q e
+
+  z : Sizes p
+  z = acc .sized
+
+  pub sectors : 0 < p .alpha
+  sectors = z .sectors
+
+  pub regions : 0 < p .mu
+  regions = z .regions
+
+  pub ct-length : length (b .ct) ≡ p .C
+  ct-length = acc .tables .ctLength
+
+  abbrev r : ℕ
+  r = requestRegion p q
+
+  abbrev vw : View
+  vw = view p b r
+
+  region-in : r < p .mu
+  region-in = mod-lt (requestCluster p q) (z .regions)
+
+  nt : Neat p r vw
+  nt = neat p r vw (acc .tidy r region-in)
+
+  all-make : Makes p b r (planOf p vw)
+  all-make = makes p z b (acc .tables) r region-in nt
+
+  -- ---- what the plan asks
+
+  last-is : vw .lastSeg ≡ fstAt (b .fst) r
+  unfolding viewOf
+  last-is = refl
+
+  opened : (fstAt (b .fst) r ≡ none → ⊥) → (vblockOf p (fstAt (b .fst) r) < p .gamma) × (btAt p (b .bt) r (vblockOf p (fstAt (b .fst) r)) ≡ none → ⊥)
+  opened ne = rw (← last-is) (go (nt .opened))
+    where
+      go : (((v : ℕ) → v < p .gamma → assigned vw v ≡ false) × (vw .lastSeg ≡ none)) ⊎ (((v : ℕ) × (v < p .gamma) × (assigned vw v ≡ true)) × Open p vw)
+          → (vblockOf p (vw .lastSeg) < p .gamma) × (btAt p (b .bt) r (vblockOf p (vw .lastSeg)) ≡ none → ⊥)
+      go (inl w) = absurd (ne (sym last-is ∙ w .1))
+      go (inr w) =
+          let h : vblockOf p (vw .lastSeg) < p .gamma = div-lt-iff-lt-mul (z .segments) .1 (w .1 .low) in
+          (h, has-block p z b (acc .tables) r _ region-in h (w .1 .has))
+
+  pub plan-asked : (r′ : ℕ) → r′ ≡ r → PlanAsked p (b .chip) (b .bt) (b .fst) r′
+  plan-asked r′ er =
+      record {
+        fine = acc .fine;
+        chipLength = acc .tables .chipLength;
+        btLength = acc .tables .btLength;
+        fstLength = acc .tables .fstLength;
+        low = rw er region-in;
+        names = λ v h. unfold btAt in acc .tables .names (r′ * p .gamma + v) (index-low p r′ v (rw er region-in) h);
+        opened = rw er opened;
+      }
+
+  pool : Pool p (b .bst) (b .wear)
+  pool = record { fine = acc .fine; bstLength = acc .tables .bstLength; wearLength = acc .tables .wearLength }
+
+  open-asked : (v : ℕ) → v < p .gamma → OpenAsked p (b .bt) (b .bst) (b .wear) r v
+  open-asked v h = record { pool = pool; btLength = acc .tables .btLength; region = region-in; low = h; free = (free-block p z b (acc .tables)) .0 }
+
+  every : lowestUnassigned p vw ≡ none → (u : ℕ) → u < p .gamma → assigned vw u ≡ true
+  unfolding lowestUnassigned
+  every full u k = go (first-spec none (p .gamma) (λ v. not (assigned vw v)) (omega (arith, z .gammaHigh)))
+    where
+      go : ((lowestUnassigned p vw ≡ none) × ((i : ℕ) → i < p .gamma → not (assigned vw i) ≡ false)) ⊎ ((lowestUnassigned p vw < p .gamma) × (not (assigned vw (lowestUnassigned p vw)) ≡ true)) → assigned vw u ≡ true
+      go (inl w) = not-false _ (w .1 u k)
+      go (inr w) = absurd (omega (arith, z .gammaHigh, full, w .0))
+
+  -- the victim's block and the free block
+  module _ (v : ℕ) (h : v < p .gamma) (c : Reclaiming p vw) where
+    some : btAt p (b .bt) r v ≡ none → ⊥
+    some = has-block p z b (acc .tables) r v region-in h (every (c .full) v h)
+
+    good : (f : ℕ) → f < frames p → GoodFrame p r (frame p (block p (b .chip) (btAt p (b .bt) r v)) f)
+    good f k = rw (body-some p z b (acc .tables) r v region-in h some) at (good-at p z vw r nt (c .noRoom) (every (c .full)) v f h k)
+
+    from-to : FromTo p (b .chip) (b .ct) (btAt p (b .bt) r v) (freeBlock p (b .bst) (b .wear)) v
+    from-to =
+        record {
+          whole = record { fine = acc .fine; size = acc .tables .chipLength };
+          from = block-low p z b (acc .tables) r v region-in h some;
+          to = (free-block p z b (acc .tables)) .0;
+          low = h;
+          apart = λ x. free-unnamed p z b (acc .tables) (r * p .gamma + v) (index-low p r v region-in h) (unfold btAt in x);
+          clean = λ k m. rw (free-fresh p z b (acc .tables)) (fresh-frame p k);
+          good = λ f m. rw (acc .tables .ctLength) ((good f m) .low);
+        }
+
+  pub room-asked : (r′ : ℕ) → r′ ≡ r → (pl : Plan) → pl ≡ planOf p (viewOf p (b .chip) (b .ct) (b .bt) (b .fst) r′) → RoomAsked p (b .chip) (b .ct) (b .bt) (b .bst) (b .wear) r′ pl
+  room-asked r′ er pl ep = rw er (go pl (rw er at ep))
+    where
+      go : (pl : Plan) → pl ≡ planOf p vw → RoomAsked p (b .chip) (b .ct) (b .bt) (b .bst) (b .wear) r pl
+      go (continues v f) k = tt
+      go (opens v) k =
+          let mk : Makes p b r (opens v) = rw (← k) at all-make in
+          open-asked v (unfold planVBlock in mk .base .ready .mine)
+      go (reclaims v) k =
+          let mk : Makes p b r (reclaims v) = rw (← k) at all-make in
+          let h : v < p .gamma = unfold planVBlock in mk .base .ready .mine in
+          record { taking = open-asked v h; ctLength = acc .tables .ctLength; blocks = from-to v h (reclaiming p vw v (sym k)) }
+
+  -- ---- what the write leaves
+
+  module _ (r′ : ℕ) (er : r′ ≡ r) (pl : Plan) (ep : pl ≡ planOf p (viewOf p (b .chip) (b .ct) (b .bt) (b .fst) r′)) (v f copied erases : ℕ) (chip₁ ct₁ bt₁ bst₁ wear₁ : List ℕ)
+      (m : RoomMade p b r′ pl v f copied erases chip₁ ct₁ bt₁ bst₁ wear₁) where
+    ep-r : pl ≡ planOf p vw
+    ep-r = rw er at ep
+
+    mk : Makes p b r pl
+    mk = rw ep-r all-make
+
+    m-r : RoomMade p b r pl v f copied erases chip₁ ct₁ bt₁ bst₁ wear₁
+    m-r = rw er at m
+
+    pub standing : Standing p (boardOf chip₁ ct₁ bt₁ (b .fst) [] []) q v f
+    standing = rw (m-r .chipIs, m-r .ctIs, m-r .btIs, m-r .vblock, m-r .frame) (made.standing p b q acc pl mk)
+
+    pub copied-few : copied < 256
+    copied-few = rw (m-r .count) (omega (arith, copies-few p vw pl, mk .base .ready .low, z .short))
+
+    pub alpha-few : p .alpha ≤ 16
+    alpha-few = z .alphaHigh
+
+    board-is : (chip ct fst : List ℕ) → ClusterPut p (boardOf chip₁ ct₁ bt₁ (b .fst) [] []) q v f chip ct fst → boardOf chip ct bt₁ fst bst₁ wear₁ ≡ written p b q
+    unfolding written
+    board-is chip ct fst x =
+        let y = made.done p b q acc pl mk chip ct fst bst₁ wear₁ (rw (m-r .chipIs, m-r .ctIs, m-r .btIs, m-r .vblock, m-r .frame) at x) (m-r .bstIs) (m-r .wearIs) in
+        rw (m-r .btIs) (y ∙ ap (writtenBy p b r q) ep-r)
+
+    answer-is : acceptedAnswer p copied erases ≡ answerOf Accepted (writeOps p b q)
+    unfolding answerOf writeOps
+    answer-is =
+        let k = counts p b r q pl in
+        let x : p .alpha * (copied + 1) ≡ programsIn (planOps p b r q (planOf p vw)) = rw (m-r .count) (sym (k .0)) ∙ ap (λ (l : Plan). programsIn (planOps p b r q l)) ep-r in
+        let y : erases ≡ erasesIn (planOps p b r q (planOf p vw)) = m-r .erases ∙ (erase-counts p b r pl) .1 ∙ sym (k .1) ∙ ap (λ (l : Plan). erasesIn (planOps p b r q l)) ep-r in
+        ap₂ {C = Answer} (λ (i j : ℕ). record { reply = Accepted; programs = i; erases = j }) x y
+
+    pub gives : (chip ct fst : List ℕ) (a : Answer) → ClusterPut p (boardOf chip₁ ct₁ bt₁ (b .fst) [] []) q v f chip ct fst → a ≡ acceptedAnswer p copied erases
+        → Gives (writeCall p b q) a (boardOf chip ct bt₁ fst bst₁ wear₁)
+    unfolding writeCall accepts isAccepted
+    gives chip ct fst a x y = record { answer = y ∙ answer-is ∙ rw e; board = board-is chip ct fst x ∙ rw e }

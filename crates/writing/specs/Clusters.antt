@@ -1,0 +1,47 @@
+-- The new cluster, put where a plan has made room; and what a call gives.
+-- Assumes nothing.
+use mathlib.Core.Path.{_≡_}
+use mathlib.Core.Logic.{_⊎_}
+use mathlib.Core.Bool.{true}
+use mathlib.Core.List.{List}
+use Prim.Native.Nat.{ℕ, _+_, _*_, _<_}
+use lib.ListN.{length, set}
+use Rattle.lists.specs.Parts.{putPart}
+use Rattle.rules.specs.declared.Params.{Params}
+use Rattle.rules.specs.declared.Reply.the-variants.{Accepted}
+use Rattle.rules.specs.declared.Answer.{Answer}
+use Rattle.rules.specs.Parameters.{allowed, frames, frameBytes, blockBytes}
+use Rattle.rules.specs.Numbers.{segmentOf}
+use Rattle.rules.specs.Tables.{Board, none, btEntry, btAt}
+use Rattle.rules.specs.Regions.{view}
+use Rattle.rules.specs.Write.{Request, requestCluster, requestRegion, newFrame}
+use Rattle.rules.specs.Calls.{Outcome}
+use Rattle.rules.proofs.RegionKept.{Base}
+use Rattle.rules.proofs.Admitted.{Asked}
+
+-- a plan has made room: frame f of virtual block v is the next to be written
+pub record Standing (p : Params) (b : Board) (q : Request) (v f : ℕ) : Type 0 where
+  pub fine : allowed p ≡ true
+  pub chipLength : length (b .chip) ≡ p .N * blockBytes p
+  pub ctLength : length (b .ct) ≡ p .C
+  pub btLength : length (b .bt) ≡ p .mu * p .gamma
+  pub fstLength : length (b .fst) ≡ p .mu
+  pub names : (i : ℕ) → i < p .mu * p .gamma → (btEntry (b .bt) i ≡ none) ⊎ (btEntry (b .bt) i < p .N)
+  pub taken : btAt p (b .bt) (requestRegion p q) v ≡ none → ⊥
+  pub base : Base p (requestRegion p q) (view p b (requestRegion p q)) v f
+  pub asked : Asked p q
+
+-- the frame is programmed, and CT and FST name its segment
+pub record ClusterPut (p : Params) (b : Board) (q : Request) (v f : ℕ) (chip′ ct′ fst′ : List ℕ) : Type 0 where
+  pub chip : chip′ ≡ putPart (frameBytes p) (btAt p (b .bt) (requestRegion p q) v * frames p + f) (newFrame p (view p b (requestRegion p q)) q) (b .chip)
+  pub ct : ct′ ≡ set (b .ct) (requestCluster p q) (segmentOf p v f)
+  pub fst : fst′ ≡ set (b .fst) (requestRegion p q) (segmentOf p v f)
+
+-- "A write reports α × (frames copied + 1) pages programmed"
+abbrev pub acceptedAnswer : Params → ℕ → ℕ → Answer
+acceptedAnswer p copied erases = record { reply = Accepted; programs = p .alpha * (copied + 1); erases = erases }
+
+-- the answer and the board are the outcome's
+pub record Gives (o : Outcome) (a : Answer) (b : Board) : Type 0 where
+  pub answer : a ≡ o .answer
+  pub board : b ≡ o .board

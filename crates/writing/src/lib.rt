@@ -1,0 +1,229 @@
+// Document 01, "Write", on a state that is known to be orderly: the plan, the room that it makes, and the cluster put there.
+ghost use mathlib.Core.Path.{_≡_};
+ghost use mathlib.Core.Bool.{true};
+ghost use mathlib.Core.List.{List, []};
+ghost use Prim.Native.Nat.{ℕ, _+_, _*_, _<_, _≤_};
+ghost use lib.ListN.{length};
+ghost use Rattle.rules.specs.Tables.{boardOf, btAt};
+ghost use Rattle.rules.specs.Pages.{block};
+ghost use Rattle.rules.specs.Regions.{View, viewOf};
+ghost use Rattle.rules.specs.Write.{planOf};
+ghost use Rattle.rules.specs.Replies.{accessReply};
+ghost use Rattle.rules.specs.Calls.{writeCall};
+ghost use Rattle.valid.specs.Shown.{Shows};
+ghost use Rattle.reading.specs.Sectors.{requestOf};
+ghost use Rattle.writing.specs.Plans.{PlanAsked, nextIn, planIs};
+ghost use Rattle.writing.specs.Rooms.{OpenAsked, Opened, ReclaimReady, BlockReclaimed, RoomAsked, RoomMade};
+ghost use Rattle.writing.specs.Clusters.{Standing, ClusterPut, acceptedAnswer, Gives};
+use rules::Answer;
+use rules::PBlock;
+use rules::Params;
+use rules::Reply;
+use rules::VBlock;
+
+// Where a write goes: frame f of the open virtual block; a virtual block that takes a free block; a virtual block that is reclaimed.
+pub enum Planned {
+    Continues(VBlock, usize),
+    Opens(VBlock),
+    Reclaims(VBlock),
+}
+
+// The frame that a plan has made room for, how many frames it copied, and how many blocks it erased.
+pub struct Room {
+    pub vblock: VBlock,
+    pub frame: usize,
+    pub copied: usize,
+    pub erases: u32,
+}
+
+// The frame after the programmed ones of region r's open block; F where there is no open block.
+fn next_frame(p: Params, chip: &[u8], bt: &[u16], fst: &[u16], r: usize) -> usize
+    requires { ⌜ PlanAsked p (now chip) (now bt) (now fst) r ⌝ }
+    ensures { λ f. ⌜ f ≡ nextIn p (now (chip .entry)) (now (bt .entry)) (now (fst .entry)) r ⌝ }
+{
+    let sg = tables::fst_at(fst, r);
+    if sg.0 == 65535 {
+        return sizes::frames(p);
+    }
+    let v = rules::vblock_of(p, sg);
+    let n = tables::bt_at(p, bt, r, v);
+    blocks::filled(p, blocks::block_of(p, chip, n))
+}
+
+// The plan of a write to region r.
+pub fn plan_of(p: Params, chip: &[u8], ct: &[u16], bt: &[u16], fst: &[u16], r: usize) -> Planned
+    requires { ⌜ PlanAsked p (now chip) (now bt) (now fst) r ⌝ }
+    requires { ⌜ length (now ct) ≡ p .C ⌝ }
+    ensures { λ pl. ⌜ planIs pl ≡ planOf p (viewOf p (now (chip .entry)) (now (ct .entry)) (now (bt .entry)) (now (fst .entry)) r) ⌝ }
+{
+    let f = next_frame(p, chip, bt, fst, r);
+    if f < sizes::frames(p) {
+        return Planned::Continues(rules::vblock_of(p, tables::fst_at(fst, r)), f);
+    }
+    let v = choose::lowest_unassigned(p, bt, r);
+    if v.0 != 65535 {
+        return Planned::Opens(v);
+    }
+    Planned::Reclaims(valid::victim(p, chip, ct, bt, r))
+}
+
+// Virtual block v of region r takes the free block.
+fn open_block(p: Params, bt: &mut [u16], bst: &mut [u8], wear: &[u32], r: usize, v: VBlock)
+    requires { ⌜ OpenAsked p (now bt) (now bst) (now wear) r (v .0) ⌝ }
+    ensures { λ _. ⌜ Opened p (now (bt .entry)) (now (bst .entry)) (now (wear .entry)) r (v .0) (now (bt .exit)) (now (bst .exit)) ⌝ }
+{
+    let n = choose::free_block(p, bst, wear);
+    tables::set_bt(p, bt, r, v, n);
+    tables::set_bst(bst, n, 1);
+}
+
+// The free block is taken; the valid frames of virtual block v go to it; v's old block is erased and becomes free. How many were copied.
+fn reclaim_block(
+    p: Params,
+    chip: &mut [u8],
+    ct: &mut [u16],
+    bt: &mut [u16],
+    bst: &mut [u8],
+    wear: &mut [u32],
+    r: usize,
+    v: VBlock,
+) -> usize
+    requires { ⌜ ReclaimReady p (now chip) (now ct) (now bt) (now bst) (now wear) r (v .0) ⌝ }
+    ensures { λ k. ⌜ ((vw : View) → Shows p r (v .0) (block p (now (chip .entry)) (btAt p (now (bt .entry)) r (v .0))) (now (ct .entry)) vw
+        → BlockReclaimed p (now (chip .entry)) (now (ct .entry)) (now (bt .entry)) (now (bst .entry)) (now (wear .entry)) r (v .0) vw (now (chip .exit)) (now (ct .exit)) (now (bt .exit)) (now (bst .exit)) (now (wear .exit)) k) ⌝ }
+{
+    let o = tables::bt_at(p, bt, r, v);
+    let n = choose::free_block(p, bst, wear);
+    let k = reclaim::reclaim(p, chip, ct, wear, o, n, r, v);
+    tables::set_bt(p, bt, r, v, n);
+    tables::set_bst(bst, n, 1);
+    tables::set_bst(bst, o, 0);
+    k
+}
+
+// The plan makes room for one frame.
+fn make_room(
+    p: Params,
+    chip: &mut [u8],
+    ct: &mut [u16],
+    bt: &mut [u16],
+    bst: &mut [u8],
+    wear: &mut [u32],
+    r: usize,
+    pl: Planned,
+) -> Room
+    requires { ⌜ RoomAsked p (now chip) (now ct) (now bt) (now bst) (now wear) r (planIs pl) ⌝ }
+    ensures { λ m. ⌜ ((fst : List ℕ) → RoomMade p (boardOf (now (chip .entry)) (now (ct .entry)) (now (bt .entry)) fst (now (bst .entry)) (now (wear .entry))) r (planIs pl) (m .vblock .0) (m .frame) (m .copied) (m .erases) (now (chip .exit)) (now (ct .exit)) (now (bt .exit)) (now (bst .exit)) (now (wear .exit))) ⌝ }
+{
+    match pl {
+        Planned::Continues(v, f) => Room {
+            vblock: v,
+            frame: f,
+            copied: 0,
+            erases: 0,
+        },
+        Planned::Opens(v) => {
+            open_block(p, bt, bst, wear, r, v);
+            Room {
+                vblock: v,
+                frame: 0,
+                copied: 0,
+                erases: 0,
+            }
+        }
+        Planned::Reclaims(v) => {
+            let k = reclaim_block(p, chip, ct, bt, bst, wear, r, v);
+            Room {
+                vblock: v,
+                frame: k,
+                copied: k,
+                erases: 1,
+            }
+        }
+    }
+}
+
+// The new cluster goes to frame f of virtual block v, its old sectors read where they now stand; CT and FST name its segment.
+fn put_cluster(
+    p: Params,
+    chip: &mut [u8],
+    ct: &mut [u16],
+    bt: &[u16],
+    fst: &mut [u16],
+    lba: usize,
+    count: usize,
+    bytes: &[u8],
+    v: VBlock,
+    f: usize,
+)
+    requires { ⌜ Standing p (boardOf (now chip) (now ct) (now bt) (now fst) [] []) (requestOf lba count (now bytes)) (v .0) f ⌝ }
+    ensures { λ _. ⌜ ClusterPut p (boardOf (now (chip .entry)) (now (ct .entry)) (now (bt .entry)) (now (fst .entry)) [] []) (requestOf lba count (now (bytes .entry))) (v .0) f (now (chip .exit)) (now (ct .exit)) (now (fst .exit)) ⌝ }
+{
+    let c = rules::cluster_of(p, lba);
+    let r = rules::region_of(p, c);
+    let old = reading::find_frame(p, chip, ct, bt, c);
+    let n = tables::bt_at(p, bt, r, v);
+    let to = frames::frame_at(p, n, f);
+    frames::host_frame(
+        chip,
+        p.s,
+        p.alpha,
+        to,
+        old.kept,
+        old.frame,
+        rules::sector_of(p, lba),
+        count,
+        bytes,
+        c,
+    );
+    let sg = rules::segment_of(p, v, f);
+    tables::set_ct(ct, c, sg);
+    tables::set_fst(fst, r, sg);
+}
+
+// What an accepted write answers that copied so many frames and erased so many blocks.
+fn answered(p: Params, copied: usize, erases: u32) -> Answer
+    requires { ⌜ p .alpha ≤ 16 ⌝ }
+    requires { ⌜ copied < 256 ⌝ }
+    ensures { λ a. ⌜ a ≡ acceptedAnswer p copied erases ⌝ }
+{
+    Answer {
+        reply: Reply::Accepted,
+        programs: (p.alpha * (copied + 1)) as u32,
+        erases,
+    }
+}
+
+// The work of a write that has passed its checks: the state is not checked again.
+pub fn write_orderly(
+    p: Params,
+    chip: &mut [u8],
+    ct: &mut [u16],
+    bt: &mut [u16],
+    fst: &mut [u16],
+    bst: &mut [u8],
+    wear: &mut [u32],
+    lba: usize,
+    count: usize,
+    bytes: &[u8],
+) -> Answer
+    requires { ⌜ accessReply p (boardOf (now chip) (now ct) (now bt) (now fst) (now bst) (now wear)) (requestOf lba count (now bytes)) ≡ Reply.Accepted ⌝ }
+    ensures { λ a. ⌜ Gives (writeCall p (boardOf (now (chip .entry)) (now (ct .entry)) (now (bt .entry)) (now (fst .entry)) (now (bst .entry)) (now (wear .entry))) (requestOf lba count (now (bytes .entry)))) a (boardOf (now (chip .exit)) (now (ct .exit)) (now (bt .exit)) (now (fst .exit)) (now (bst .exit)) (now (wear .exit))) ⌝ }
+{
+    let r = rules::region_of(p, rules::cluster_of(p, lba));
+    let pl = plan_of(p, chip, ct, bt, fst, r);
+    let room = make_room(p, chip, ct, bt, bst, wear, r, pl);
+    put_cluster(
+        p,
+        chip,
+        ct,
+        bt,
+        fst,
+        lba,
+        count,
+        bytes,
+        room.vblock,
+        room.frame,
+    );
+    answered(p, room.copied, room.erases)
+}
