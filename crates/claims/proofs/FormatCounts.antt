@@ -35,6 +35,10 @@ erases-good p chip (suc k) =
     one true = (refl, refl)
     one false = (refl, refl)
 
+pub format-programs : (p : Params) (chip : List ℕ) → programsIn (formatOps p chip) ≡ 0
+unfolding formatOps
+format-programs p chip = (erases-good p chip (p .N)) .0
+
 pub format-counts : (p : Params) (b : Board) → replyTo p b format ≡ Accepted → (outcomeOf p b format) .answer ≡ record { reply = Accepted; programs = 0; erases = goodBlocks p (b .chip) }
 unfolding accepts answerOf goodBlocks formatOps
 format-counts p b e =

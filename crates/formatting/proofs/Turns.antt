@@ -163,4 +163,5 @@ module _ (p : Params) (chip bst wear : List ℕ) (a : BlocksAsked p chip bst wea
         bstIs = so .bstIs ∙ rw (q, drop-of-length-le bst {i = p .N} (omega (arith, a .bstLength)), append-nil);
         wearIs = so .wearIs ∙ rw q;
         count = so .count ∙ rw q;
+        few = rw (← q) (so .few);
       }

@@ -3,7 +3,7 @@
 use mathlib.Core.Path.{_≡_}
 use mathlib.Core.Bool.{true, cond}
 use mathlib.Core.List.{List, [], _∷_}
-use Prim.Native.Nat.{ℕ, _+_, _*_, _<_, min}
+use Prim.Native.Nat.{ℕ, _+_, _*_, _≤_, _<_, min}
 use lib.ListN.{length, set, replicate}
 use Rattle.lists.specs.Below.{joinBelow}
 use Rattle.lists.specs.Parts.{putPart}
@@ -36,3 +36,4 @@ pub record BlocksDone (p : Params) (chip wear chip′ bst′ wear′ : List ℕ)
   pub bstIs : bst′ ≡ joinBelow (p .N) (λ n. cond (bad p chip n) 2 0 ∷ [])
   pub wearIs : wear′ ≡ replayWear wear (formatOps p chip)
   pub count : k ≡ erasesIn (formatOps p chip)
+  pub few : k ≤ p .N

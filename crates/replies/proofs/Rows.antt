@@ -5,17 +5,18 @@ use mathlib.Core.Bool.{Bool, true, false}
 use native.Mathlib.Omega.{arith}
 use Prim.Native.Nat.{ℕ, _+_, _*_, _≤_, _<_}
 use native.Mathlib.Nat.{mod-lt, mul-le-mul}
-use borrow.Author.Tests.{eqb-true}
+use borrow.Author.Tests.{eqb-true, lt-ltb, le-ltb}
 use lib.ListN.{length}
 use Rattle.lists.proofs.Tests.{truths}
 use Rattle.rules.specs.declared.Params.{Params}
-use Rattle.rules.specs.declared.Reply.the-variants.{Accepted, BadParameter, WrongLength, BadCount, BadAddress, WrongData, NotOrderly}
+use Rattle.rules.specs.declared.Reply.the-variants.{Accepted, BadParameter, WrongLength, BadCount, BadAddress, WrongData, TooFewBlocks, NotOrderly}
 use Rattle.rules.specs.Parameters.{allowed}
 use Rattle.rules.specs.Numbers.{sectorOf}
 use Rattle.rules.specs.Tables.{Board}
 use Rattle.rules.specs.Orderly.{orderly}
+use Rattle.rules.specs.Format.{goodBlocks}
 use Rattle.rules.specs.Write.{Request}
-use Rattle.rules.specs.Replies.{lengthsFit, badParameter, wrongLength, badCount, badAddress, wrongData, notOrderly, firstRow, accessReply}
+use Rattle.rules.specs.Replies.{lengthsFit, badParameter, wrongLength, badCount, badAddress, wrongData, tooFewBlocks, notOrderly, firstRow, formatReply, accessReply}
 use Rattle.rules.proofs.Sizes.{sizes}
 use Rattle.sizes.specs.Checks.{lengthsAre}
 use Rattle.sizes.proofs.Checks.{lengths-are}
@@ -32,6 +33,9 @@ module _ (p : Params) (fine : allowed p ≡ true) where
 
   pub bytes-low : (count : ℕ) → count ≤ 4294967295 → count * p .s ≤ 2199023255040
   bytes-low count h = mul-le-mul h ((sizes p fine) .sHigh)
+
+  pub vblocks-low : p .mu * p .gamma ≤ 16384
+  vblocks-low = let z = sizes p fine in mul-le-mul (z .muHigh) (z .gammaHigh)
 
 -- ---- the lengths
 
@@ -86,3 +90,24 @@ module _ (p : Params) (b : Board) (q : Request) where
             pub reply-0 : orderly p b ≡ true → Accepted ≡ accessReply p b q
             unfolding accessReply firstRow badParameter wrongLength notOrderly
             reply-0 e = rw (fine, fits, count, address, given, e)
+
+-- ---- the rows of a format
+
+module _ (p : Params) (b : Board) where
+  pub format-1 : allowed p ≡ false → BadParameter ≡ formatReply p b
+  unfolding formatReply firstRow badParameter
+  format-1 e = rw e
+
+  module _ (fine : allowed p ≡ true) where
+    pub format-2 : lengthsFit p b ≡ false → WrongLength ≡ formatReply p b
+    unfolding formatReply firstRow badParameter wrongLength
+    format-2 e = rw (fine, e)
+
+    module _ (fits : lengthsFit p b ≡ true) (k : ℕ) (count : k ≡ goodBlocks p (b .chip)) where
+      pub format-6 : k < p .mu * p .gamma + 1 → TooFewBlocks ≡ formatReply p b
+      unfolding formatReply firstRow badParameter wrongLength tooFewBlocks
+      format-6 h = rw (fine, fits, ← count, lt-ltb k _ h)
+
+      pub format-0 : p .mu * p .gamma + 1 ≤ k → Accepted ≡ formatReply p b
+      unfolding formatReply firstRow badParameter wrongLength tooFewBlocks
+      format-0 h = rw (fine, fits, ← count, le-ltb k _ h)

@@ -1,4 +1,4 @@
-// Document 01, "Reply numbers": the rows of a read and of a write, checked in the table's order.
+// Document 01, "Reply numbers": the rows of a format, and those of a read and of a write, checked in the table's order.
 ghost use mathlib.Core.Path.{_≡_};
 ghost use mathlib.Core.Bool.{true};
 ghost use mathlib.Core.List.{[]};
@@ -6,7 +6,7 @@ ghost use lib.ListN.{length};
 ghost use Rattle.rules.specs.Parameters.{allowed};
 ghost use Rattle.rules.specs.Tables.{boardOf};
 ghost use Rattle.rules.specs.Write.{Request};
-ghost use Rattle.rules.specs.Replies.{badCount, badAddress, wrongData, accessReply};
+ghost use Rattle.rules.specs.Replies.{badCount, badAddress, wrongData, formatReply, accessReply};
 ghost use Rattle.rules.specs.Calls.{answerOf};
 use rules::Answer;
 use rules::Params;
@@ -83,8 +83,40 @@ pub fn access_reply(
     Reply::Accepted
 }
 
-// The answer of a call that is refused: no programs and no erases.
-pub fn refused(r: Reply) -> Answer
+// The reply to a format.
+pub fn format_reply(
+    p: Params,
+    chip: &[u8],
+    ct: &[u16],
+    bt: &[u16],
+    fst: &[u16],
+    bst: &[u8],
+    wear: &[u32],
+) -> Reply
+    ensures { λ r. ⌜ r ≡ formatReply p (boardOf (now (chip .entry)) (now (ct .entry)) (now (bt .entry)) (now (fst .entry)) (now (bst .entry)) (now (wear .entry))) ⌝ }
+{
+    if !sizes::parameters_allowed(p) {
+        return Reply::BadParameter;
+    }
+    if !sizes::lengths_fit(
+        p,
+        chip.len(),
+        ct.len(),
+        bt.len(),
+        fst.len(),
+        bst.len(),
+        wear.len(),
+    ) {
+        return Reply::WrongLength;
+    }
+    if formatting::count_good(p, chip) < p.mu * p.gamma + 1 {
+        return Reply::TooFewBlocks;
+    }
+    Reply::Accepted
+}
+
+// The answer of a call that programs and erases nothing: one that is refused, or a read.
+pub fn idle(r: Reply) -> Answer
     ensures { λ a. ⌜ a ≡ answerOf r [] ⌝ }
 {
     Answer {

@@ -1,0 +1,14 @@
+-- `replies::idle`: nothing is counted over no operations.
+-- Assumes nothing.
+use mathlib.Core.Path.{refl}
+use Rattle.rules.specs.Traces.{programsIn, erasesIn}
+use Rattle.rules.specs.Calls.{answerOf}
+use Rattle.replies.proofs.idle.Statement.{statement}
+use Rattle.replies.proofs.idle.Tie as tie
+
+returns : tie.Need-returns
+unfolding answerOf programsIn erasesIn
+returns c = refl
+
+pub idle-spec : {M : Type 1} → statement M
+idle-spec = tie.close (tie.spec returns)
