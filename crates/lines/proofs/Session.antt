@@ -1,0 +1,78 @@
+-- The document's example: the rules, the grammar and the printed lines together give its whole output, to the byte; and lines of odd forms.
+-- A test that antt computes, and a law that turns it into an equation.
+-- Assumes nothing.
+use mathlib.Core.Path.{_≡_, refl}
+use mathlib.Core.Bool.{true}
+use Rattle.lists.specs.Below.{all-below}
+use Rattle.lists.specs.Parts.{sameList, all-parts}
+use Rattle.lists.proofs.Joins.{sameList→eq}
+use Rattle.rules.specs.Parameters.{all-parameters}
+use Rattle.rules.specs.Tables.{all-tables}
+use Rattle.rules.specs.Pages.{all-pages}
+use Rattle.rules.specs.Regions.{all-regions}
+use Rattle.rules.specs.Orderly.{all-orderly}
+use Rattle.rules.specs.Traces.{all-traces}
+use Rattle.rules.specs.Format.{all-format}
+use Rattle.rules.specs.Write.{all-write}
+use Rattle.rules.specs.Replies.{all-replies}
+use Rattle.rules.specs.Calls.{all-calls}
+use Rattle.rules.specs.BoardT.{all-boardT}
+use Rattle.lines.specs.declared.Line.{Line}
+use Rattle.lines.specs.declared.Line.the-variants.{Write, Read, Other}
+use Rattle.lines.specs.Grammar.{lineOf, all-grammar}
+use Rattle.lines.specs.Output.{all-output}
+use Rattle.lines.specs.Session.{bench, bytesOf, exampleInput, exampleOutput, all-session}
+use Prim.Native.String.{String}
+
+example-test : sameList (bench (bytesOf exampleInput)) (bytesOf exampleOutput) ≡ true
+unfolding all-below all-parts all-parameters all-tables all-pages all-regions all-orderly all-traces all-format all-write all-replies all-calls all-boardT all-grammar all-output all-session
+example-test = refl
+
+-- "The whole output"
+pub example-as-printed : bench (bytesOf exampleInput) ≡ bytesOf exampleOutput
+example-as-printed = sameList→eq (bench (bytesOf exampleInput)) (bytesOf exampleOutput) example-test
+
+-- ---- one line
+
+abbrev pub reads : String → Line
+reads s = lineOf (bytesOf s)
+
+pub write-read : reads "W\t0\t2\t17" ≡ Write 0 2 17
+unfolding all-below all-parts all-grammar all-session
+write-read = refl
+
+pub leading-zeros : reads "R\t0000000004\t02" ≡ Read 4 2
+unfolding all-below all-parts all-grammar all-session
+leading-zeros = refl
+
+pub largest : reads "W\t4294967295\t4294967295\t255" ≡ Write 4294967295 4294967295 255
+unfolding all-below all-parts all-grammar all-session
+largest = refl
+
+pub address-too-large : reads "R\t4294967296\t1" ≡ Other
+unfolding all-below all-parts all-grammar all-session
+address-too-large = refl
+
+pub value-too-large : reads "W\t0\t1\t256" ≡ Other
+unfolding all-below all-parts all-grammar all-session
+value-too-large = refl
+
+pub eleven-digits : reads "R\t00000000004\t1" ≡ Other
+unfolding all-below all-parts all-grammar all-session
+eleven-digits = refl
+
+pub empty-line : reads "" ≡ Other
+unfolding all-below all-parts all-grammar all-session
+empty-line = refl
+
+pub carriage-return : reads "R\t4\t2\r" ≡ Other
+unfolding all-below all-parts all-grammar all-session
+carriage-return = refl
+
+pub spaces : reads "R 4 2" ≡ Other
+unfolding all-below all-parts all-grammar all-session
+spaces = refl
+
+pub empty-field : reads "R\t4\t\t2" ≡ Other
+unfolding all-below all-parts all-grammar all-session
+empty-field = refl

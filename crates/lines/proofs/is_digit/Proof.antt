@@ -1,0 +1,13 @@
+-- `lines::is_digit` meets its contract: the two tests are the definition.
+-- Assumes nothing.
+use mathlib.Core.Path.{refl}
+use Rattle.lines.specs.Grammar.{isDigit}
+use Rattle.lines.proofs.is_digit.Statement.{statement}
+use Rattle.lines.proofs.is_digit.Tie as tie
+
+returns : tie.Need-returns
+unfolding isDigit
+returns c = refl
+
+pub is-digit-spec : {M : Type 1} → statement M
+is-digit-spec = tie.close (tie.spec returns)

@@ -1,0 +1,4 @@
+pub mod Grammar
+pub mod Output
+pub mod Held
+pub mod Session
