@@ -1,0 +1,113 @@
+// The C interface: document 01's calls with the parameters one by one, and the answer as one number.
+ghost use mathlib.Core.Path.{_≡_};
+ghost use mathlib.Core.List.{List, []};
+ghost use Prim.Native.Nat.{_<_};
+ghost use Rattle.rules.specs.Tables.{boardOf};
+ghost use Rattle.rules.specs.Calls.{formatCall, readCall, writeCall};
+ghost use Rattle.reading.specs.Sectors.{requestOf};
+ghost use Rattle.cnftl.specs.Packed.{paramsOf, packed, Given};
+use rules::Answer;
+use rules::Params;
+
+// The parameters as one.
+fn params(s: u32, alpha: u32, beta: u32, d: u32, mu: u32, gamma: u32, c: u32, n: u32) -> Params
+    ensures { λ p. ⌜ p ≡ paramsOf s alpha beta d mu gamma c n ⌝ }
+{
+    Params {
+        s: s as usize,
+        alpha: alpha as usize,
+        beta: beta as usize,
+        d: d as usize,
+        mu: mu as usize,
+        gamma: gamma as usize,
+        C: c as usize,
+        N: n as usize,
+    }
+}
+
+// The answer as one number: reply + 65,536 × programs + 4,294,967,296 × erases.
+fn pack(a: Answer) -> u64
+    requires { ⌜ a .programs < 65536 ⌝ }
+    ensures { λ word. ⌜ word ≡ packed a ⌝ }
+{
+    let reply = a.reply;
+    rules::number(reply) as u64 + 65536 * (a.programs as u64) + 4294967296 * (a.erases as u64)
+}
+
+// Document 01's format.
+#[no_mangle]
+pub extern "C" fn cnftl_format(
+    s: u32,
+    alpha: u32,
+    beta: u32,
+    d: u32,
+    mu: u32,
+    gamma: u32,
+    c: u32,
+    n: u32,
+    chip: &mut [u8],
+    ct: &mut [u16],
+    bt: &mut [u16],
+    fst: &mut [u16],
+    bst: &mut [u8],
+    wear: &mut [u32],
+) -> u64
+    ensures { λ word. ⌜ Given (formatCall (paramsOf s alpha beta d mu gamma c n) (boardOf (now (chip .entry)) (now (ct .entry)) (now (bt .entry)) (now (fst .entry)) (now (bst .entry)) (now (wear .entry)))) word [] (boardOf (now (chip .exit)) (now (ct .exit)) (now (bt .exit)) (now (fst .exit)) (now (bst .exit)) (now (wear .exit))) ⌝ }
+{
+    let p = params(s, alpha, beta, d, mu, gamma, c, n);
+    pack(layer::format(p, chip, ct, bt, fst, bst, wear))
+}
+
+// Document 01's read.
+#[no_mangle]
+pub extern "C" fn cnftl_read(
+    s: u32,
+    alpha: u32,
+    beta: u32,
+    d: u32,
+    mu: u32,
+    gamma: u32,
+    c: u32,
+    n: u32,
+    chip: &[u8],
+    ct: &[u16],
+    bt: &[u16],
+    fst: &[u16],
+    bst: &[u8],
+    wear: &[u32],
+    lba: u32,
+    count: u32,
+    bytes: &mut [u8],
+) -> u64
+    ensures { λ word. ⌜ Given (readCall (paramsOf s alpha beta d mu gamma c n) (boardOf (now (chip .entry)) (now (ct .entry)) (now (bt .entry)) (now (fst .entry)) (now (bst .entry)) (now (wear .entry))) (requestOf lba count (now (bytes .entry)))) word (now (bytes .exit)) (boardOf (now (chip .entry)) (now (ct .entry)) (now (bt .entry)) (now (fst .entry)) (now (bst .entry)) (now (wear .entry))) ⌝ }
+{
+    let p = params(s, alpha, beta, d, mu, gamma, c, n);
+    pack(layer::read(p, chip, ct, bt, fst, bst, wear, lba, count, bytes))
+}
+
+// Document 01's write.
+#[no_mangle]
+pub extern "C" fn cnftl_write(
+    s: u32,
+    alpha: u32,
+    beta: u32,
+    d: u32,
+    mu: u32,
+    gamma: u32,
+    c: u32,
+    n: u32,
+    chip: &mut [u8],
+    ct: &mut [u16],
+    bt: &mut [u16],
+    fst: &mut [u16],
+    bst: &mut [u8],
+    wear: &mut [u32],
+    lba: u32,
+    count: u32,
+    bytes: &[u8],
+) -> u64
+    ensures { λ word. ⌜ Given (writeCall (paramsOf s alpha beta d mu gamma c n) (boardOf (now (chip .entry)) (now (ct .entry)) (now (bt .entry)) (now (fst .entry)) (now (bst .entry)) (now (wear .entry))) (requestOf lba count (now (bytes .entry)))) word (now (bytes .entry)) (boardOf (now (chip .exit)) (now (ct .exit)) (now (bt .exit)) (now (fst .exit)) (now (bst .exit)) (now (wear .exit))) ⌝ }
+{
+    let p = params(s, alpha, beta, d, mu, gamma, c, n);
+    pack(layer::write(p, chip, ct, bt, fst, bst, wear, lba, count, bytes))
+}
