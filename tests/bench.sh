@@ -3,22 +3,13 @@
 # and compares what it prints to the byte. `rt check bench` links it. The last line is 'N passed, M failed'.
 set -u
 cd "$(dirname "$0")/.."
-home=$(cd "$(dirname "$(rt doc)")/.." && pwd -P) # the toolchain's folder
-own=$home/on/$(uname -m)/toolchain
 room=$(mktemp -d)
 trap 'rm -rf "$room"' EXIT
 passed=0 failed=0
 
-# The program is for x86-64, and runs under the toolchain's own loader and C library; on another processor under its emulator too.
-bench() {
-    local emulator=()
-    if [ -x "$own/bin/qemu-x86_64" ]; then emulator=("$own/bin/qemu-x86_64"); fi
-    ${emulator[@]+"${emulator[@]}"} "$own/lib/ld-linux-x86-64.so.2" --library-path "$own/lib" target/bin/bench
-}
-
 # Compares what the program prints for standard input with a file.
 compare() { # NAME EXPECTED
-    if bench >"$room/printed" 2>"$room/said" && cmp "$room/printed" "$2"; then
+    if tools/bench-program >"$room/printed" 2>"$room/said" && cmp "$room/printed" "$2"; then
         passed=$((passed + 1))
     else
         echo "$1: not what $2 has"

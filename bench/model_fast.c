@@ -1,0 +1,573 @@
+/*
+ * model_fast.c - document 01 in plain C, written for speed.
+ *
+ * The orderly check passes once over the chip.  It reads only the spare bytes
+ * of programmed pages, compares erased pages by words, and searches nothing:
+ *   - The clusters in a block's frames fix its region, so that a block can be
+ *     named twice only within one region.
+ *   - If all named blocks are used and differ, then "used exactly if named"
+ *     says that as many blocks are used as are named.
+ *   - A cluster has at most one valid frame, and that frame's segment is the
+ *     one in CT.  So CT is orderly exactly if there are as many valid frames
+ *     as entries that are not none.
+ */
+#include "model_fast.h"
+
+#include <stdbool.h>
+#include <string.h>
+
+enum { SPARE = 16, NONE = 65535, FREE = 0, USED = 1, RESERVED = 2 };
+enum {
+    ACCEPTED, BAD_PARAMETER, WRONG_LENGTH, BAD_COUNT, BAD_ADDRESS, WRONG_DATA,
+    TOO_FEW_BLOCKS, NOT_ORDERLY
+};
+
+/* Parameters, sizes worked out from them, and the state as it is read. */
+struct board {
+    uint32_t s, alpha, beta, d, mu, gamma, c, n;
+    uint32_t frames;
+    size_t page, frame, block; /* bytes of each */
+    const uint8_t *chip;
+    const uint16_t *ct, *bt, *fst;
+    const uint8_t *bst;
+    const uint32_t *wear;
+};
+
+/* The state as format and write change it. */
+struct lent {
+    uint8_t *chip;
+    uint16_t *ct, *bt, *fst;
+    uint8_t *bst;
+    uint32_t *wear;
+};
+
+/* Whether all bytes are 255, by words of eight. */
+static bool all_ones(const uint8_t *p, size_t len)
+{
+    for (; len >= 64; p += 64, len -= 64) {
+        uint64_t w[8];
+
+        memcpy(w, p, 64);
+        if ((w[0] & w[1] & w[2] & w[3] & w[4] & w[5] & w[6] & w[7])
+            != UINT64_MAX)
+            return false;
+    }
+    for (; len > 0; p++, len--)
+        if (*p != 255)
+            return false;
+    return true;
+}
+
+/* The cluster number in the spare bytes of a page. */
+static uint32_t cluster_in(const uint8_t *spare)
+{
+    return spare[0] | (uint32_t)spare[1] << 8 | (uint32_t)spare[2] << 16
+         | (uint32_t)spare[3] << 24;
+}
+
+/* The spare bytes of a cluster's first page; byte 4 is the place. */
+static void make_spare(uint8_t spare[SPARE], uint32_t cluster)
+{
+    memset(spare, 255, SPARE);
+    spare[0] = (uint8_t)cluster;
+    spare[1] = (uint8_t)(cluster >> 8);
+    spare[2] = (uint8_t)(cluster >> 16);
+    spare[3] = (uint8_t)(cluster >> 24);
+    spare[4] = 0;
+    spare[6] = 0;
+}
+
+/* Offset of a frame in the chip. */
+static size_t frame_at(const struct board *b, uint32_t block, uint32_t frame)
+{
+    return block * b->block + frame * b->frame;
+}
+
+/* The spare bytes of a frame's first page. */
+static const uint8_t *spare_at(const struct board *b, uint32_t block,
+                               uint32_t frame)
+{
+    return b->chip + frame_at(b, block, frame) + b->s;
+}
+
+/* ==== The orderly check ================================================ */
+
+/* Whether all pages of a frame have the spare bytes of the cluster. */
+static bool spares_right(const struct board *b, const uint8_t *spare,
+                         uint32_t cluster)
+{
+    uint8_t right[SPARE];
+
+    make_spare(right, cluster);
+    for (uint32_t place = 0; place < b->alpha; place++) {
+        right[4] = (uint8_t)place;
+        if (memcmp(spare, right, SPARE) != 0)
+            return false;
+        spare += b->page;
+    }
+    return true;
+}
+
+/* How many of a segment's first k frames, with these clusters, are valid. */
+static uint32_t valid_in_segment(const struct board *b, const uint32_t *cluster,
+                                 uint32_t k, uint32_t segment)
+{
+    uint32_t valid = 0;
+
+    for (uint32_t i = 0; i < k; i++) {
+        uint32_t later = i + 1;
+
+        if (b->ct[cluster[i]] != segment)
+            continue;
+        while (later < k && cluster[later] != cluster[i])
+            later++;
+        valid += later == k;
+    }
+    return valid;
+}
+
+/* The programmed frames of a used block, or 0 if it is not orderly.  Adds its
+   valid frames to *valid. */
+static uint32_t check_used_block(const struct board *b, uint32_t region,
+                                 uint32_t virtual_block, uint32_t block,
+                                 uint32_t *valid)
+{
+    uint32_t cluster[16], k, held = 0;
+
+    for (k = 0; k < b->frames; k++) {
+        const uint8_t *spare = spare_at(b, block, k);
+        uint32_t x = cluster_in(spare);
+
+        if (spare[6] != 0)
+            break;
+        if (x >= b->c || x % b->mu != region || !spares_right(b, spare, x))
+            return 0;
+        cluster[held++] = x;
+        if (held == b->beta) {
+            *valid += valid_in_segment(b, cluster, held,
+                                       virtual_block * b->d + k / b->beta);
+            held = 0;
+        }
+    }
+    if (held > 0)
+        *valid += valid_in_segment(b, cluster, held,
+                                   virtual_block * b->d + k / b->beta);
+    if (!all_ones(b->chip + frame_at(b, block, k), (b->frames - k) * b->frame))
+        return 0;
+    return k;
+}
+
+/* Whether a region's blocks and its FST entry are orderly.  Adds its blocks to
+   *named and its valid frames to *valid. */
+static bool check_region(const struct board *b, uint32_t region,
+                         uint32_t *named, uint32_t *valid)
+{
+    const uint16_t *bt = b->bt + (size_t)region * b->gamma;
+    uint32_t segment = b->fst[region], open = segment / b->d;
+    uint32_t blocks = 0;
+    bool found = false;
+
+    for (uint32_t v = 0; v < b->gamma; v++) {
+        uint32_t k;
+
+        if (bt[v] == NONE)
+            continue;
+        if (bt[v] >= b->n || b->bst[bt[v]] != USED)
+            return false;
+        for (uint32_t u = 0; u < v; u++)
+            if (bt[u] == bt[v])
+                return false;
+        k = check_used_block(b, region, v, bt[v], valid);
+        if (k == 0 || (k < b->frames && v != open))
+            return false;
+        if (v == open && segment == v * b->d + (k - 1) / b->beta)
+            found = true;
+        blocks++;
+    }
+    *named += blocks;
+    return blocks == 0 ? segment == NONE : found;
+}
+
+/* Whether BST is orderly, where this many different blocks are named, and the
+   free blocks are erased. */
+static bool check_blocks(const struct board *b, uint32_t named)
+{
+    uint32_t used = 0, kept = 0;
+
+    for (uint32_t i = 0; i < b->n; i++) {
+        if (b->bst[i] > RESERVED)
+            return false;
+        used += b->bst[i] == USED;
+        kept += b->bst[i] != RESERVED;
+        if (b->bst[i] == FREE && !all_ones(b->chip + i * b->block, b->block))
+            return false;
+    }
+    return used == named && kept > b->mu * b->gamma;
+}
+
+/* CT entries that are not none. */
+static uint32_t ct_entries(const struct board *b)
+{
+    uint32_t entries = 0;
+
+    for (uint32_t x = 0; x < b->c; x++)
+        entries += b->ct[x] != NONE;
+    return entries;
+}
+
+/* Whether the state is orderly. */
+static bool orderly(const struct board *b)
+{
+    uint32_t named = 0, valid = 0;
+
+    for (uint32_t r = 0; r < b->mu; r++)
+        if (!check_region(b, r, &named, &valid))
+            return false;
+    return valid == ct_entries(b) && check_blocks(b, named);
+}
+
+/* ==== Refusals ========================================================= */
+
+/* Whether the parameters are allowed. */
+static bool parameters_allowed(const struct board *b)
+{
+    return b->s - 16 <= 496 && b->alpha - 1 <= 15 && b->beta - 1 <= 15
+        && b->d - 1 <= 15 && b->mu - 1 <= 1023 && b->gamma - 1 <= 15
+        && b->c - 1 <= 1048575 && b->n - 1 <= 65534
+        && b->alpha * b->frames <= 256
+        && (b->c + b->mu - 1) / b->mu <= b->gamma * b->frames - 1;
+}
+
+/* The reply to parameters and lengths. */
+static uint32_t refuse_board(const struct board *b, size_t chip_len,
+                             size_t ct_len, size_t bt_len, size_t fst_len,
+                             size_t bst_len, size_t wear_len)
+{
+    if (!parameters_allowed(b))
+        return BAD_PARAMETER;
+    if (chip_len != (uint64_t)b->n * (b->alpha * b->frames) * (b->s + SPARE)
+        || ct_len != b->c || bt_len != b->mu * b->gamma || fst_len != b->mu
+        || bst_len != b->n || wear_len != b->n)
+        return WRONG_LENGTH;
+    return ACCEPTED;
+}
+
+/* The reply to a request on a board of right lengths. */
+static uint32_t refuse_request(const struct board *b, uint32_t lba,
+                               uint32_t count, size_t data_len)
+{
+    if (count == 0 || count > b->alpha - lba % b->alpha)
+        return BAD_COUNT;
+    if (lba >= b->c * b->alpha)
+        return BAD_ADDRESS;
+    if (data_len != (size_t)count * b->s)
+        return WRONG_DATA;
+    return orderly(b) ? ACCEPTED : NOT_ORDERLY;
+}
+
+/* The parameters with the sizes that follow from them. */
+static struct board make_board(uint32_t s, uint32_t alpha, uint32_t beta,
+                               uint32_t d, uint32_t mu, uint32_t gamma,
+                               uint32_t c, uint32_t n)
+{
+    struct board b = { .s = s, .alpha = alpha, .beta = beta, .d = d, .mu = mu,
+                       .gamma = gamma, .c = c, .n = n };
+
+    b.frames = beta * d;
+    b.page = (size_t)s + SPARE;
+    b.frame = alpha * b.page;
+    b.block = b.frames * b.frame;
+    return b;
+}
+
+/* reply + 65,536 * programs + 4,294,967,296 * erases */
+static uint64_t answer(uint32_t reply, uint32_t programs, uint32_t erases)
+{
+    return reply | (uint64_t)programs << 16 | (uint64_t)erases << 32;
+}
+
+/* ==== Steps ============================================================ */
+
+/* Offset of the cluster's valid frame, or SIZE_MAX if CT has none. */
+static size_t valid_frame(const struct board *b, uint32_t cluster)
+{
+    uint32_t segment = b->ct[cluster], block, frame;
+
+    if (segment == NONE)
+        return SIZE_MAX;
+    block = b->bt[(size_t)(cluster % b->mu) * b->gamma + segment / b->d];
+    frame = segment % b->d * b->beta + b->beta - 1;
+    while (cluster_in(spare_at(b, block, frame)) != cluster)
+        frame--;
+    return frame_at(b, block, frame);
+}
+
+/* Erases a block and counts it. */
+static void erase(const struct board *b, const struct lent *l, uint32_t block)
+{
+    memset(l->chip + block * b->block, 255, b->block);
+    l->wear[block] += l->wear[block] != UINT32_MAX;
+    l->bst[block] = FREE;
+}
+
+/* The free block of lowest wear, the lowest on a tie. */
+static uint32_t free_block(const struct board *b)
+{
+    uint32_t best = NONE;
+
+    for (uint32_t i = 0; i < b->n; i++)
+        if (b->bst[i] == FREE && (best == NONE || b->wear[i] < b->wear[best]))
+            best = i;
+    return best;
+}
+
+/* Lists the valid frames of a full virtual block in order; returns how many. */
+static uint32_t list_valid(const struct board *b, uint32_t region,
+                           uint32_t virtual_block, uint8_t *list)
+{
+    uint32_t block = b->bt[(size_t)region * b->gamma + virtual_block];
+    uint32_t cluster[16], valid = 0;
+
+    for (uint32_t first = 0; first < b->frames; first += b->beta) {
+        uint32_t segment = virtual_block * b->d + first / b->beta;
+
+        for (uint32_t i = 0; i < b->beta; i++)
+            cluster[i] = cluster_in(spare_at(b, block, first + i));
+        for (uint32_t i = 0; i < b->beta; i++) {
+            uint32_t later = i + 1;
+
+            if (b->ct[cluster[i]] != segment)
+                continue;
+            while (later < b->beta && cluster[later] != cluster[i])
+                later++;
+            if (later == b->beta)
+                list[valid++] = (uint8_t)(first + i);
+        }
+    }
+    return valid;
+}
+
+/* The virtual block with fewest valid frames, which are listed. */
+static uint32_t choose_victim(const struct board *b, uint32_t region,
+                              uint8_t list[256], uint32_t *valid)
+{
+    uint8_t other[256];
+    uint32_t victim = 0;
+
+    *valid = list_valid(b, region, 0, list);
+    for (uint32_t v = 1; v < b->gamma; v++) {
+        uint32_t here = list_valid(b, region, v, other);
+
+        if (here < *valid) {
+            victim = v;
+            *valid = here;
+            memcpy(list, other, here);
+        }
+    }
+    return victim;
+}
+
+/* Copies the victim's valid frames, with their spare bytes, to a block; CT
+   follows. */
+static void copy_frames(const struct board *b, const struct lent *l,
+                        uint32_t victim, uint32_t old, uint32_t new_block,
+                        const uint8_t *list, uint32_t copied)
+{
+    for (uint32_t i = 0; i < copied; i++) {
+        uint32_t cluster = cluster_in(spare_at(b, old, list[i]));
+
+        memcpy(l->chip + frame_at(b, new_block, i),
+               b->chip + frame_at(b, old, list[i]), b->frame);
+        l->ct[cluster] = (uint16_t)(victim * b->d + i / b->beta);
+    }
+}
+
+/* Where a write goes, and what it takes. */
+struct target {
+    uint32_t virtual_block, block, frame;
+    uint32_t copied;
+    uint32_t victim_block; /* to be erased after the write, or NONE */
+};
+
+/* The lowest erased frame of a region's open block, if there is one. */
+static bool open_frame(const struct board *b, uint32_t region,
+                       struct target *t)
+{
+    uint32_t segment = b->fst[region], end;
+
+    if (segment == NONE)
+        return false;
+    t->virtual_block = segment / b->d;
+    t->block = b->bt[(size_t)region * b->gamma + t->virtual_block];
+    t->frame = segment % b->d * b->beta + 1;
+    end = (segment % b->d + 1) * b->beta;
+    while (t->frame < end && spare_at(b, t->block, t->frame)[6] == 0)
+        t->frame++;
+    return t->frame < b->frames;
+}
+
+/* Finds the frame of a write: in the open block, in a new one, or after the
+   copies of a reclaim. */
+static struct target find_target(const struct board *b, const struct lent *l,
+                                 uint32_t region)
+{
+    struct target t = { 0, NONE, 0, 0, NONE };
+    uint16_t *bt = l->bt + (size_t)region * b->gamma;
+    uint8_t list[256];
+
+    if (open_frame(b, region, &t))
+        return t;
+    t.block = free_block(b);
+    t.frame = t.virtual_block = 0;
+    while (t.virtual_block < b->gamma && bt[t.virtual_block] != NONE)
+        t.virtual_block++;
+    if (t.virtual_block == b->gamma) {
+        t.virtual_block = choose_victim(b, region, list, &t.copied);
+        t.victim_block = bt[t.virtual_block];
+        t.frame = t.copied;
+        copy_frames(b, l, t.virtual_block, t.victim_block, t.block, list,
+                    t.copied);
+    }
+    bt[t.virtual_block] = (uint16_t)t.block;
+    l->bst[t.block] = USED;
+    return t;
+}
+
+/* Programs an erased frame with the old cluster, or with the spare bytes alone
+   if there is none: its data bytes are 255 already. */
+static void put_cluster(const struct board *b, uint8_t *to, const uint8_t *old,
+                        uint32_t cluster)
+{
+    uint8_t spare[SPARE];
+
+    if (old != NULL) {
+        memcpy(to, old, b->frame);
+        return;
+    }
+    make_spare(spare, cluster);
+    for (uint32_t place = 0; place < b->alpha; place++) {
+        spare[4] = (uint8_t)place;
+        memcpy(to + place * b->page + b->s, spare, SPARE);
+    }
+}
+
+/* The steps of a write; the victim is erased last, when all copies stand. */
+static uint64_t write_steps(const struct board *b, const struct lent *l,
+                            uint32_t lba, uint32_t count, const uint8_t *data)
+{
+    uint32_t cluster = lba / b->alpha, region = cluster % b->mu, segment;
+    size_t old = valid_frame(b, cluster);
+    struct target t = find_target(b, l, region);
+    uint8_t *to = l->chip + frame_at(b, t.block, t.frame);
+
+    put_cluster(b, to, old == SIZE_MAX ? NULL : b->chip + old, cluster);
+    for (uint32_t i = 0; i < count; i++)
+        memcpy(to + (lba % b->alpha + i) * b->page, data + (size_t)i * b->s,
+               b->s);
+    if (t.victim_block != NONE)
+        erase(b, l, t.victim_block);
+    segment = t.virtual_block * b->d + t.frame / b->beta;
+    l->ct[cluster] = (uint16_t)segment;
+    l->fst[region] = (uint16_t)segment;
+    return answer(ACCEPTED, b->alpha * (t.copied + 1), t.victim_block != NONE);
+}
+
+/* ==== The three calls ================================================== */
+
+/* Erases the good blocks, reserves the bad ones and clears the tables. */
+uint64_t fast_format(uint32_t s, uint32_t alpha, uint32_t beta, uint32_t d,
+                     uint32_t mu, uint32_t gamma, uint32_t c, uint32_t n,
+                     uint8_t *chip, size_t chip_len,
+                     uint16_t *ct, size_t ct_len,
+                     uint16_t *bt, size_t bt_len,
+                     uint16_t *fst, size_t fst_len,
+                     uint8_t *bst, size_t bst_len,
+                     uint32_t *wear, size_t wear_len)
+{
+    struct board b = make_board(s, alpha, beta, d, mu, gamma, c, n);
+    struct lent l = { chip, ct, bt, fst, bst, wear };
+    uint32_t reply = refuse_board(&b, chip_len, ct_len, bt_len, fst_len,
+                                  bst_len, wear_len), good = 0;
+
+    if (reply != ACCEPTED)
+        return answer(reply, 0, 0);
+    for (uint32_t i = 0; i < n; i++)
+        good += chip[i * b.block + s + 5] == 255;
+    if (good <= mu * gamma)
+        return answer(TOO_FEW_BLOCKS, 0, 0);
+    for (uint32_t i = 0; i < n; i++)
+        if (chip[i * b.block + s + 5] == 255)
+            erase(&b, &l, i);
+        else
+            bst[i] = RESERVED;
+    memset(ct, 255, ct_len * sizeof *ct);
+    memset(bt, 255, bt_len * sizeof *bt);
+    memset(fst, 255, fst_len * sizeof *fst);
+    return answer(ACCEPTED, 0, good);
+}
+
+/* Copies the sectors of the valid frame, or fills with 255. */
+uint64_t fast_read(uint32_t s, uint32_t alpha, uint32_t beta, uint32_t d,
+                   uint32_t mu, uint32_t gamma, uint32_t c, uint32_t n,
+                   const uint8_t *chip, size_t chip_len,
+                   const uint16_t *ct, size_t ct_len,
+                   const uint16_t *bt, size_t bt_len,
+                   const uint16_t *fst, size_t fst_len,
+                   const uint8_t *bst, size_t bst_len,
+                   const uint32_t *wear, size_t wear_len,
+                   uint32_t lba, uint32_t count,
+                   uint8_t *data, size_t data_len)
+{
+    struct board b = make_board(s, alpha, beta, d, mu, gamma, c, n);
+    uint32_t reply = refuse_board(&b, chip_len, ct_len, bt_len, fst_len,
+                                  bst_len, wear_len);
+    size_t frame;
+
+    b.chip = chip;
+    b.ct = ct;
+    b.bt = bt;
+    b.fst = fst;
+    b.bst = bst;
+    b.wear = wear;
+    if (reply == ACCEPTED)
+        reply = refuse_request(&b, lba, count, data_len);
+    if (reply != ACCEPTED)
+        return answer(reply, 0, 0);
+    frame = valid_frame(&b, lba / alpha);
+    if (frame == SIZE_MAX)
+        memset(data, 255, data_len);
+    for (uint32_t i = 0; i < count && frame != SIZE_MAX; i++)
+        memcpy(data + (size_t)i * s, chip + frame + (lba % alpha + i) * b.page,
+               s);
+    return answer(ACCEPTED, 0, 0);
+}
+
+/* Refuses or makes the steps of a write. */
+uint64_t fast_write(uint32_t s, uint32_t alpha, uint32_t beta, uint32_t d,
+                    uint32_t mu, uint32_t gamma, uint32_t c, uint32_t n,
+                    uint8_t *chip, size_t chip_len,
+                    uint16_t *ct, size_t ct_len,
+                    uint16_t *bt, size_t bt_len,
+                    uint16_t *fst, size_t fst_len,
+                    uint8_t *bst, size_t bst_len,
+                    uint32_t *wear, size_t wear_len,
+                    uint32_t lba, uint32_t count,
+                    const uint8_t *data, size_t data_len)
+{
+    struct board b = make_board(s, alpha, beta, d, mu, gamma, c, n);
+    struct lent l = { chip, ct, bt, fst, bst, wear };
+    uint32_t reply = refuse_board(&b, chip_len, ct_len, bt_len, fst_len,
+                                  bst_len, wear_len);
+
+    b.chip = chip;
+    b.ct = ct;
+    b.bt = bt;
+    b.fst = fst;
+    b.bst = bst;
+    b.wear = wear;
+    if (reply == ACCEPTED)
+        reply = refuse_request(&b, lba, count, data_len);
+    if (reply != ACCEPTED)
+        return answer(reply, 0, 0);
+    return write_steps(&b, &l, lba, count, data);
+}

@@ -1,0 +1,396 @@
+/*
+ * speed.c - times cnftl_* of the linked archive against fast_*, in one run.
+ *
+ * Each side has its own copy of a board, and the same calls go to both in
+ * turn, so that both meet the same load of the machine.  Printed are the
+ * median time of a call, the ratio product/C of the medians, and the ratio of
+ * the best times, which other work on the machine disturbs less.  Answers and
+ * boards must be equal in the end.
+ */
+#define _POSIX_C_SOURCE 200809L
+#undef NDEBUG
+#include "cnftl.h"
+#include "model_fast.h"
+
+#include <assert.h>
+#include <stdio.h>
+#include <stdlib.h>
+#include <string.h>
+#include <time.h>
+
+enum { MOST_CALLS = 20000, FEWEST_CALLS = 15 };
+static const double row_seconds = 0.6; /* time for one row, if calls allow */
+
+/* ==== Time ============================================================= */
+
+/* Seconds on a clock that only goes forward. */
+static double now(void)
+{
+    struct timespec t;
+
+    clock_gettime(CLOCK_MONOTONIC, &t);
+    return (double)t.tv_sec + 1e-9 * (double)t.tv_nsec;
+}
+
+/* The times of one sort of call on one side. */
+struct times {
+    size_t calls;
+    double seconds[MOST_CALLS];
+};
+
+/* Order of two times, for qsort. */
+static int by_time(const void *a, const void *b)
+{
+    double x = *(const double *)a, y = *(const double *)b;
+
+    return (x > y) - (x < y);
+}
+
+/* The median of the times. */
+static double median(struct times *t)
+{
+    qsort(t->seconds, t->calls, sizeof t->seconds[0], by_time);
+    return t->seconds[t->calls / 2];
+}
+
+/* Keeps one more time. */
+static void add_time(struct times *t, double seconds)
+{
+    if (t->calls < MOST_CALLS)
+        t->seconds[t->calls++] = seconds;
+}
+
+/* What it costs to look at the clock: the median of many looks. */
+static double clock_cost(void)
+{
+    static struct times t;
+
+    while (t.calls < MOST_CALLS) {
+        double start = now();
+
+        add_time(&t, now() - start);
+    }
+    return median(&t);
+}
+
+/* ==== The calls of both sides ========================================== */
+
+static struct cnftl_board product, plain;
+static struct times of_product[2], of_plain[2];
+static uint8_t data[2][16 * 512];
+
+/* fast_format with a board. */
+static uint64_t plain_format(const struct cnftl_board *b)
+{
+    const struct cnftl_params *p = &b->params;
+
+    return fast_format(p->s, p->alpha, p->beta, p->d, p->mu, p->gamma, p->c,
+                       p->n, b->chip, cnftl_chip_bytes(p),
+                       b->ct, cnftl_ct_entries(p), b->bt, cnftl_bt_entries(p),
+                       b->fst, cnftl_fst_entries(p),
+                       b->bst, cnftl_bst_entries(p),
+                       b->wear, cnftl_wear_entries(p));
+}
+
+/* fast_read with a board. */
+static uint64_t plain_read(const struct cnftl_board *b, uint32_t lba,
+                           uint32_t count, uint8_t *to, size_t len)
+{
+    const struct cnftl_params *p = &b->params;
+
+    return fast_read(p->s, p->alpha, p->beta, p->d, p->mu, p->gamma, p->c,
+                     p->n, b->chip, cnftl_chip_bytes(p),
+                     b->ct, cnftl_ct_entries(p), b->bt, cnftl_bt_entries(p),
+                     b->fst, cnftl_fst_entries(p), b->bst,
+                     cnftl_bst_entries(p), b->wear, cnftl_wear_entries(p),
+                     lba, count, to, len);
+}
+
+/* fast_write with a board. */
+static uint64_t plain_write(const struct cnftl_board *b, uint32_t lba,
+                            uint32_t count, const uint8_t *from, size_t len)
+{
+    const struct cnftl_params *p = &b->params;
+
+    return fast_write(p->s, p->alpha, p->beta, p->d, p->mu, p->gamma, p->c,
+                      p->n, b->chip, cnftl_chip_bytes(p),
+                      b->ct, cnftl_ct_entries(p), b->bt, cnftl_bt_entries(p),
+                      b->fst, cnftl_fst_entries(p), b->bst,
+                      cnftl_bst_entries(p), b->wear, cnftl_wear_entries(p),
+                      lba, count, from, len);
+}
+
+/* One call on both sides, timed; writes with a reclaim are kept apart. */
+static void time_call(char kind, uint32_t lba)
+{
+    size_t len = product.params.s;
+    double start = now(), middle, end;
+    uint64_t a, b;
+
+    a = kind == 'F' ? cnftl_board_format(&product)
+      : kind == 'R' ? cnftl_board_read(&product, lba, 1, data[0], len)
+                    : cnftl_board_write(&product, lba, 1, data[0], len);
+    middle = now();
+    b = kind == 'F' ? plain_format(&plain)
+      : kind == 'R' ? plain_read(&plain, lba, 1, data[1], len)
+                    : plain_write(&plain, lba, 1, data[1], len);
+    end = now();
+    assert(a == b && cnftl_reply_of(a) == CNFTL_ACCEPTED);
+    assert(memcmp(data[0], data[1], len) == 0);
+    add_time(&of_product[kind == 'W' && cnftl_erases_of(a)], middle - start);
+    add_time(&of_plain[kind == 'W' && cnftl_erases_of(a)], end - middle);
+}
+
+/* ==== The boards ======================================================= */
+
+/* Memory or the end of the run. */
+static void *get_memory(size_t bytes)
+{
+    void *p = malloc(bytes);
+
+    if (p == NULL) {
+        fprintf(stderr, "speed: no memory for %lu bytes\n",
+                (unsigned long)bytes);
+        exit(2);
+    }
+    return p;
+}
+
+/* A new chip and its tables. */
+static struct cnftl_board new_board(const struct cnftl_params *p)
+{
+    struct cnftl_board b = { *p, NULL, NULL, NULL, NULL, NULL, NULL };
+
+    b.chip = get_memory(cnftl_chip_bytes(p));
+    b.ct = get_memory(cnftl_ct_entries(p) * sizeof *b.ct);
+    b.bt = get_memory(cnftl_bt_entries(p) * sizeof *b.bt);
+    b.fst = get_memory(cnftl_fst_entries(p) * sizeof *b.fst);
+    b.bst = get_memory(cnftl_bst_entries(p));
+    b.wear = get_memory(cnftl_wear_entries(p) * sizeof *b.wear);
+    memset(b.chip, 255, cnftl_chip_bytes(p));
+    memset(b.wear, 0, cnftl_wear_entries(p) * sizeof *b.wear);
+    return b;
+}
+
+/* Gives it back. */
+static void free_board(struct cnftl_board *b)
+{
+    free(b->chip);
+    free(b->ct);
+    free(b->bt);
+    free(b->fst);
+    free(b->bst);
+    free(b->wear);
+}
+
+/* Programs one frame of a formatted board. */
+static void put_frame(const struct cnftl_board *b, uint32_t block,
+                      uint32_t frame, uint32_t cluster)
+{
+    const struct cnftl_params *p = &b->params;
+    size_t at = block * cnftl_pages_per_block(p) + (size_t)frame * p->alpha;
+
+    for (uint32_t place = 0; place < p->alpha; place++) {
+        uint8_t *page = b->chip + (at + place) * cnftl_page_bytes(p);
+        uint8_t *spare = page + p->s;
+
+        memset(page, (int)(cluster & 255), p->s);
+        spare[0] = (uint8_t)cluster;
+        spare[1] = (uint8_t)(cluster >> 8);
+        spare[2] = (uint8_t)(cluster >> 16);
+        spare[3] = (uint8_t)(cluster >> 24);
+        spare[4] = (uint8_t)place;
+        spare[6] = 0;
+    }
+}
+
+/* Fills a region of a formatted board with its clusters in turn.  All of its
+   blocks are full but the last, which has this many frames. */
+static void fill_region(const struct cnftl_board *b, uint32_t region,
+                        uint32_t last)
+{
+    const struct cnftl_params *p = &b->params;
+    uint32_t frames = p->beta * p->d, all = (p->gamma - 1) * frames + last;
+    uint32_t clusters = (p->c - region - 1) / p->mu + 1;
+
+    for (uint32_t i = 0; i < all; i++) {
+        uint32_t block = region * p->gamma + i / frames;
+        uint32_t cluster = region + p->mu * (i % clusters);
+
+        put_frame(b, block, i % frames, cluster);
+        b->ct[cluster] = (uint16_t)(i / p->beta);
+        b->bt[block] = (uint16_t)block;
+        b->bst[block] = CNFTL_BLOCK_USED;
+    }
+    b->fst[region] = (uint16_t)((all - 1) / p->beta);
+}
+
+/* Formats and fills both boards, with this many frames in each region's last
+   block. */
+static void fill_boards(uint32_t last)
+{
+    plain_format(&product);
+    plain_format(&plain);
+    for (uint32_t r = 0; r < product.params.mu; r++) {
+        fill_region(&product, r, last);
+        fill_region(&plain, r, last);
+    }
+}
+
+/* Whether both sides hold the same board. */
+static int same_boards(void)
+{
+    const struct cnftl_params *p = &product.params;
+
+    return memcmp(product.chip, plain.chip, cnftl_chip_bytes(p)) == 0
+        && memcmp(product.ct, plain.ct, cnftl_ct_entries(p) * 2) == 0
+        && memcmp(product.bt, plain.bt, cnftl_bt_entries(p) * 2) == 0
+        && memcmp(product.fst, plain.fst, cnftl_fst_entries(p) * 2) == 0
+        && memcmp(product.bst, plain.bst, cnftl_bst_entries(p)) == 0
+        && memcmp(product.wear, plain.wear, cnftl_wear_entries(p) * 4) == 0;
+}
+
+/* ==== Rows ============================================================= */
+
+static uint64_t rnd_state = 1;
+
+/* A random number below n. */
+static uint32_t below(uint32_t n)
+{
+    rnd_state = rnd_state * UINT64_C(6364136223846793005)
+              + UINT64_C(1442695040888963407);
+    return (uint32_t)((rnd_state >> 32) * n >> 32);
+}
+
+/* A random sector of a region. */
+static uint32_t some_sector(uint32_t region)
+{
+    const struct cnftl_params *p = &product.params;
+    uint32_t clusters = (p->c - region - 1) / p->mu + 1;
+
+    return (region + p->mu * below(clusters)) * p->alpha + below(p->alpha);
+}
+
+/* Prints one row of the table. */
+static void print_row(const char *board, const char *call, int sort,
+                      double look)
+{
+    double a = median(&of_product[sort]) - look;
+    double b = median(&of_plain[sort]) - look;
+
+    double best_a = of_product[sort].seconds[0] - look;
+    double best_b = of_plain[sort].seconds[0] - look;
+
+    printf("%-8s  %-22s  %12.3f us  %12.3f us  %7.2f  %7.2f  %7lu\n", board,
+           call, 1e6 * a, 1e6 * b, a / b, best_a / best_b,
+           (unsigned long)of_product[sort].calls);
+    fflush(stdout);
+}
+
+/* Begins a row. */
+static double begin_row(void)
+{
+    for (int i = 0; i < 2; i++)
+        of_product[i].calls = of_plain[i].calls = 0;
+    return now() + row_seconds;
+}
+
+/* Whether a row that ends at this time needs more calls of its sort. */
+static int goes_on(int sort, double end)
+{
+    size_t calls = of_product[sort].calls;
+
+    return calls < FEWEST_CALLS || (calls < MOST_CALLS && now() < end);
+}
+
+/* One call with new data in a region. */
+static void call_in_region(char kind, uint32_t region)
+{
+    memset(data, (int)below(256), sizeof data);
+    time_call(kind, some_sector(region));
+}
+
+/* A row of formats or reads. */
+static void time_plain_calls(char kind)
+{
+    double end = begin_row();
+
+    while (goes_on(0, end))
+        call_in_region(kind, below(product.params.mu));
+}
+
+/* A row of writes that find room: all regions in turn, filled anew when their
+   last blocks are full. */
+static void time_writes(void)
+{
+    const struct cnftl_params *p = &product.params;
+    double end = begin_row();
+
+    for (uint32_t left = 0; goes_on(0, end); left--) {
+        if (left == 0) {
+            fill_boards(1);
+            left = p->mu * (p->beta * p->d - 1);
+        }
+        call_in_region('W', left % p->mu);
+    }
+    assert(of_product[1].calls == 0);
+}
+
+/* A row of writes that reclaim, in the first two regions; others among them
+   are not looked at. */
+static void time_reclaims(void)
+{
+    double end = begin_row();
+
+    fill_boards(product.params.beta * product.params.d);
+    while (goes_on(1, end))
+        call_in_region('W', below(product.params.mu < 2 ? 1 : 2));
+}
+
+/* All rows of one board. */
+static void time_board(const char *name, const struct cnftl_params *p,
+                       double look)
+{
+    product = new_board(p);
+    plain = new_board(p);
+    time_plain_calls('F');
+    print_row(name, "format", 0, look);
+    fill_boards(p->beta * p->d);
+    time_plain_calls('R');
+    print_row(name, "read", 0, look);
+    time_writes();
+    print_row(name, "write without reclaim", 0, look);
+    time_reclaims();
+    print_row(name, "write with reclaim", 1, look);
+    assert(same_boards());
+    free_board(&product);
+    free_board(&plain);
+}
+
+/* A board of at most this many bytes of chip, with as many regions as fit and
+   seven eighths of their frames for clusters. */
+static struct cnftl_params board_of(size_t bytes)
+{
+    struct cnftl_params p = { 512, 4, 4, 2, 1, 16, 1, 1 };
+
+    p.n = (uint32_t)(bytes / cnftl_chip_bytes(&p));
+    p.mu = (p.n - 1) / p.gamma;
+    p.c = p.mu * (p.gamma * p.beta * p.d * 7 / 8);
+    return p;
+}
+
+/* The table, board by board. */
+int main(void)
+{
+    struct cnftl_params t = { 16, 2, 1, 2, 2, 2, 6, 5 };
+    struct cnftl_params one = board_of((size_t)1 << 20);
+    struct cnftl_params large = board_of((size_t)64 << 20);
+    double look = clock_cost();
+
+    printf("%-8s  %-22s  %15s  %15s  %7s  %7s  %7s\n", "board", "call",
+           "product", "C", "ratio", "best", "calls");
+    time_board("Board T", &t, look);
+    time_board("1 MiB", &one, look);
+    time_board("64 MiB", &large, look);
+    return 0;
+}

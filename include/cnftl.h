@@ -1,0 +1,306 @@
+/*
+ * cnftl.h - C interface of the Bishtarev CNFTL flash translation layer.
+ *
+ * The layer makes a raw NAND chip look like numbered sectors.  It keeps
+ * nothing of its own: a board is a chip image and five tables (CT, BT, FST,
+ * BST and wear) in memory that the caller owns and lends for the length of
+ * one call.  To keep a board, keep these six arrays and its parameters.
+ *
+ * There are three calls: cnftl_format, cnftl_read and cnftl_write.  Each one
+ * returns for every request and for every content of the lent memory.  What
+ * cannot be done is refused by number, and a refusal changes no lent byte.
+ *
+ * A slice passes as a pointer and then a length in ELEMENTS (bytes for chip,
+ * bst and data; 16-bit entries for ct, bt and fst; 32-bit entries for wear).
+ *
+ * What the caller answers for:
+ *   - Every pointer is non-null and aligned for its element type, even when
+ *     its length is 0.
+ *   - Each slice is really as long as its length says.
+ *   - No two slices of one call overlap: not two tables, not a table and the
+ *     chip, and not the data and any of them.
+ *   - During a call nobody else writes the lent memory, and during a format
+ *     or a write nobody else reads it.  Calls on different boards may run at
+ *     the same time.
+ *   - A board is used with the same parameters in every call.
+ *
+ * Example (link with libcnftl.a):
+ *
+ *   static uint8_t  chip[640];           // cnftl_chip_bytes
+ *   static uint16_t ct[6], bt[4], fst[2];
+ *   static uint8_t  bst[5];
+ *   static uint32_t wear[5];             // 0: no block was erased yet
+ *   static const struct cnftl_board board = {
+ *       { 16, 2, 1, 2, 2, 2, 6, 5 }, chip, ct, bt, fst, bst, wear
+ *   };
+ *   uint8_t  sector[16];
+ *   uint64_t a;
+ *
+ *   memset(chip, 255, sizeof chip);      // a new chip is all ones
+ *   a = cnftl_board_format(&board);      // once in the life of a ledger
+ *   if (cnftl_reply_of(a) != CNFTL_ACCEPTED)
+ *       return 1;
+ *   memset(sector, 17, sizeof sector);
+ *   a = cnftl_board_write(&board, 3, 1, sector, sizeof sector);
+ *   a = cnftl_board_read(&board, 3, 1, sector, sizeof sector);
+ *   printf("%u\n", (unsigned)cnftl_reply_of(a));
+ */
+#ifndef CNFTL_H
+#define CNFTL_H
+
+#include <stddef.h>
+#include <stdint.h>
+
+#ifdef __cplusplus
+extern "C" {
+#endif
+
+/* Spare bytes that follow the s data bytes of each page. */
+#define CNFTL_SPARE_BYTES 16u
+
+/* "None" in CT, BT and FST. */
+#define CNFTL_NONE 65535u
+
+/*
+ * The eight parameters of a board.  With F = beta*d frames in a block and
+ * P = alpha*F pages in a block, P is at most 256 and c/mu rounded up is at
+ * most gamma*F - 1.
+ */
+struct cnftl_params {
+    uint32_t s;     /* bytes of a sector,             16 to 512       */
+    uint32_t alpha; /* sectors in a cluster,           1 to 16        */
+    uint32_t beta;  /* frames in a segment,            1 to 16        */
+    uint32_t d;     /* segments in a block,            1 to 16        */
+    uint32_t mu;    /* regions,                        1 to 1,024     */
+    uint32_t gamma; /* virtual blocks in a region,     1 to 16        */
+    uint32_t c;     /* clusters,                       1 to 1,048,576 */
+    uint32_t n;     /* physical blocks,                1 to 65,535    */
+};
+
+/*
+ * The replies, checked in the order of their numbers.  Only CNFTL_ACCEPTED
+ * changes anything.  Later issues may add numbers.
+ */
+enum cnftl_reply {
+    CNFTL_ACCEPTED = 0,       /* done                                       */
+    CNFTL_BAD_PARAMETER = 1,  /* a parameter breaks the rules above         */
+    CNFTL_WRONG_LENGTH = 2,   /* chip or a table has the wrong length       */
+    CNFTL_BAD_COUNT = 3,      /* count 0, or past the end of the cluster    */
+    CNFTL_BAD_ADDRESS = 4,    /* lba is c*alpha or more                     */
+    CNFTL_WRONG_DATA = 5,     /* data length is not count*s                 */
+    CNFTL_TOO_FEW_BLOCKS = 6, /* fewer than mu*gamma+1 blocks are not bad   */
+    CNFTL_NOT_ORDERLY = 7     /* chip and tables do not fit together        */
+};
+
+/* The values of a BST entry. */
+enum cnftl_block_state {
+    CNFTL_BLOCK_FREE = 0,
+    CNFTL_BLOCK_USED = 1,
+    CNFTL_BLOCK_RESERVED = 2
+};
+
+/*
+ * Format.  A block whose first page has a spare byte 5 other than 255 is bad:
+ * it becomes reserved and is not touched.  All others are erased and become
+ * free, and their wear goes up by one.  CT, BT and FST become none.  The wear
+ * lent must be the board's wear so far (0 for a new chip).
+ * Replies 1, 2, 6, 0.  Counts: 0 programs, one erase for each block not bad.
+ */
+uint64_t cnftl_format(uint32_t s, uint32_t alpha, uint32_t beta, uint32_t d,
+                      uint32_t mu, uint32_t gamma, uint32_t c, uint32_t n,
+                      uint8_t *chip, size_t chip_len,
+                      uint16_t *ct, size_t ct_len,
+                      uint16_t *bt, size_t bt_len,
+                      uint16_t *fst, size_t fst_len,
+                      uint8_t *bst, size_t bst_len,
+                      uint32_t *wear, size_t wear_len);
+
+/*
+ * Read count sectors from sector lba on into data.  They must lie in one
+ * cluster (lba mod alpha + count is at most alpha) and data_len must be
+ * count*s.  A sector that was never written reads as 255 throughout.
+ * Replies 1, 2, 3, 4, 5, 7, 0.  Counts: 0 and 0.  Writes data only, and that
+ * only with reply 0.
+ */
+uint64_t cnftl_read(uint32_t s, uint32_t alpha, uint32_t beta, uint32_t d,
+                    uint32_t mu, uint32_t gamma, uint32_t c, uint32_t n,
+                    const uint8_t *chip, size_t chip_len,
+                    const uint16_t *ct, size_t ct_len,
+                    const uint16_t *bt, size_t bt_len,
+                    const uint16_t *fst, size_t fst_len,
+                    const uint8_t *bst, size_t bst_len,
+                    const uint32_t *wear, size_t wear_len,
+                    uint32_t lba, uint32_t count,
+                    uint8_t *data, size_t data_len);
+
+/*
+ * Write count sectors from sector lba on, taken from data, under the same
+ * rules for lba, count and data_len as a read.
+ * Replies 1, 2, 3, 4, 5, 7, 0.  Counts: the pages programmed (at most P), and
+ * 1 erase if a block was reclaimed, else 0.
+ */
+uint64_t cnftl_write(uint32_t s, uint32_t alpha, uint32_t beta, uint32_t d,
+                     uint32_t mu, uint32_t gamma, uint32_t c, uint32_t n,
+                     uint8_t *chip, size_t chip_len,
+                     uint16_t *ct, size_t ct_len,
+                     uint16_t *bt, size_t bt_len,
+                     uint16_t *fst, size_t fst_len,
+                     uint8_t *bst, size_t bst_len,
+                     uint32_t *wear, size_t wear_len,
+                     uint32_t lba, uint32_t count,
+                     const uint8_t *data, size_t data_len);
+
+/*
+ * An answer is reply + 65,536 * programs + 4,294,967,296 * erases.
+ * These take it apart.
+ */
+static inline uint32_t cnftl_reply_of(uint64_t answer)
+{
+    return (uint32_t)(answer & 65535u);
+}
+
+static inline uint32_t cnftl_programs_of(uint64_t answer)
+{
+    return (uint32_t)((answer >> 16) & 65535u);
+}
+
+static inline uint32_t cnftl_erases_of(uint64_t answer)
+{
+    return (uint32_t)(answer >> 32);
+}
+
+/*
+ * 1 if the parameters are allowed, else 0: the calls answer reply 1 exactly
+ * when this is 0.
+ */
+static inline int cnftl_params_allowed(const struct cnftl_params *p)
+{
+    return p->s >= 16 && p->s <= 512
+        && p->alpha >= 1 && p->alpha <= 16
+        && p->beta >= 1 && p->beta <= 16
+        && p->d >= 1 && p->d <= 16
+        && p->mu >= 1 && p->mu <= 1024
+        && p->gamma >= 1 && p->gamma <= 16
+        && p->c >= 1 && p->c <= 1048576
+        && p->n >= 1 && p->n <= 65535
+        && p->alpha * p->beta * p->d <= 256
+        && (p->c + p->mu - 1) / p->mu <= p->gamma * p->beta * p->d - 1;
+}
+
+/*
+ * Sizes of a board, for allowed parameters: P, the bytes of a page and of the
+ * chip, the entries of each table, and the sectors that the board offers.
+ * The largest chip has over 8 GiB, more than a 32-bit size_t can say.
+ */
+static inline size_t cnftl_pages_per_block(const struct cnftl_params *p)
+{
+    return (size_t)p->alpha * p->beta * p->d;
+}
+
+static inline size_t cnftl_page_bytes(const struct cnftl_params *p)
+{
+    return (size_t)p->s + CNFTL_SPARE_BYTES;
+}
+
+static inline size_t cnftl_chip_bytes(const struct cnftl_params *p)
+{
+    return p->n * cnftl_pages_per_block(p) * cnftl_page_bytes(p);
+}
+
+static inline size_t cnftl_ct_entries(const struct cnftl_params *p)
+{
+    return p->c;
+}
+
+static inline size_t cnftl_bt_entries(const struct cnftl_params *p)
+{
+    return (size_t)p->mu * p->gamma;
+}
+
+static inline size_t cnftl_fst_entries(const struct cnftl_params *p)
+{
+    return p->mu;
+}
+
+static inline size_t cnftl_bst_entries(const struct cnftl_params *p)
+{
+    return p->n;
+}
+
+static inline size_t cnftl_wear_entries(const struct cnftl_params *p)
+{
+    return p->n;
+}
+
+static inline uint32_t cnftl_sectors(const struct cnftl_params *p)
+{
+    return p->c * p->alpha;
+}
+
+/*
+ * A board for the three shorter calls below, which pass the parameters and
+ * the right lengths.  The arrays must have the sizes given above.
+ */
+struct cnftl_board {
+    struct cnftl_params params;
+    uint8_t *chip;
+    uint16_t *ct;
+    uint16_t *bt;
+    uint16_t *fst;
+    uint8_t *bst;
+    uint32_t *wear;
+};
+
+static inline uint64_t cnftl_board_format(const struct cnftl_board *b)
+{
+    const struct cnftl_params *p = &b->params;
+
+    return cnftl_format(p->s, p->alpha, p->beta, p->d,
+                        p->mu, p->gamma, p->c, p->n,
+                        b->chip, cnftl_chip_bytes(p),
+                        b->ct, cnftl_ct_entries(p),
+                        b->bt, cnftl_bt_entries(p),
+                        b->fst, cnftl_fst_entries(p),
+                        b->bst, cnftl_bst_entries(p),
+                        b->wear, cnftl_wear_entries(p));
+}
+
+static inline uint64_t cnftl_board_read(const struct cnftl_board *b,
+                                        uint32_t lba, uint32_t count,
+                                        uint8_t *data, size_t data_len)
+{
+    const struct cnftl_params *p = &b->params;
+
+    return cnftl_read(p->s, p->alpha, p->beta, p->d,
+                      p->mu, p->gamma, p->c, p->n,
+                      b->chip, cnftl_chip_bytes(p),
+                      b->ct, cnftl_ct_entries(p),
+                      b->bt, cnftl_bt_entries(p),
+                      b->fst, cnftl_fst_entries(p),
+                      b->bst, cnftl_bst_entries(p),
+                      b->wear, cnftl_wear_entries(p),
+                      lba, count, data, data_len);
+}
+
+static inline uint64_t cnftl_board_write(const struct cnftl_board *b,
+                                         uint32_t lba, uint32_t count,
+                                         const uint8_t *data, size_t data_len)
+{
+    const struct cnftl_params *p = &b->params;
+
+    return cnftl_write(p->s, p->alpha, p->beta, p->d,
+                       p->mu, p->gamma, p->c, p->n,
+                       b->chip, cnftl_chip_bytes(p),
+                       b->ct, cnftl_ct_entries(p),
+                       b->bt, cnftl_bt_entries(p),
+                       b->fst, cnftl_fst_entries(p),
+                       b->bst, cnftl_bst_entries(p),
+                       b->wear, cnftl_wear_entries(p),
+                       lba, count, data, data_len);
+}
+
+#ifdef __cplusplus
+}
+#endif
+
+#endif

@@ -1,0 +1,40 @@
+# For the tests of the C interface: the compilers for x86-64, how a program for it runs on this machine, and the archive.
+# A test sources this from the repository's folder, and has $room, a folder of its own that is removed in the end.
+room=$(mktemp -d)
+trap 'rm -rf "$room"' EXIT
+passed=0 failed=0
+
+bash tools/packages
+if [ "$(uname -m)" = x86_64 ]; then
+    cc=gcc cxx=g++ objdump=objdump link=() runner=()
+else
+    # the toolchain brings an emulator; a program without shared libraries needs nothing else
+    cc=x86_64-linux-gnu-gcc cxx=x86_64-linux-gnu-g++ objdump=x86_64-linux-gnu-objdump link=(-static)
+    runner=("$(dirname "$(rt doc)")/../on/$(uname -m)/toolchain/bin/qemu-x86_64")
+fi
+strict=(-Wall -Wextra -Werror -pedantic -Iinclude)
+archive=target/staticlib/libcnftl.a
+if [ ! -f "$archive" ] || [ -n "$(find crates crates.txt -newer "$archive" -print -quit)" ]; then
+    rt staticlib cnftl >"$room/staticlib" 2>&1 || cat "$room/staticlib"
+fi
+
+# Runs a program that was compiled here.
+run() { ${runner[@]+"${runner[@]}"} "$@"; }
+
+# Counts one check, and names it where it failed: `check NAME COMMAND ..`.
+check() {
+    local name=$1
+    shift
+    if "$@"; then
+        passed=$((passed + 1))
+    else
+        echo "FAILED: $name"
+        failed=$((failed + 1))
+    fi
+}
+
+# The last line of a test, and its status.
+counted() {
+    echo "$passed passed, $failed failed"
+    [ "$failed" -eq 0 ]
+}

@@ -1,0 +1,1157 @@
+/*
+ * fuzz.c - compares cnftl_* of the linked archive with the model, call by call.
+ *
+ * Both sides own a copy of one board.  Each call is made on both; then the
+ * answers, every byte of chip, tables and data, and the guard bytes around
+ * each slice must be equal.  Accepted reads are also compared with a plain
+ * record of the bytes last accepted for each sector (the shadow).
+ *
+ *   fuzz [--calls N] [--seed S] [--mutant K]    compare
+ *   fuzz --mutants                              list the model's mutants
+ *
+ * Exit status: 0 all agree, 1 a difference or something never seen, 2 wrong
+ * use, 3 a difference while a mutant is on.
+ */
+#include "cnftl.h"
+#include "model.h"
+
+#include <assert.h>
+#include <inttypes.h>
+#include <stdbool.h>
+#include <stdio.h>
+#include <stdlib.h>
+#include <string.h>
+
+enum slice { CHIP, CT, BT, FST, BST, WEAR, TABLES, DATA = TABLES, SLICES };
+enum { GUARD = 64, DATA_ROOM = 16 * 512 + GUARD, REPLIES = 8 };
+
+static const char *const slice_name[SLICES] = {
+    "chip", "ct", "bt", "fst", "bst", "wear", "data"
+};
+static const size_t width[SLICES] = { 1, 2, 2, 2, 1, 4, 1 };
+
+/* ==== Chance =========================================================== */
+
+static uint64_t rnd_state;
+
+/* The next 64 random bits (splitmix64). */
+static uint64_t rnd(void)
+{
+    uint64_t z = rnd_state += UINT64_C(0x9e3779b97f4a7c15);
+
+    z = (z ^ z >> 30) * UINT64_C(0xbf58476d1ce4e5b9);
+    z = (z ^ z >> 27) * UINT64_C(0x94d049bb133111eb);
+    return z ^ z >> 31;
+}
+
+/* A random number below n, which is not 0. */
+static uint32_t below(uint32_t n)
+{
+    return (uint32_t)((rnd() >> 32) * n >> 32);
+}
+
+/* A random number from low to high. */
+static uint32_t between(uint32_t low, uint32_t high)
+{
+    return low + below(high - low + 1);
+}
+
+/* True once in n times. */
+static bool once_in(uint32_t n)
+{
+    return below(n) == 0;
+}
+
+/* Fills memory with random bytes. */
+static void fill_random(uint8_t *to, size_t len)
+{
+    for (size_t i = 0; i < len; i += 8) {
+        uint64_t bits = rnd();
+
+        memcpy(to + i, &bits, len - i < 8 ? len - i : 8);
+    }
+}
+
+/* ==== The board, on both sides ========================================= */
+
+/* One side's lent memory: each slice with a guard before and after it. */
+struct side {
+    uint8_t *raw[SLICES];
+};
+
+static struct side product, model, saved;
+static struct cnftl_params par;   /* the board's parameters */
+static size_t right_len[TABLES];  /* the right lengths, in elements */
+static size_t room[SLICES];       /* bytes between the guards */
+static size_t shift;              /* where byte slices start, 0 to 7 */
+static uint8_t *shadow;           /* the bytes last accepted, by sector */
+static bool shadow_holds;         /* false while the board went another way */
+static uint32_t hot_from, hot;    /* the clusters that get half the traffic */
+
+/* The first element of a slice.  Slices of bytes may start anywhere. */
+static uint8_t *bytes_of(const struct side *a, enum slice i)
+{
+    return a->raw[i] + GUARD + (width[i] == 1 ? shift : 0);
+}
+
+/* The same for a slice of 16-bit entries. */
+static uint16_t *words_of(const struct side *a, enum slice i)
+{
+    return (uint16_t *)(void *)bytes_of(a, i);
+}
+
+/* The same for the 32-bit entries of wear. */
+static uint32_t *wear_of(const struct side *a)
+{
+    return (uint32_t *)(void *)bytes_of(a, WEAR);
+}
+
+/* Shorthand for the tables of the side on which states are built. */
+#define ct (words_of(&product, CT))
+#define bt (words_of(&product, BT))
+#define fst (words_of(&product, FST))
+#define bst (bytes_of(&product, BST))
+#define chip (bytes_of(&product, CHIP))
+
+/* Frames in a block. */
+static uint32_t frames(void)
+{
+    return par.beta * par.d;
+}
+
+/* Segments in a region. */
+static uint32_t segments(void)
+{
+    return par.gamma * par.d;
+}
+
+/* Bytes of a block. */
+static size_t block_bytes(void)
+{
+    return cnftl_pages_per_block(&par) * cnftl_page_bytes(&par);
+}
+
+/* Clusters that belong to a region. */
+static uint32_t clusters_of_region(uint32_t region)
+{
+    return region < par.c ? (par.c - region - 1) / par.mu + 1 : 0;
+}
+
+/* Memory or the end of the run. */
+static uint8_t *get_memory(size_t len)
+{
+    uint8_t *p = malloc(len);
+
+    if (p == NULL) {
+        fprintf(stderr, "fuzz: no memory for %zu bytes\n", len);
+        exit(2);
+    }
+    return p;
+}
+
+/* Copies the chip and the tables of one side to another, guards too. */
+static void copy_side(const struct side *to, const struct side *from)
+{
+    for (int i = 0; i < TABLES; i++)
+        memcpy(to->raw[i], from->raw[i], room[i] + 2 * GUARD);
+}
+
+/* Lends memory for a board of these parameters; chip_bytes is the room that
+   its chip gets.  All of it is random at first. */
+static void open_board(struct cnftl_params p, size_t chip_bytes)
+{
+    par = p;
+    shift = below(8);
+    right_len[CHIP] = chip_bytes;
+    right_len[CT] = cnftl_ct_entries(&p);
+    right_len[BT] = cnftl_bt_entries(&p);
+    right_len[FST] = cnftl_fst_entries(&p);
+    right_len[BST] = cnftl_bst_entries(&p);
+    right_len[WEAR] = cnftl_wear_entries(&p);
+    for (int i = 0; i < SLICES; i++) {
+        room[i] = i == DATA ? DATA_ROOM : right_len[i] * width[i];
+        product.raw[i] = get_memory(room[i] + 2 * GUARD);
+        model.raw[i] = get_memory(room[i] + 2 * GUARD);
+        saved.raw[i] = get_memory(room[i] + 2 * GUARD);
+        fill_random(product.raw[i], room[i] + 2 * GUARD);
+    }
+    copy_side(&model, &product);
+    shadow = get_memory((size_t)cnftl_sectors(&p) * p.s);
+    shadow_holds = false;
+    hot = between(1, p.c < 4 ? p.c : 4);
+    hot_from = p.c <= 65536 && once_in(2) ? 0 : p.c - hot;
+}
+
+/* Gives the board's memory back. */
+static void close_board(void)
+{
+    for (int i = 0; i < SLICES; i++) {
+        free(product.raw[i]);
+        free(model.raw[i]);
+        free(saved.raw[i]);
+    }
+    free(shadow);
+}
+
+/* ==== One call on both sides =========================================== */
+
+struct call {
+    char kind; /* 'F', 'R' or 'W' */
+    struct cnftl_params p;
+    size_t len[SLICES];
+    uint32_t lba, count;
+};
+
+static uint64_t calls, limit = 1000000, seed = 1;
+static uint64_t seen[REPLIES], kinds[3], reclaims, shadow_reads;
+
+#define PARAMETERS(k)                                                          \
+    (k)->p.s, (k)->p.alpha, (k)->p.beta, (k)->p.d, (k)->p.mu, (k)->p.gamma,    \
+    (k)->p.c, (k)->p.n
+#define LENT(k, a)                                                             \
+    PARAMETERS(k), bytes_of(a, CHIP), (k)->len[CHIP],                          \
+    words_of(a, CT), (k)->len[CT], words_of(a, BT), (k)->len[BT],              \
+    words_of(a, FST), (k)->len[FST], bytes_of(a, BST), (k)->len[BST],          \
+    wear_of(a), (k)->len[WEAR]
+#define REQUEST(k, a)                                                          \
+    (k)->lba, (k)->count, bytes_of(a, DATA), (k)->len[DATA]
+
+/* The call on the product. */
+static uint64_t call_product(const struct call *k)
+{
+    switch (k->kind) {
+    case 'F':
+        return cnftl_format(LENT(k, &product));
+    case 'R':
+        return cnftl_read(LENT(k, &product), REQUEST(k, &product));
+    default:
+        return cnftl_write(LENT(k, &product), REQUEST(k, &product));
+    }
+}
+
+/* The same call on the model. */
+static uint64_t call_model(const struct call *k)
+{
+    switch (k->kind) {
+    case 'F':
+        return model_format(LENT(k, &model));
+    case 'R':
+        return model_read(LENT(k, &model), REQUEST(k, &model));
+    default:
+        return model_write(LENT(k, &model), REQUEST(k, &model));
+    }
+}
+
+/* Prints an answer as reply, programs and erases. */
+static void print_answer(const char *who, uint64_t a)
+{
+    printf("  %s: reply %" PRIu32 ", programs %" PRIu32 ", erases %" PRIu32
+           "\n", who, cnftl_reply_of(a), cnftl_programs_of(a),
+           cnftl_erases_of(a));
+}
+
+/* Prints the first byte in which a slice differs, if any. */
+static void print_first_difference(enum slice i)
+{
+    for (size_t at = 0; at < room[i] + 2 * GUARD; at++)
+        if (product.raw[i][at] != model.raw[i][at]) {
+            printf("  %s: byte %td of %zu: product %u, model %u\n",
+                   slice_name[i], product.raw[i] + at - bytes_of(&product, i),
+                   room[i],
+                   (unsigned)product.raw[i][at], (unsigned)model.raw[i][at]);
+            return;
+        }
+}
+
+/* Tells of a difference and ends the run. */
+static void differ(const struct call *k, const char *what, uint64_t by_product,
+                   uint64_t by_model)
+{
+    printf("fuzz: difference in %s at call %" PRIu64 " (seed %" PRIu64 ")\n",
+           what, calls, seed);
+    printf("  call %c, lba %" PRIu32 ", count %" PRIu32 ", data %zu bytes\n",
+           k->kind, k->lba, k->count, k->len[DATA]);
+    printf("  s=%" PRIu32 " alpha=%" PRIu32 " beta=%" PRIu32 " d=%" PRIu32
+           " mu=%" PRIu32 " gamma=%" PRIu32 " c=%" PRIu32 " n=%" PRIu32 "\n",
+           PARAMETERS(k));
+    printf("  lengths: chip %zu, ct %zu, bt %zu, fst %zu, bst %zu, wear %zu\n",
+           k->len[CHIP], k->len[CT], k->len[BT], k->len[FST], k->len[BST],
+           k->len[WEAR]);
+    print_answer("product", by_product);
+    print_answer("model", by_model);
+    for (int i = 0; i < SLICES; i++)
+        print_first_difference((enum slice)i);
+    exit(model_mutant == MODEL_RIGHT ? 1 : 3);
+}
+
+/* Whether the call goes to this board with its own parameters. */
+static bool own_parameters(const struct call *k)
+{
+    return memcmp(&k->p, &par, sizeof par) == 0;
+}
+
+/* Keeps the shadow up with an accepted call, and compares a read with it. */
+static void follow_shadow(const struct call *k, uint64_t a)
+{
+    uint8_t *sectors = shadow + (size_t)k->lba * par.s;
+
+    if (!own_parameters(k)) {
+        shadow_holds = shadow_holds && k->kind == 'R';
+    } else if (k->kind == 'F') {
+        memset(shadow, 255, (size_t)cnftl_sectors(&par) * par.s);
+        shadow_holds = true;
+    } else if (shadow_holds && k->kind == 'W') {
+        memcpy(sectors, bytes_of(&product, DATA), k->len[DATA]);
+    } else if (shadow_holds) {
+        if (memcmp(sectors, bytes_of(&product, DATA), k->len[DATA]) != 0)
+            differ(k, "the bytes last accepted", a, a);
+        shadow_reads++;
+    }
+}
+
+/* Counts what was seen. */
+static void count_call(const struct call *k, uint64_t a)
+{
+    calls++;
+    kinds[k->kind == 'F' ? 0 : k->kind == 'R' ? 1 : 2]++;
+    seen[cnftl_reply_of(a)]++;
+    reclaims += k->kind == 'W' && cnftl_erases_of(a) == 1;
+    if (calls % 100000 == 0)
+        fprintf(stderr, "fuzz: %" PRIu64 " calls\n", calls);
+}
+
+/* Makes a call on both sides and compares all that they may have touched.
+   Returns the reply. */
+static uint32_t make_call(const struct call *k)
+{
+    uint64_t by_product, by_model;
+
+    room[DATA] = k->len[DATA];
+    fill_random(product.raw[DATA], room[DATA] + 2 * GUARD);
+    memcpy(model.raw[DATA], product.raw[DATA], room[DATA] + 2 * GUARD);
+    by_product = call_product(k);
+    by_model = call_model(k);
+    if (by_product != by_model)
+        differ(k, "the answer", by_product, by_model);
+    for (int i = 0; i < SLICES; i++)
+        if (memcmp(product.raw[i], model.raw[i], room[i] + 2 * GUARD) != 0)
+            differ(k, slice_name[i], by_product, by_model);
+    count_call(k, by_product);
+    if (cnftl_reply_of(by_product) == CNFTL_ACCEPTED)
+        follow_shadow(k, by_product);
+    return cnftl_reply_of(by_product);
+}
+
+/* A request that is right for the board. */
+static struct call right_call(char kind)
+{
+    struct call k = { kind, par, { 0 }, 0, 0 };
+    uint32_t cluster = once_in(2) ? hot_from + below(hot) : below(par.c);
+    uint32_t place = below(par.alpha);
+
+    memcpy(k.len, right_len, sizeof right_len);
+    k.lba = cluster * par.alpha + place;
+    k.count = between(1, par.alpha - place);
+    k.len[DATA] = (size_t)k.count * par.s;
+    return k;
+}
+
+/* ==== Faults of a call ================================================= */
+
+/* The data length that a count asks for, as far as there is room. */
+static size_t data_for(uint32_t count)
+{
+    uint64_t len = (uint64_t)count * par.s;
+
+    return len < DATA_ROOM ? (size_t)len : DATA_ROOM;
+}
+
+/* A parameter at or past one of its bounds. */
+static void fault_parameter(struct call *k)
+{
+    static const uint32_t low[8] = { 16, 1, 1, 1, 1, 1, 1, 1 };
+    static const uint32_t high[8] = {
+        512, 16, 16, 16, 1024, 16, 1048576, 65535
+    };
+    uint32_t *const where[8] = {
+        &k->p.s, &k->p.alpha, &k->p.beta, &k->p.d,
+        &k->p.mu, &k->p.gamma, &k->p.c, &k->p.n
+    };
+    uint32_t i = below(8);
+    const uint32_t values[] = {
+        0, low[i] - 1, low[i], high[i], high[i] + 1, UINT32_MAX,
+        high[i] + 65536, *where[i] + 1, *where[i] - 1
+    };
+
+    *where[i] = values[below(sizeof values / sizeof *values)];
+}
+
+/* The two rules over several parameters at their bounds, and all limits at
+   once. */
+static void fault_parameters(struct call *k)
+{
+    uint32_t most = par.gamma * frames() - 1;
+
+    switch (below(5)) {
+    case 0: /* C/mu at or past its bound */
+        k->p.c = par.mu * most + below(3);
+        break;
+    case 1: /* C/mu rounded up is gamma*F exactly */
+        k->p.c = par.mu * (most + 1);
+        break;
+    case 2: /* P above 256 */
+        k->p.alpha = 16;
+        k->p.beta = 16;
+        k->p.d = 2;
+        break;
+    case 3: /* C at or past its own bound where gamma*F would allow it */
+        k->p.alpha = 1;
+        k->p.beta = k->p.d = k->p.gamma = 16;
+        k->p.mu = 1024;
+        k->p.c = 1048576 + below(2);
+        break;
+    default: /* other parameters for the same lengths */
+        k->p.beta = par.d;
+        k->p.d = par.beta;
+        break;
+    }
+}
+
+/* A slice that is too short or too long. */
+static void fault_length(struct call *k)
+{
+    uint32_t i = below(TABLES);
+    size_t len = k->len[i];
+    const size_t values[] = { 0, len / 2, len - (len > 0), len + 1, len + 8 };
+
+    k->len[i] = values[below(5)];
+}
+
+/* A count of 0 or past the cluster's end, also where 32 bits would wrap. */
+static void fault_count(struct call *k)
+{
+    uint32_t place = k->lba % par.alpha;
+    const uint32_t values[] = {
+        0, par.alpha - place + 1, par.alpha + 1, UINT32_MAX,
+        UINT32_MAX - place + 1, UINT32_MAX - place + 2, 65536
+    };
+
+    k->count = values[below(sizeof values / sizeof *values)];
+    if (once_in(2))
+        k->len[DATA] = data_for(k->count);
+}
+
+/* An address at or past the board's end, or just before it. */
+static void fault_address(struct call *k)
+{
+    uint32_t end = cnftl_sectors(&par);
+    const uint32_t values[] = {
+        end, end + 1, end + par.alpha, end - 1, UINT32_MAX, end + 65536,
+        UINT32_MAX / par.alpha * par.alpha
+    };
+
+    k->lba = values[below(sizeof values / sizeof *values)];
+    if (once_in(2)) {
+        k->count = 1;
+        k->len[DATA] = par.s;
+    }
+}
+
+/* A data length that the count does not ask for. */
+static void fault_data(struct call *k)
+{
+    size_t len = k->len[DATA];
+    const size_t values[] = {
+        0, len - (len > 0), len + 1, len + par.s, len / 2
+    };
+
+    k->len[DATA] = values[below(5)] % DATA_ROOM;
+}
+
+/* One to four faults at once. */
+static void add_faults(struct call *k)
+{
+    static void (*const faults[])(struct call *) = {
+        fault_parameter, fault_parameters, fault_length, fault_count,
+        fault_address, fault_data
+    };
+
+    do
+        faults[below(sizeof faults / sizeof *faults)](k);
+    while (once_in(2));
+}
+
+/* ==== States =========================================================== */
+
+/* Bytes of a frame. */
+static size_t frame_bytes(void)
+{
+    return par.alpha * cnftl_page_bytes(&par);
+}
+
+/* Where a frame begins. */
+static uint8_t *frame_at(uint32_t block, uint32_t frame)
+{
+    return chip + block * block_bytes() + frame * frame_bytes();
+}
+
+/* Programs a frame as document 01 says, with random data. */
+static void put_frame(uint32_t block, uint32_t frame, uint32_t cluster)
+{
+    uint8_t *page = frame_at(block, frame);
+
+    for (uint32_t place = 0; place < par.alpha; place++) {
+        uint8_t *spare = page + par.s;
+
+        fill_random(page, par.s);
+        memset(spare, 255, CNFTL_SPARE_BYTES);
+        spare[0] = (uint8_t)cluster;
+        spare[1] = (uint8_t)(cluster >> 8);
+        spare[2] = (uint8_t)(cluster >> 16);
+        spare[3] = (uint8_t)(cluster >> 24);
+        spare[4] = (uint8_t)place;
+        spare[6] = 0;
+        page += cnftl_page_bytes(&par);
+    }
+}
+
+/* The cluster number in a frame's first page. */
+static uint32_t cluster_at(uint32_t block, uint32_t frame)
+{
+    const uint8_t *spare = frame_at(block, frame) + par.s;
+
+    return spare[0] | (uint32_t)spare[1] << 8 | (uint32_t)spare[2] << 16
+         | (uint32_t)spare[3] << 24;
+}
+
+/* Leading programmed frames of a block. */
+static uint32_t frames_in(uint32_t block)
+{
+    uint32_t k = 0;
+
+    while (k < frames() && frame_at(block, k)[par.s + 6] == 0)
+        k++;
+    return k;
+}
+
+/* A random block of this BST value, or CNFTL_NONE. */
+static uint32_t some_block(uint8_t state)
+{
+    uint32_t start = below(par.n);
+
+    for (uint32_t i = 0; i < par.n; i++)
+        if (bst[(start + i) % par.n] == state)
+            return (start + i) % par.n;
+    return CNFTL_NONE;
+}
+
+/* A random BT entry that is none or that is not none, or CNFTL_NONE. */
+static uint32_t some_entry(bool named)
+{
+    uint32_t entries = par.mu * par.gamma, start = below(entries);
+
+    for (uint32_t i = 0; i < entries; i++)
+        if ((bt[(start + i) % entries] < par.n) == named)
+            return (start + i) % entries;
+    return CNFTL_NONE;
+}
+
+/* Wear of one of several kinds: new, near together, near its limit, any. */
+static void random_wear(void)
+{
+    uint32_t kind = below(4);
+
+    for (uint32_t b = 0; b < par.n; b++) {
+        const uint32_t values[4] = {
+            0, below(3), UINT32_MAX - below(3), (uint32_t)rnd()
+        };
+
+        wear_of(&product)[b] = values[kind];
+    }
+}
+
+/* A chip before its format: new or full of anything, with the maker's bad
+   marks on a few blocks, at times on one too many. */
+static void raw_chip(void)
+{
+    uint32_t needed = par.mu * par.gamma + 1;
+    uint32_t spare = par.n > needed ? par.n - needed : 0;
+
+    if (once_in(2))
+        memset(chip, 255, room[CHIP]);
+    for (uint32_t b = 0; b < par.n; b++)
+        chip[b * block_bytes() + par.s + 5] = 255;
+    for (uint32_t i = below((spare < 8 ? spare : 8) + 2); i > 0; i--)
+        chip[below(par.n) * block_bytes() + par.s + 5] = (uint8_t)below(255);
+    random_wear();
+}
+
+/* Gives a virtual block a free block with k frames of the region's clusters.
+   Each frame's cluster takes it into CT half of the time. */
+static void put_block(uint32_t region, uint32_t virtual_block, uint32_t k)
+{
+    uint32_t block = some_block(CNFTL_BLOCK_FREE);
+    uint32_t kinds_of = between(1, clusters_of_region(region));
+
+    bst[block] = CNFTL_BLOCK_USED;
+    bt[region * par.gamma + virtual_block] = (uint16_t)block;
+    for (uint32_t frame = 0; frame < k; frame++) {
+        uint32_t cluster = region + par.mu * below(kinds_of);
+
+        put_frame(block, frame, cluster);
+        if (once_in(2))
+            ct[cluster] =
+                (uint16_t)(virtual_block * par.d + frame / par.beta);
+    }
+    if (fst[region] == CNFTL_NONE || k < frames() || once_in(2))
+        fst[region] = (uint16_t)(virtual_block * par.d + (k - 1) / par.beta);
+}
+
+/* Gives a region some or all of its blocks, of which one may not be full. */
+static void put_region(uint32_t region)
+{
+    bool all = once_in(2);
+    uint32_t open = once_in(2) ? below(par.gamma) : par.gamma;
+
+    if (clusters_of_region(region) == 0)
+        return;
+    for (uint32_t i = 0; i < par.gamma; i++)
+        if (i != open && (all || once_in(2)))
+            put_block(region, i, frames());
+    if (open < par.gamma)
+        put_block(region, open, between(1, frames()));
+}
+
+/* An orderly state that the calls need not be able to reach.  Needs N above
+   mu*gamma. */
+static void build_orderly(void)
+{
+    uint32_t spare = par.n - par.mu * par.gamma - 1;
+
+    memset(chip, 255, room[CHIP]);
+    memset(ct, 255, room[CT]);
+    memset(bt, 255, room[BT]);
+    memset(fst, 255, room[FST]);
+    memset(bst, CNFTL_BLOCK_FREE, room[BST]);
+    random_wear();
+    for (uint32_t i = below(spare + 1); i > 0; i--) {
+        uint32_t block = below(par.n);
+
+        bst[block] = CNFTL_BLOCK_RESERVED;
+        fill_random(chip + block * block_bytes(), block_bytes());
+    }
+    for (uint32_t r = 0; r < par.mu; r++)
+        put_region(r);
+}
+
+/* ==== One thing changed in a state ===================================== */
+
+/* A 16-bit entry: none, a neighbour, just past the top, or anything. */
+static uint16_t other_entry(uint16_t old, uint32_t top)
+{
+    const uint32_t values[] = {
+        CNFTL_NONE, old + 1u, old - 1u, below(top), below(top), top,
+        (uint32_t)rnd()
+    };
+
+    return (uint16_t)values[below(sizeof values / sizeof *values)];
+}
+
+/* A cluster's CT entry. */
+static void change_ct(void)
+{
+    uint16_t *entry = &ct[below(par.c)];
+
+    *entry = other_entry(*entry, segments());
+}
+
+/* A region's FST entry. */
+static void change_fst(void)
+{
+    uint16_t *entry = &fst[below(par.mu)];
+
+    *entry = other_entry(*entry, segments());
+}
+
+/* A BT entry: at times the one of another virtual block of the region. */
+static void change_bt(void)
+{
+    uint32_t i = below(par.mu * par.gamma);
+
+    if (once_in(2))
+        bt[i] = bt[i / par.gamma * par.gamma + below(par.gamma)];
+    else
+        bt[i] = other_entry(bt[i], par.n);
+}
+
+/* A block's BST entry, also above 2. */
+static void change_bst(void)
+{
+    static const uint8_t values[] = { 0, 1, 2, 3, 255, 129 };
+
+    bst[below(par.n)] = values[below(sizeof values)];
+}
+
+/* Another byte: one bit, 0, 255 or anything. */
+static void change_byte(uint8_t *byte)
+{
+    const uint8_t values[] = {
+        (uint8_t)(*byte ^ 1u << below(8)), 0, 255, (uint8_t)rnd()
+    };
+
+    *byte = values[below(sizeof values)];
+}
+
+/* A byte anywhere on the chip. */
+static void change_chip(void)
+{
+    change_byte(&chip[below((uint32_t)room[CHIP])]);
+}
+
+/* A spare byte of any page. */
+static void change_spare(void)
+{
+    uint32_t page = below((uint32_t)(room[CHIP] / cnftl_page_bytes(&par)));
+
+    change_byte(&chip[(page + 1) * cnftl_page_bytes(&par)
+                      - 1 - below(CNFTL_SPARE_BYTES)]);
+}
+
+/* A spare byte of a used block. */
+static void change_used_spare(void)
+{
+    uint32_t entry = some_entry(true);
+    uint32_t page = below((uint32_t)cnftl_pages_per_block(&par));
+
+    if (entry != CNFTL_NONE)
+        change_byte(&chip[bt[entry] * block_bytes()
+                          + (page + 1) * cnftl_page_bytes(&par)
+                          - 1 - below(CNFTL_SPARE_BYTES)]);
+}
+
+/* A frame of a used block holds another cluster throughout: of any region, or
+   of its own but perhaps not below C. */
+static void change_cluster(void)
+{
+    uint32_t entry = some_entry(true), frame = below(frames());
+
+    if (entry == CNFTL_NONE || frame >= frames_in(bt[entry]))
+        return;
+    put_frame(bt[entry], frame,
+              once_in(2) ? below(par.c)
+                         : entry / par.gamma + par.mu * below(par.c));
+}
+
+/* A block takes or loses a whole frame anywhere. */
+static void change_frame(void)
+{
+    uint32_t block = below(par.n), frame = below(frames());
+
+    if (once_in(2))
+        put_frame(block, frame, below(par.c));
+    else
+        memset(frame_at(block, frame), 255, frame_bytes());
+}
+
+/* The last page of a used block's last frame is lost. */
+static void cut_frame(void)
+{
+    uint32_t entry = some_entry(true), k;
+
+    if (entry == CNFTL_NONE || (k = frames_in(bt[entry])) == 0)
+        return;
+    memset(frame_at(bt[entry], k - 1) + frame_bytes() - cnftl_page_bytes(&par),
+           255, cnftl_page_bytes(&par));
+}
+
+/* Free blocks become reserved until mu*gamma or fewer are left. */
+static void reserve_blocks(void)
+{
+    uint32_t kept = 0, wanted = par.mu * par.gamma - once_in(4), block;
+
+    for (uint32_t b = 0; b < par.n; b++)
+        kept += bst[b] != CNFTL_BLOCK_RESERVED;
+    for (; kept > wanted; kept--) {
+        block = some_block(CNFTL_BLOCK_FREE);
+        if (block == CNFTL_NONE)
+            return;
+        bst[block] = CNFTL_BLOCK_RESERVED;
+    }
+}
+
+/* A used block loses its last frame, and CT forgets that frame. */
+static void drop_last_frame(void)
+{
+    uint32_t entry = some_entry(true), k, cluster;
+
+    if (entry == CNFTL_NONE || (k = frames_in(bt[entry])) == 0)
+        return;
+    cluster = cluster_at(bt[entry], k - 1);
+    if (cluster < par.c)
+        ct[cluster] = CNFTL_NONE;
+    memset(frame_at(bt[entry], k - 1), 255, frame_bytes());
+}
+
+/* A virtual block takes a free block and no frame; FST names it. */
+static void name_empty_block(void)
+{
+    uint32_t entry = some_entry(false), block = some_block(CNFTL_BLOCK_FREE);
+
+    if (entry == CNFTL_NONE || block == CNFTL_NONE)
+        return;
+    bst[block] = CNFTL_BLOCK_USED;
+    bt[entry] = (uint16_t)block;
+    fst[entry / par.gamma] = (uint16_t)(entry % par.gamma * par.d);
+}
+
+/* One whole table becomes anything. */
+static void scramble_table(void)
+{
+    uint32_t i = between(CT, WEAR);
+
+    fill_random(bytes_of(&product, (enum slice)i), room[i]);
+}
+
+/* Changes one thing, most often, in both sides' states. */
+static void change_state(void)
+{
+    static void (*const changes[])(void) = {
+        change_ct, change_fst, change_bt, change_bst, change_chip,
+        change_spare, change_used_spare, change_cluster, change_frame,
+        cut_frame, reserve_blocks, drop_last_frame, name_empty_block,
+        scramble_table
+    };
+
+    do
+        changes[below(sizeof changes / sizeof *changes)]();
+    while (once_in(8));
+    copy_side(&model, &product);
+}
+
+/* ==== Runs ============================================================= */
+
+static uint32_t rest_of_episode; /* calls that this board still gets */
+
+/* Makes a few requests on a changed state, and then goes back to the state
+   before or, where the changed one is orderly, perhaps goes on with it. */
+static void changed_requests(void)
+{
+    bool held = shadow_holds;
+    uint32_t reply, times = between(1, 3);
+
+    copy_side(&saved, &product);
+    change_state();
+    shadow_holds = false;
+    do {
+        struct call k = right_call(once_in(2) ? 'R' : 'W');
+
+        if (once_in(8))
+            add_faults(&k);
+        reply = make_call(&k);
+    } while (--times > 0 && calls < limit);
+    if (reply == CNFTL_ACCEPTED && once_in(4))
+        return;
+    copy_side(&product, &saved);
+    copy_side(&model, &saved);
+    shadow_holds = held;
+}
+
+/* One call of any kind with faults. */
+static void faulty_request(void)
+{
+    struct call k = right_call("FRRWW"[below(5)]);
+
+    add_faults(&k);
+    make_call(&k);
+}
+
+/* A format; a board that cannot be formatted gets few calls more. */
+static void format_request(void)
+{
+    struct call k = right_call('F');
+
+    if (make_call(&k) != CNFTL_ACCEPTED && rest_of_episode > 8)
+        rest_of_episode = 8;
+}
+
+/* A right read or write.  It is accepted if the board was changed by calls
+   alone since a format; a board that is not orderly is formatted soon. */
+static void right_request(void)
+{
+    struct call k = right_call(once_in(3) ? 'R' : 'W');
+    bool sound = shadow_holds;
+    uint32_t reply = make_call(&k);
+
+    if (sound && reply != CNFTL_ACCEPTED)
+        differ(&k, "the reply on a sound board", reply, CNFTL_ACCEPTED);
+    if (reply == CNFTL_NOT_ORDERLY && once_in(4) && calls < limit)
+        format_request();
+}
+
+/* The state that a board starts from: raw and then formatted, orderly, or
+   random bytes. */
+static void start_state(void)
+{
+    uint32_t kind = below(16);
+
+    if (kind == 0)
+        return;
+    if (kind < 7 && par.n > par.mu * par.gamma) {
+        build_orderly();
+        copy_side(&model, &product);
+        return;
+    }
+    raw_chip();
+    copy_side(&model, &product);
+    format_request();
+}
+
+/* Up to this many calls of all sorts on a board of these parameters; fewer
+   on a large one. */
+static void run_board(struct cnftl_params p, uint32_t most)
+{
+    uint32_t by_size;
+
+    assert(cnftl_params_allowed(&p));
+    open_board(p, cnftl_chip_bytes(&p));
+    by_size = (uint32_t)(3000000 / room[CHIP]);
+    rest_of_episode = by_size < 20 ? 20 : by_size < most ? by_size : most;
+    start_state();
+    for (; rest_of_episode > 0 && calls < limit; rest_of_episode--) {
+        uint32_t kind = below(100);
+
+        if (kind < 1 && (!shadow_holds || once_in(4)))
+            format_request();
+        else if (kind < 6)
+            faulty_request();
+        else if (kind < 14)
+            changed_requests();
+        else
+            right_request();
+    }
+    close_board();
+}
+
+/* Calls on a chip of 4 GiB by its parameters, whose length would be 0 in 32
+   bits: the lengths are wrong. */
+static void run_wrapped_board(void)
+{
+    struct cnftl_params p = { 496, 16, 16, 1, 1, 1, 15, 32768 };
+
+    assert((uint64_t)cnftl_chip_bytes(&p) == UINT64_C(4294967296));
+    open_board(p, 0);
+    for (int i = 0; i < 3 && calls < limit; i++) {
+        struct call k = right_call("FRW"[i]);
+
+        make_call(&k);
+    }
+    close_board();
+}
+
+/* C for regions of at most l clusters, the last region or more with fewer. */
+static uint32_t clusters_for(uint32_t mu, uint32_t l)
+{
+    return mu * (l - 1) + between(1, mu);
+}
+
+/* Fills in C and N: C is tight a third of the time, a few blocks are spare,
+   and rarely there are too few blocks. */
+static struct cnftl_params with_sizes(struct cnftl_params p)
+{
+    uint32_t most = p.gamma * p.beta * p.d - 1;
+
+    p.c = clusters_for(p.mu, once_in(3) ? most : between(1, most));
+    p.n = once_in(24) ? between(1, p.mu * p.gamma)
+                      : p.mu * p.gamma + between(1, 4);
+    return p;
+}
+
+/* Small boards of all shapes. */
+static struct cnftl_params small_board(void)
+{
+    struct cnftl_params p = {
+        between(16, 20), between(1, 3), between(1, 3), between(1, 3),
+        between(1, 3), between(1, 3), 0, 0
+    };
+
+    if (p.gamma * p.beta * p.d == 1)
+        p.gamma = 2;
+    return with_sizes(p);
+}
+
+/* Small boards at one extreme of the parameters each. */
+static struct cnftl_params extreme_board(void)
+{
+    static const uint32_t p256[5][3] = {
+        { 16, 16, 1 }, { 16, 1, 16 }, { 1, 16, 16 }, { 4, 8, 8 }, { 2, 16, 8 }
+    };
+    const uint32_t *abd = p256[below(5)];
+    struct cnftl_params p = { 16, 1, 1, 1, 1, 1, 0, 0 };
+
+    switch (below(9)) {
+    case 0: /* both frames of a cluster in one segment */
+        p.alpha = between(1, 2);
+        p.beta = 2;
+        p.mu = between(1, 2);
+        p.gamma = between(1, 3);
+        break;
+    case 1: /* P = 1 */
+        p.mu = between(1, 4);
+        p.gamma = between(2, 6);
+        break;
+    case 2: /* gamma = 1 */
+        p.alpha = between(1, 2);
+        p.beta = between(2, 4);
+        p.mu = between(1, 5);
+        break;
+    case 3: /* C < mu: some regions have no cluster */
+        p.beta = between(1, 2);
+        p.gamma = 2;
+        p.mu = between(2, 8);
+        p = with_sizes(p);
+        p.c = between(1, p.mu - 1);
+        return p;
+    case 4: /* gamma = 16 */
+        p.alpha = between(1, 2);
+        p.gamma = 16;
+        break;
+    case 5: /* P = 256 */
+        p.alpha = abd[0];
+        p.beta = abd[1];
+        p.d = abd[2];
+        p.gamma = between(1, 2);
+        break;
+    case 6: /* the largest clusters */
+        p.s = 512;
+        p.alpha = 16;
+        p.d = 2;
+        break;
+    case 7: /* cluster numbers above 255 */
+        p.d = 2;
+        p.mu = 16;
+        p.gamma = 16;
+        p.c = 16 * 31;
+        p.n = 16 * 16 + between(1, 3);
+        return p;
+    default: /* one region */
+        p.alpha = between(1, 4);
+        p.beta = between(1, 4);
+        p.d = between(1, 4);
+        p.gamma = between(2, 4);
+        break;
+    }
+    return with_sizes(p);
+}
+
+/* The large extremes, each in its turn. */
+static void run_large_board(uint64_t turn)
+{
+    static const struct cnftl_params most_regions =
+        { 16, 1, 2, 1, 1024, 1, 1024, 1026 };
+    static const struct cnftl_params most_blocks =
+        { 16, 1, 1, 1, 2, 2, 2, 65535 };
+    static const struct cnftl_params most_clusters =
+        { 16, 1, 16, 16, 17, 16, 17 * 4095, 17 * 16 + 4 };
+
+    switch (turn % 4) {
+    case 0:
+        run_board(most_clusters, 20);
+        break;
+    case 1:
+        run_board(most_regions, 40);
+        break;
+    case 2:
+        run_board(most_blocks, 20);
+        break;
+    default:
+        run_wrapped_board();
+        break;
+    }
+}
+
+/* Boards until the calls are made. */
+static void run_all(void)
+{
+    for (uint64_t i = 0; calls < limit; i++)
+        if (i % 16 == 15)
+            run_large_board(i / 16);
+        else if (i % 2 == 0)
+            run_board(small_board(), 1200);
+        else
+            run_board(extreme_board(), 1200);
+}
+
+/* ==== The program ====================================================== */
+
+/* Prints what was seen; false if something never was. */
+static bool report(void)
+{
+    bool all = reclaims > 0 && shadow_reads > 0;
+
+    for (int r = 0; r < REPLIES; r++) {
+        printf("fuzz: reply %d: %" PRIu64 " calls\n", r, seen[r]);
+        all = all && seen[r] > 0;
+    }
+    printf("fuzz: %" PRIu64 " formats, %" PRIu64 " reads (%" PRIu64
+           " compared with the bytes last accepted), %" PRIu64 " writes, %"
+           PRIu64 " reclaims\n", kinds[0], kinds[1], shadow_reads, kinds[2],
+           reclaims);
+    return all;
+}
+
+/* The model's mutants, one a line: number, tab, name. */
+static int list_mutants(void)
+{
+    for (int i = 1; i < MODEL_MUTANT_COUNT; i++)
+        printf("%d\t%s\n", i, MODEL_MUTANTS[i]);
+    return 0;
+}
+
+/* Says how to use the program. */
+static int usage(void)
+{
+    fprintf(stderr, "use: fuzz [--calls N] [--seed S] [--mutant K]\n"
+                    "     fuzz --mutants\n");
+    return 2;
+}
+
+/* Reads a decimal number; false if it is none. */
+static bool number(const char *text, uint64_t *value)
+{
+    char *end;
+
+    if (text == NULL || *text < '0' || *text > '9')
+        return false;
+    *value = strtoull(text, &end, 10);
+    return *end == '\0';
+}
+
+/* Reads the options, runs, and reports. */
+int main(int argc, char **argv)
+{
+    uint64_t mutant = MODEL_RIGHT;
+
+    if (argc == 2 && strcmp(argv[1], "--mutants") == 0)
+        return list_mutants();
+    for (int i = 1; i < argc; i += 2) {
+        uint64_t *value = strcmp(argv[i], "--calls") == 0 ? &limit
+                        : strcmp(argv[i], "--seed") == 0 ? &seed
+                        : strcmp(argv[i], "--mutant") == 0 ? &mutant : NULL;
+
+        if (value == NULL || !number(argv[i + 1], value))
+            return usage();
+    }
+    if (mutant >= MODEL_MUTANT_COUNT)
+        return usage();
+    model_mutant = (int)mutant;
+    rnd_state = seed;
+    printf("fuzz: seed %" PRIu64 ", %" PRIu64 " calls, %s\n", seed, limit,
+           MODEL_MUTANTS[model_mutant]);
+    run_all();
+    if (!report()) {
+        printf("fuzz: something was never seen (seed %" PRIu64 ")\n", seed);
+        return 1;
+    }
+    printf("fuzz: %" PRIu64 " calls agree (seed %" PRIu64 ")\n", calls, seed);
+    return 0;
+}

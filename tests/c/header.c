@@ -1,0 +1,170 @@
+/*
+ * header.c - Board T of document 01 through cnftl.h, as C99 and as C++ (see
+ * header.cc): the printed session and the marked cases that a call can show.
+ */
+#undef NDEBUG
+#include "cnftl.h"
+
+#include <assert.h>
+#include <stdio.h>
+#include <string.h>
+
+/* One line of the printed session. */
+struct line {
+    char kind;
+    uint32_t lba, count;
+    uint8_t value;
+    uint32_t reply, programs, erases;
+};
+
+static const struct line session[] = {
+    { 'W', 0, 2, 17, 0, 2, 0 },
+    { 'W', 4, 2, 18, 0, 2, 0 },
+    { 'W', 2, 1, 19, 0, 2, 0 },
+    { 'W', 8, 1, 20, 0, 2, 0 },
+    { 'W', 0, 1, 21, 0, 2, 0 },
+    { 'W', 5, 1, 22, 0, 4, 1 },
+    { 'W', 0, 2, 23, 0, 4, 1 },
+    { 'R', 4, 2, 0, 0, 0, 0 },
+    { 'R', 3, 1, 0, 0, 0, 0 },
+    { 'W', 12, 1, 5, 4, 0, 0 },
+    { 'R', 1, 2, 0, 3, 0, 0 }
+};
+
+/* Room for Board T, and one CT entry more for case (d). */
+static uint8_t chip[640], bst[5], data[32];
+static uint16_t ct[7], bt[4], fst[2];
+static uint32_t wear[5];
+
+static struct cnftl_board board = {
+    { 16, 2, 1, 2, 2, 2, 6, 5 }, chip, ct, bt, fst, bst, wear
+};
+
+/* Whether an answer has this reply and these counts. */
+static int is(uint64_t answer, uint32_t reply, uint32_t programs,
+              uint32_t erases)
+{
+    return cnftl_reply_of(answer) == reply
+        && cnftl_programs_of(answer) == programs
+        && cnftl_erases_of(answer) == erases;
+}
+
+/* A new Board T, not yet formatted. */
+static void new_board(void)
+{
+    memset(chip, 255, sizeof chip);
+    memset(wear, 0, sizeof wear);
+    board.params.c = 6;
+    board.params.n = 5;
+}
+
+/* Makes one line's call and checks its answer. */
+static void run_line(const struct line *l)
+{
+    size_t len = (size_t)l->count * 16;
+
+    memset(data, l->value, sizeof data);
+    if (l->kind == 'W')
+        assert(is(cnftl_board_write(&board, l->lba, l->count, data, len),
+                  l->reply, l->programs, l->erases));
+    else
+        assert(is(cnftl_board_read(&board, l->lba, l->count, data, len),
+                  l->reply, l->programs, l->erases));
+}
+
+/* Whether 16 bytes of data from a sector on are all this byte. */
+static int sector_is(int sector, uint8_t value)
+{
+    for (int i = 0; i < 16; i++)
+        if (data[sector * 16 + i] != value)
+            return 0;
+    return 1;
+}
+
+/* The session, its two reads, and the marked cases (a) to (c). */
+static void check_session(void)
+{
+    new_board();
+    assert(is(cnftl_board_format(&board), CNFTL_ACCEPTED, 0, 5));
+    for (size_t i = 0; i < sizeof session / sizeof session[0]; i++) {
+        run_line(&session[i]);
+        if (i == 5)
+            assert(bt[0] == 3 && bst[0] == CNFTL_BLOCK_FREE);
+        if (i == 6)
+            assert(bt[0] == 4 && bst[3] == CNFTL_BLOCK_FREE);
+        if (i == 7)
+            assert(sector_is(0, 0x12) && sector_is(1, 0x16));
+        if (i == 8)
+            assert(sector_is(0, 0xff));
+    }
+    assert(ct[0] == 1 && ct[2] == 0 && ct[4] == 2);
+}
+
+/* The marked cases (d) to (i). */
+static void check_cases(void)
+{
+    new_board();
+    board.params.c = 7;
+    assert(is(cnftl_board_format(&board), CNFTL_BAD_PARAMETER, 0, 0));
+    assert(!cnftl_params_allowed(&board.params));
+    new_board();
+    board.params.n = 4;
+    assert(is(cnftl_board_format(&board), CNFTL_TOO_FEW_BLOCKS, 0, 0));
+    new_board();
+    chip[2 * 128 + 16 + 5] = 0;
+    assert(is(cnftl_board_format(&board), CNFTL_TOO_FEW_BLOCKS, 0, 0));
+    new_board();
+    assert(is(cnftl_board_format(&board), CNFTL_ACCEPTED, 0, 5));
+    assert(is(cnftl_board_write(&board, 11, 1, data, 16), CNFTL_ACCEPTED,
+              2, 0));
+    assert(is(cnftl_board_write(&board, 13, 2, data, 32), CNFTL_BAD_COUNT,
+              0, 0));
+    assert(is(cnftl_board_write(&board, 0, 0, data, 0), CNFTL_BAD_COUNT,
+              0, 0));
+}
+
+/* The replies that the cases above do not give, through the long calls. */
+static void check_replies(void)
+{
+    new_board();
+    assert(is(cnftl_format(16, 2, 1, 2, 2, 2, 6, 5, chip, 639, ct, 6, bt, 4,
+                           fst, 2, bst, 5, wear, 5),
+              CNFTL_WRONG_LENGTH, 0, 0));
+    assert(is(cnftl_format(16, 2, 1, 2, 2, 2, 6, 5, chip, 640, ct, 6, bt, 4,
+                           fst, 2, bst, 5, wear, 5),
+              CNFTL_ACCEPTED, 0, 5));
+    assert(is(cnftl_write(16, 2, 1, 2, 2, 2, 6, 5, chip, 640, ct, 6, bt, 4,
+                          fst, 2, bst, 5, wear, 5, 0, 1, data, 17),
+              CNFTL_WRONG_DATA, 0, 0));
+    bst[0] = 3;
+    assert(is(cnftl_read(16, 2, 1, 2, 2, 2, 6, 5, chip, 640, ct, 6, bt, 4,
+                         fst, 2, bst, 5, wear, 5, 0, 1, data, 16),
+              CNFTL_NOT_ORDERLY, 0, 0));
+}
+
+/* The sizes of Board T. */
+static void check_sizes(void)
+{
+    new_board();
+    assert(cnftl_params_allowed(&board.params));
+    assert(cnftl_pages_per_block(&board.params) == 4);
+    assert(cnftl_page_bytes(&board.params) == 32);
+    assert(cnftl_chip_bytes(&board.params) == 640);
+    assert(cnftl_ct_entries(&board.params) == 6);
+    assert(cnftl_bt_entries(&board.params) == 4);
+    assert(cnftl_fst_entries(&board.params) == 2);
+    assert(cnftl_bst_entries(&board.params) == 5);
+    assert(cnftl_wear_entries(&board.params) == 5);
+    assert(cnftl_sectors(&board.params) == 12);
+}
+
+/* All checks; an assert ends the program where one fails. */
+int main(void)
+{
+    check_sizes();
+    check_session();
+    check_cases();
+    check_replies();
+    printf("header: Board T answers as printed\n");
+    return 0;
+}

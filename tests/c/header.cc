@@ -1,0 +1,2 @@
+// header.cc - the same test as C++.
+#include "header.c"

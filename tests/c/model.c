@@ -1,0 +1,1074 @@
+/*
+ * model.c - document 01 in C, in its own order and with its own sentences.
+ *
+ * Quoted comments are sentences of the document, with Greek letters spelt out.
+ * The lines that ask for a MUTANT are wrong on purpose and sleep while
+ * model_mutant is 0.
+ */
+#include "model.h"
+
+#include <assert.h>
+#include <stdbool.h>
+#include <string.h>
+
+int model_mutant = MODEL_RIGHT;
+
+#define MODEL_MUTANT_NAME(id, name) name,
+const char *const MODEL_MUTANTS[MODEL_MUTANT_COUNT] = {
+    "the right model",
+    MODEL_MUTANT_LIST(MODEL_MUTANT_NAME)
+};
+
+#define MUTANT(id) (model_mutant == MODEL_##id)
+
+/* ==== Parameters ======================================================= */
+
+enum { SPARE = 16, NONE = 65535, ERASED = 255 };
+enum { FREE = 0, USED = 1, RESERVED = 2 };
+
+/* The eight parameters, with F and P worked out. */
+struct params {
+    uint32_t s, alpha, beta, d, mu, gamma, c, n;
+    uint32_t f, p;
+};
+
+/* "F = beta*d frames make a block, P = alpha*F pages" */
+static struct params make_params(uint32_t s, uint32_t alpha, uint32_t beta,
+                                 uint32_t d, uint32_t mu, uint32_t gamma,
+                                 uint32_t c, uint32_t n)
+{
+    struct params p = { s, alpha, beta, d, mu, gamma, c, n, 0, 0 };
+
+    p.f = beta * d;
+    p.p = alpha * p.f;
+    return p;
+}
+
+/* Whether a parameter lies in the range that the table allows it. */
+static bool within(uint32_t value, uint32_t low, uint32_t high)
+{
+    return low <= value && value <= high;
+}
+
+/* "P at most 256. C/mu rounded up is at most gamma*F - 1." and the table. */
+static bool parameters_allowed(const struct params *p)
+{
+    uint32_t most;
+
+    if (!within(p->s, 16, 512) || !within(p->alpha, 1, 16)
+        || !within(p->beta, 1, 16) || !within(p->d, 1, 16)
+        || !within(p->mu, 1, 1024) || !within(p->gamma, 1, 16)
+        || !within(p->c, 1, MUTANT(C_UNBOUNDED) ? 2097152 : 1048576)
+        || !within(p->n, 1, 65535))
+        return false;
+    if (p->p > 256 && !MUTANT(P_UNBOUNDED))
+        return false;
+    most = MUTANT(GAMMA_F) ? p->gamma * p->f : p->gamma * p->f - 1;
+    if (MUTANT(PER_REGION_DOWN))
+        return p->c / p->mu <= most;
+    return (p->c + p->mu - 1) / p->mu <= most;
+}
+
+/* ==== Numbers and tables =============================================== */
+
+/* The lent state as every step reads it. */
+struct view {
+    struct params p;
+    const uint8_t *chip;
+    const uint16_t *ct, *bt, *fst;
+    const uint8_t *bst;
+    const uint32_t *wear;
+};
+
+/* The same state as format and write change it. */
+struct lent {
+    struct view v;
+    uint8_t *chip;
+    uint16_t *ct, *bt, *fst;
+    uint8_t *bst;
+    uint32_t *wear;
+};
+
+/* The lengths of the six lent slices in elements. */
+struct lengths {
+    size_t chip, ct, bt, fst, bst, wear;
+};
+
+/* Whether one slice has the length that it should have. */
+static bool length_right(size_t given, uint64_t right)
+{
+    return MUTANT(LENGTH_AT_LEAST) ? given >= right : given == right;
+}
+
+/* "the chip is N*P*(s+16) bytes"; CT per cluster; BT per region and virtual
+   block; FST per region; BST and wear per block. */
+static bool lengths_right(const struct params *p, const struct lengths *l)
+{
+    uint64_t page = (uint64_t)p->s + SPARE;
+
+    return length_right(l->chip, (uint64_t)p->n * p->p * page)
+        && length_right(l->ct, p->c)
+        && length_right(l->bt, (uint64_t)p->mu * p->gamma)
+        && length_right(l->fst, p->mu)
+        && length_right(l->bst, p->n)
+        && (MUTANT(WEAR_LENGTH) || length_right(l->wear, p->n));
+}
+
+/* "Cluster = LBA / alpha rounded down." */
+static uint32_t cluster_of(const struct params *p, uint32_t lba)
+{
+    return lba / p->alpha;
+}
+
+/* "Region = cluster mod mu." */
+static uint32_t region_of(const struct params *p, uint32_t cluster)
+{
+    return cluster % p->mu;
+}
+
+/* "its virtual block is segment / d rounded down" */
+static uint32_t virtual_of(const struct params *p, uint32_t segment)
+{
+    return segment / p->d;
+}
+
+/* "segment mod d is its place in that block": its first frame there. */
+static uint32_t first_frame_of(const struct params *p, uint32_t segment)
+{
+    return segment % p->d * p->beta;
+}
+
+/* The segment, counted within the region, of a frame of a virtual block. */
+static uint32_t segment_of(const struct params *p, uint32_t virtual_block,
+                           uint32_t frame)
+{
+    return virtual_block * p->d + frame / p->beta;
+}
+
+/* "BT: a 16-bit physical block per region and virtual block, region first." */
+static size_t bt_index(const struct params *p, uint32_t region,
+                       uint32_t virtual_block)
+{
+    return (size_t)region * p->gamma + virtual_block;
+}
+
+/* The physical block that BT names for a region's virtual block, or NONE. */
+static uint32_t block_of(const struct view *v, uint32_t region,
+                         uint32_t virtual_block)
+{
+    return v->bt[bt_index(&v->p, region, virtual_block)];
+}
+
+/* "A page is s data bytes and then 16 spare bytes, ... pages in block order" */
+static size_t page_bytes(const struct params *p)
+{
+    return (size_t)p->s + SPARE;
+}
+
+/* Where in the chip a page begins: block, frame in it, place in the frame. */
+static size_t page_at(const struct params *p, uint32_t block, uint32_t frame,
+                      uint32_t place)
+{
+    size_t page = (size_t)block * p->p + (size_t)frame * p->alpha + place;
+
+    return page * page_bytes(p);
+}
+
+/* The spare bytes of a page. */
+static const uint8_t *spare_at(const struct view *v, uint32_t block,
+                               uint32_t frame, uint32_t place)
+{
+    return v->chip + page_at(&v->p, block, frame, place) + v->p.s;
+}
+
+/* "Spare bytes of a programmed page: 0 to 3 cluster number, low byte first" */
+static uint32_t cluster_in(const uint8_t *spare)
+{
+    return spare[0] | (uint32_t)spare[1] << 8 | (uint32_t)spare[2] << 16
+         | (uint32_t)spare[3] << 24;
+}
+
+/* "4 the sector's place in its cluster; 5 always 255; 6 zero; 7 to 15 all
+   255." */
+static bool spare_right(const uint8_t *spare, uint32_t cluster, uint32_t place)
+{
+    if (cluster_in(spare) != cluster)
+        return false;
+    if (spare[4] != place && !MUTANT(PLACE_BYTE))
+        return false;
+    if (spare[5] != 255 && !MUTANT(MARK_BYTE))
+        return false;
+    if (spare[6] != 0)
+        return false;
+    for (int i = 7; i < SPARE && !MUTANT(TAIL_BYTES); i++)
+        if (spare[i] != 255)
+            return false;
+    return true;
+}
+
+/* "An erased page is 255 throughout." */
+static bool page_erased(const struct view *v, uint32_t block, uint32_t frame,
+                        uint32_t place)
+{
+    const uint8_t *page = v->chip + page_at(&v->p, block, frame, place);
+
+    for (size_t i = 0; i < page_bytes(&v->p); i++)
+        if (page[i] != ERASED)
+            return false;
+    return true;
+}
+
+/* Whether every page of a frame is erased. */
+static bool frame_erased(const struct view *v, uint32_t block, uint32_t frame)
+{
+    for (uint32_t place = 0; place < v->p.alpha; place++)
+        if (!page_erased(v, block, frame, place))
+            return false;
+    return true;
+}
+
+/* "The alpha pages of a frame hold one cluster in order." */
+static bool frame_programmed(const struct view *v, uint32_t block,
+                             uint32_t frame)
+{
+    uint32_t cluster = cluster_in(spare_at(v, block, frame, 0));
+
+    for (uint32_t place = 0; place < v->p.alpha; place++) {
+        if (!spare_right(spare_at(v, block, frame, place), cluster, place))
+            return false;
+        if (MUTANT(FIRST_PAGE_ONLY))
+            return true;
+    }
+    return true;
+}
+
+/* Whether a frame is programmed, in a block where each frame is programmed
+   or erased (spare byte 6 parts the two). */
+static bool frame_taken(const struct view *v, uint32_t block, uint32_t frame)
+{
+    return spare_at(v, block, frame, 0)[6] == 0;
+}
+
+/* Whether a frame of such a block is programmed and holds this cluster. */
+static bool frame_holds(const struct view *v, uint32_t block, uint32_t frame,
+                        uint32_t cluster)
+{
+    return frame_taken(v, block, frame)
+        && cluster_in(spare_at(v, block, frame, 0)) == cluster;
+}
+
+/* "A frame is valid if its cluster's CT entry names its segment and no later
+   frame of that segment holds the same cluster." */
+static bool frame_valid(const struct view *v, uint32_t region,
+                        uint32_t virtual_block, uint32_t frame)
+{
+    uint32_t block = block_of(v, region, virtual_block);
+    uint32_t cluster = cluster_in(spare_at(v, block, frame, 0));
+    uint32_t segment = segment_of(&v->p, virtual_block, frame);
+    uint32_t first = first_frame_of(&v->p, segment);
+
+    if (!frame_taken(v, block, frame) || v->ct[cluster] != segment)
+        return false;
+    if (MUTANT(FIRST_FRAME)) {
+        for (uint32_t g = first; g < frame; g++)
+            if (frame_holds(v, block, g, cluster))
+                return false;
+        return true;
+    }
+    for (uint32_t later = frame + 1; later < first + v->p.beta; later++)
+        if (frame_holds(v, block, later, cluster))
+            return false;
+    return true;
+}
+
+/* ==== When a state is orderly ========================================== */
+
+/* "BST holds 0, 1 or 2." */
+static bool bst_entries_orderly(const struct view *v)
+{
+    for (uint32_t b = 0; b < v->p.n; b++)
+        if (v->bst[b] > RESERVED && !MUTANT(BST_VALUE))
+            return false;
+    return true;
+}
+
+/* "BT entries are none or below N" */
+static bool bt_entries_orderly(const struct view *v)
+{
+    for (size_t i = 0; i < (size_t)v->p.mu * v->p.gamma; i++)
+        if (v->bt[i] != NONE && v->bt[i] >= v->p.n)
+            return false;
+    return true;
+}
+
+/* "no block is named twice" */
+static bool no_block_named_twice(const struct view *v)
+{
+    size_t entries = (size_t)v->p.mu * v->p.gamma;
+
+    for (size_t i = 0; i < entries; i++)
+        for (size_t j = i + 1; j < entries && v->bt[i] != NONE; j++)
+            if (v->bt[i] == v->bt[j] && !MUTANT(NAMED_TWICE))
+                return false;
+    return true;
+}
+
+/* Whether some BT entry names the block. */
+static bool block_named(const struct view *v, uint32_t block)
+{
+    for (size_t i = 0; i < (size_t)v->p.mu * v->p.gamma; i++)
+        if (v->bt[i] == block)
+            return true;
+    return false;
+}
+
+/* "a block is used exactly if BT names it" */
+static bool used_exactly_if_named(const struct view *v)
+{
+    for (size_t i = 0; i < (size_t)v->p.mu * v->p.gamma; i++)
+        if (v->bt[i] != NONE && v->bst[v->bt[i]] != USED
+            && !MUTANT(NAMED_NOT_USED))
+            return false;
+    for (uint32_t b = 0; b < v->p.n; b++)
+        if (v->bst[b] == USED && !block_named(v, b) && !MUTANT(USED_NOT_NAMED))
+            return false;
+    return true;
+}
+
+/* "At least mu*gamma+1 blocks are not reserved." */
+static bool enough_blocks(const struct view *v)
+{
+    uint32_t kept = 0;
+
+    for (uint32_t b = 0; b < v->p.n; b++)
+        if (v->bst[b] != RESERVED)
+            kept++;
+    if (MUTANT(FEW_BLOCKS))
+        return true;
+    if (MUTANT(ONE_BLOCK_SHORT))
+        return kept >= v->p.mu * v->p.gamma;
+    return kept >= v->p.mu * v->p.gamma + 1;
+}
+
+/* Whether every page of a block from a frame on is erased. */
+static bool erased_from(const struct view *v, uint32_t block, uint32_t frame)
+{
+    for (; frame < v->p.f; frame++)
+        if (!frame_erased(v, block, frame))
+            return false;
+    return true;
+}
+
+/* "Free blocks are erased throughout. Reserved blocks may hold anything." */
+static bool free_blocks_erased(const struct view *v)
+{
+    for (uint32_t b = 0; b < v->p.n; b++) {
+        if (v->bst[b] == FREE && !erased_from(v, b, 0)
+            && !MUTANT(FREE_NOT_ERASED))
+            return false;
+        if (v->bst[b] == RESERVED && MUTANT(RESERVED_ERASED)
+            && !erased_from(v, b, 0))
+            return false;
+    }
+    return true;
+}
+
+/* A frame "with spare bytes as above and clusters below C of that region" */
+static bool frame_orderly(const struct view *v, uint32_t region,
+                          uint32_t block, uint32_t frame)
+{
+    uint32_t cluster = cluster_in(spare_at(v, block, frame, 0));
+
+    if (!frame_programmed(v, block, frame) || cluster >= v->p.c)
+        return false;
+    if (MUTANT(CT_NONE_REFUSED) && v->ct[cluster] == NONE)
+        return false;
+    return region_of(&v->p, cluster) == region || MUTANT(OTHER_REGION);
+}
+
+/* "In a used block the first k frames are programmed, k from 1 to F, ... The
+   rest is erased." */
+static bool used_block_orderly(const struct view *v, uint32_t region,
+                               uint32_t block)
+{
+    uint32_t k = 0;
+
+    while (k < v->p.f && frame_orderly(v, region, block, k))
+        k++;
+    if (k == 0 && !MUTANT(EMPTY_USED))
+        return false;
+    if (MUTANT(REST_NOT_ERASED))
+        return k == v->p.f || !frame_taken(v, block, k);
+    return erased_from(v, block, k);
+}
+
+/* The same of every block that BT names. */
+static bool used_blocks_orderly(const struct view *v)
+{
+    for (uint32_t r = 0; r < v->p.mu; r++)
+        for (uint32_t i = 0; i < v->p.gamma; i++) {
+            uint32_t block = block_of(v, r, i);
+
+            if (block != NONE && !used_block_orderly(v, r, block))
+                return false;
+        }
+    return true;
+}
+
+/* How many frames of an orderly used block are programmed. */
+static uint32_t frames_taken(const struct view *v, uint32_t block)
+{
+    uint32_t k = 0;
+
+    while (k < v->p.f && frame_taken(v, block, k))
+        k++;
+    return k;
+}
+
+/* Whether the segment is that of the last of k frames of a virtual block. */
+static bool names_last(const struct view *v, uint32_t segment,
+                       uint32_t virtual_block, uint32_t k)
+{
+    if (MUTANT(FST_OFF_BY_ONE) || (MUTANT(EMPTY_USED) && k == 0))
+        return virtual_of(&v->p, segment) == virtual_block;
+    return segment == segment_of(&v->p, virtual_block, k - 1);
+}
+
+/* "FST is none exactly if the region has no block. Otherwise it names the
+   segment of the last programmed frame of one of the region's blocks, the
+   open block, and every other block of the region is full." */
+static bool fst_entry_orderly(const struct view *v, uint32_t region)
+{
+    uint32_t blocks = 0, full = 0;
+    uint32_t k[16];
+
+    for (uint32_t i = 0; i < v->p.gamma; i++) {
+        uint32_t block = block_of(v, region, i);
+
+        k[i] = block == NONE ? 0 : frames_taken(v, block);
+        blocks += block != NONE;
+        full += block != NONE && k[i] == v->p.f;
+    }
+    if (blocks == 0 || v->fst[region] == NONE)
+        return (blocks == 0 || MUTANT(FST_NONE)) && v->fst[region] == NONE;
+    for (uint32_t i = 0; i < v->p.gamma; i++)
+        if (block_of(v, region, i) != NONE
+            && names_last(v, v->fst[region], i, k[i])
+            && (full - (k[i] == v->p.f) == blocks - 1 || MUTANT(TWO_OPEN)))
+            return true;
+    return false;
+}
+
+/* The same of every region. */
+static bool fst_entries_orderly(const struct view *v)
+{
+    for (uint32_t r = 0; r < v->p.mu; r++)
+        if (!fst_entry_orderly(v, r))
+            return false;
+    return true;
+}
+
+/* Whether a segment of a region holds a programmed frame of a cluster. */
+static bool segment_holds(const struct view *v, uint32_t region,
+                          uint32_t segment, uint32_t cluster)
+{
+    uint32_t block, first = first_frame_of(&v->p, segment);
+
+    if (virtual_of(&v->p, segment) >= v->p.gamma)
+        return false;
+    block = block_of(v, region, virtual_of(&v->p, segment));
+    if (block == NONE)
+        return false;
+    for (uint32_t frame = first; frame < first + v->p.beta; frame++)
+        if (frame_holds(v, block, frame, cluster))
+            return true;
+    return MUTANT(CT_ELSEWHERE);
+}
+
+/* "A CT entry is none or names a segment, in its own region, that holds a
+   programmed frame of that cluster." */
+static bool ct_entries_orderly(const struct view *v)
+{
+    for (uint32_t x = 0; x < v->p.c; x++)
+        if (v->ct[x] != NONE
+            && !segment_holds(v, region_of(&v->p, x), v->ct[x], x))
+            return false;
+    return true;
+}
+
+/* All rules, in the document's order; each relies on those before it. */
+static bool orderly(const struct view *v)
+{
+    return bst_entries_orderly(v)
+        && bt_entries_orderly(v)
+        && no_block_named_twice(v)
+        && used_exactly_if_named(v)
+        && enough_blocks(v)
+        && free_blocks_erased(v)
+        && used_blocks_orderly(v)
+        && fst_entries_orderly(v)
+        && ct_entries_orderly(v);
+}
+
+/* ==== Steps ============================================================ */
+
+/* A frame on the chip: its virtual block, its physical block, its number. */
+struct spot {
+    bool found;
+    uint32_t virtual_block, block, frame;
+};
+
+/* Programs one page: "Each page that the steps program is 255 throughout just
+   before". */
+static void program_page(struct lent *l, const struct spot *at, uint32_t place,
+                         uint32_t cluster, const uint8_t *bytes)
+{
+    const struct params *p = &l->v.p;
+    uint8_t *page = l->chip + page_at(p, at->block, at->frame, place);
+    uint8_t *spare = page + p->s;
+
+    assert(model_mutant != MODEL_RIGHT
+           || page_erased(&l->v, at->block, at->frame, place));
+    memcpy(page, bytes, p->s);
+    spare[0] = (uint8_t)cluster;
+    spare[1] = (uint8_t)(MUTANT(CLUSTER_8_BITS) ? 0 : cluster >> 8);
+    spare[2] = (uint8_t)(MUTANT(CLUSTER_8_BITS) || MUTANT(CLUSTER_16_BITS)
+                         ? 0 : cluster >> 16);
+    spare[3] = (uint8_t)(MUTANT(CLUSTER_8_BITS) || MUTANT(CLUSTER_16_BITS)
+                         ? 0 : cluster >> 24);
+    spare[4] = (uint8_t)(MUTANT(SPARE_PLACE_0) ? 0 : place);
+    spare[5] = 255;
+    spare[6] = 0;
+    memset(spare + 7, 255, SPARE - 7);
+}
+
+/* Programs the alpha pages of a frame with one cluster in order. */
+static void program_frame(struct lent *l, const struct spot *at,
+                          uint32_t cluster, const uint8_t *bytes)
+{
+    for (uint32_t place = 0; place < l->v.p.alpha; place++)
+        program_page(l, at, place, cluster, bytes + place * l->v.p.s);
+}
+
+/* Gathers the data bytes of a frame. */
+static void load_frame(const struct view *v, const struct spot *at,
+                       uint8_t *bytes)
+{
+    for (uint32_t place = 0; place < v->p.alpha; place++)
+        memcpy(bytes + place * v->p.s,
+               v->chip + page_at(&v->p, at->block, at->frame, place), v->p.s);
+}
+
+/* Erases a block: every byte becomes 255. */
+static void erase_pages(struct lent *l, uint32_t block)
+{
+    memset(l->chip + page_at(&l->v.p, block, 0, 0), ERASED,
+           l->v.p.p * page_bytes(&l->v.p));
+}
+
+/* "Wear: a 32-bit erase count per block, which stays at 4,294,967,295 once
+   there." */
+static void count_erase(struct lent *l, uint32_t block)
+{
+    if (l->wear[block] != UINT32_MAX || MUTANT(WEAR_WRAPS))
+        l->wear[block]++;
+}
+
+/* "A block is bad if byte 5 of the spare area of its first page is not 255." */
+static bool block_bad(const struct view *v, uint32_t block)
+{
+    uint32_t frame = MUTANT(BAD_IN_LAST_PAGE) ? v->p.f - 1 : 0;
+    uint32_t place = MUTANT(BAD_IN_LAST_PAGE) ? v->p.alpha - 1 : 0;
+    uint8_t mark = spare_at(v, block, frame, place)[5];
+
+    return MUTANT(BAD_WHEN_ZERO) ? mark == 0 : mark != 255;
+}
+
+/* How many blocks are not bad. */
+static uint32_t good_blocks(const struct view *v)
+{
+    uint32_t good = 0;
+
+    for (uint32_t b = 0; b < v->p.n; b++)
+        good += !block_bad(v, b);
+    return good;
+}
+
+/* "Bad blocks become reserved and are not touched. All others are erased (one
+   erase each) and become free." */
+static void format_block(struct lent *l, uint32_t block)
+{
+    if (block_bad(&l->v, block)) {
+        l->bst[block] = RESERVED;
+        if (MUTANT(FORMAT_ERASES_BAD))
+            erase_pages(l, block);
+        return;
+    }
+    l->bst[block] = FREE;
+    erase_pages(l, block);
+    if (MUTANT(FORMAT_CLEARS_WEAR))
+        l->wear[block] = 0;
+    if (!MUTANT(FORMAT_NO_WEAR))
+        count_erase(l, block);
+}
+
+/* Format, and then "CT, BT and FST become none." */
+static void format_steps(struct lent *l)
+{
+    const struct params *p = &l->v.p;
+
+    for (uint32_t b = 0; b < p->n; b++)
+        format_block(l, b);
+    for (uint32_t x = 0; x < p->c; x++)
+        l->ct[x] = NONE;
+    for (size_t i = 0; i < (size_t)p->mu * p->gamma; i++)
+        l->bt[i] = NONE;
+    for (uint32_t r = 0; r < p->mu && !MUTANT(FORMAT_KEEPS_FST); r++)
+        l->fst[r] = NONE;
+}
+
+/* The cluster's valid frame, which is not found if CT has none. */
+static struct spot valid_frame(const struct view *v, uint32_t cluster)
+{
+    struct spot at = { false, 0, 0, 0 };
+    uint32_t region = region_of(&v->p, cluster);
+    uint32_t segment = v->ct[cluster], first;
+
+    if (segment == NONE)
+        return at;
+    at.virtual_block = virtual_of(&v->p, segment);
+    at.block = block_of(v, region, at.virtual_block);
+    first = first_frame_of(&v->p, segment);
+    for (uint32_t frame = first; frame < first + v->p.beta; frame++)
+        if (frame_holds(v, at.block, frame, cluster)
+            && frame_valid(v, region, at.virtual_block, frame)) {
+            at.found = true;
+            at.frame = frame;
+        }
+    return at;
+}
+
+/* Read. "For each sector, the bytes at its place in the cluster's valid frame;
+   255 if CT has none." */
+static void read_steps(const struct view *v, uint32_t lba, uint32_t count,
+                       uint8_t *data)
+{
+    struct spot at = valid_frame(v, cluster_of(&v->p, lba));
+    uint32_t from = MUTANT(READ_PLACE_0) ? 0 : lba % v->p.alpha;
+
+    for (uint32_t i = 0; i < count; i++) {
+        uint8_t *sector = data + (size_t)i * v->p.s;
+
+        if (at.found)
+            memcpy(sector,
+                   v->chip + page_at(&v->p, at.block, at.frame, from + i),
+                   v->p.s);
+        else
+            memset(sector, 255, v->p.s);
+    }
+}
+
+/* "The new cluster is the old one (all 255 if CT has none)": its old bytes. */
+static void load_old(const struct view *v, const struct spot *old,
+                     uint8_t *bytes)
+{
+    if (old->found && !MUTANT(NO_MERGE))
+        load_frame(v, old, bytes);
+    else
+        memset(bytes, 255, (size_t)v->p.alpha * v->p.s);
+}
+
+/* "Free block. The one with the lowest wear, the lowest number on a tie."
+   An orderly state has one; block 0 stands in where a mutant has none. */
+static uint32_t free_block(const struct view *v)
+{
+    bool found = false;
+    uint32_t best = 0;
+
+    for (uint32_t b = 0; b < v->p.n; b++) {
+        if (v->bst[b] != FREE)
+            continue;
+        if (!found || (v->wear[b] < v->wear[best] && !MUTANT(FREE_BY_NUMBER))
+            || (v->wear[b] == v->wear[best] && MUTANT(FREE_TIE)))
+            best = b;
+        found = true;
+    }
+    return best;
+}
+
+/* A free block is taken and BT names it for the virtual block. */
+static void assign(struct lent *l, uint32_t region, uint32_t virtual_block,
+                   uint32_t block)
+{
+    l->bst[block] = USED;
+    l->bt[bt_index(&l->v.p, region, virtual_block)] = (uint16_t)block;
+}
+
+/* How many frames of a virtual block are valid. */
+static uint32_t valid_frames(const struct view *v, uint32_t region,
+                             uint32_t virtual_block)
+{
+    uint32_t block = block_of(v, region, virtual_block);
+    uint32_t valid = 0;
+
+    for (uint32_t frame = 0; frame < v->p.f; frame++) {
+        uint32_t cluster = cluster_in(spare_at(v, block, frame, 0));
+
+        if (MUTANT(VICTIM_COUNTS_STALE))
+            valid += frame_taken(v, block, frame)
+                && v->ct[cluster] == segment_of(&v->p, virtual_block, frame);
+        else
+            valid += frame_valid(v, region, virtual_block, frame);
+    }
+    return valid;
+}
+
+/* "The victim is the virtual block with fewest valid frames, the lowest on a
+   tie." */
+static uint32_t victim_of(const struct view *v, uint32_t region)
+{
+    uint32_t victim = 0, fewest = valid_frames(v, region, 0);
+
+    for (uint32_t i = 1; i < v->p.gamma && !MUTANT(VICTIM_ZERO); i++) {
+        uint32_t valid = valid_frames(v, region, i);
+
+        if (MUTANT(VICTIM_MOST) ? valid > fewest
+            : MUTANT(VICTIM_TIE) ? valid <= fewest : valid < fewest) {
+            victim = i;
+            fewest = valid;
+        }
+    }
+    return victim;
+}
+
+/* Whether a reclaim copies a frame of the victim: "The victim's valid frames,
+   the old frame of the cluster being written included, are copied". */
+static bool frame_copied(const struct view *v, uint32_t region,
+                         uint32_t victim, uint32_t frame, uint32_t written)
+{
+    uint32_t block = block_of(v, region, victim);
+    uint32_t cluster = cluster_in(spare_at(v, block, frame, 0));
+
+    if (MUTANT(STALE_COPIED))
+        return frame_taken(v, block, frame)
+            && v->ct[cluster] == segment_of(&v->p, victim, frame);
+    if (MUTANT(ALL_FRAMES_COPIED))
+        return frame_taken(v, block, frame);
+    if (MUTANT(OLD_NOT_COPIED) && cluster == written)
+        return false;
+    return frame_valid(v, region, victim, frame);
+}
+
+/* Copies one frame of the victim and "CT follows each". */
+static void copy_frame(struct lent *l, uint32_t cluster,
+                       const struct spot *from, const struct spot *to)
+{
+    uint8_t bytes[16 * 512];
+
+    load_frame(&l->v, from, bytes);
+    program_frame(l, to, cluster, bytes);
+    if (!MUTANT(CT_NOT_FOLLOWING))
+        l->ct[cluster] =
+            (uint16_t)segment_of(&l->v.p, to->virtual_block, to->frame);
+}
+
+/* Copies the victim's valid frames "to it in order from frame 0"; returns how
+   many.  At most F - 1 are valid, so the write always has a frame left; only a
+   mutant comes to the break. */
+static uint32_t copy_frames(struct lent *l, uint32_t region, uint32_t victim,
+                            uint32_t taken, uint32_t written)
+{
+    uint32_t f = l->v.p.f, copied = 0, order[256], clusters[256];
+    uint32_t block = block_of(&l->v, region, victim);
+
+    for (uint32_t i = 0; i < f; i++) {
+        uint32_t frame = MUTANT(COPIES_BACKWARDS) ? f - 1 - i : i;
+
+        if (!frame_copied(&l->v, region, victim, frame, written))
+            continue;
+        if (copied == f - 1)
+            break;
+        order[copied] = frame;
+        clusters[copied++] = cluster_in(spare_at(&l->v, block, frame, 0));
+    }
+    if (MUTANT(ERASE_FIRST))
+        erase_pages(l, block);
+    for (uint32_t i = 0; i < copied; i++) {
+        struct spot from = { true, victim, block, order[i] };
+        struct spot to = { true, victim, taken, i + MUTANT(COPIES_FROM_1) };
+
+        copy_frame(l, clusters[i], &from, &to);
+    }
+    return copied;
+}
+
+/* Reclaim. "A free block is taken. ... The victim is erased and becomes free;
+   BT names the new block. The write takes the next frame." */
+static struct spot reclaim(struct lent *l, uint32_t region, uint32_t written,
+                           uint32_t *copied)
+{
+    uint32_t victim = victim_of(&l->v, region);
+    uint32_t old = block_of(&l->v, region, victim);
+    uint32_t taken = free_block(&l->v);
+    struct spot at = { true, victim, taken, 0 };
+
+    *copied = copy_frames(l, region, victim, taken, written);
+    if (!MUTANT(VICTIM_NOT_ERASED))
+        erase_pages(l, old);
+    if (!MUTANT(RECLAIM_NO_WEAR))
+        count_erase(l, old);
+    if (!MUTANT(VICTIM_NOT_FREED))
+        l->bst[old] = FREE;
+    assign(l, region, victim, taken);
+    at.frame = MUTANT(COPIES_FROM_1) ? 0 : *copied;
+    return at;
+}
+
+/* "It goes to the lowest erased frame of the open block." */
+static struct spot open_frame(const struct view *v, uint32_t region)
+{
+    struct spot at = { false, 0, 0, 0 };
+
+    if (v->fst[region] == NONE)
+        return at;
+    at.virtual_block = virtual_of(&v->p, v->fst[region]);
+    at.block = block_of(v, region, at.virtual_block);
+    at.frame = frames_taken(v, at.block);
+    at.found = at.frame < v->p.f;
+    return at;
+}
+
+/* "the lowest virtual block without a physical block takes a free block,
+   frame 0" */
+static struct spot new_frame(struct lent *l, uint32_t region)
+{
+    struct spot at = { false, 0, 0, 0 };
+
+    for (uint32_t i = 0; i < l->v.p.gamma; i++)
+        if (block_of(&l->v, region, i) == NONE
+            && (!at.found || MUTANT(VIRTUAL_HIGHEST))) {
+            at.found = true;
+            at.virtual_block = i;
+        }
+    if (at.found) {
+        at.block = free_block(&l->v);
+        assign(l, region, at.virtual_block, at.block);
+    }
+    return at;
+}
+
+/* What a write has done: the frames it copied and the blocks it erased. */
+struct work {
+    uint32_t copied, erases;
+};
+
+/* "If there is no open block or it is full: the lowest virtual block without a
+   physical block ... If all are assigned, reclaim first." */
+static struct spot take_frame(struct lent *l, uint32_t cluster,
+                              struct work *work)
+{
+    uint32_t region = region_of(&l->v.p, cluster);
+    struct spot at = open_frame(&l->v, region);
+
+    if (!at.found)
+        at = new_frame(l, region);
+    if (!at.found) {
+        at = reclaim(l, region, cluster, &work->copied);
+        work->erases = 1;
+    }
+    return at;
+}
+
+/* Write. "The new cluster is the old one ... with the given sectors replaced.
+   ... Then CT and FST name the segment just written." */
+static struct work write_steps(struct lent *l, uint32_t lba, uint32_t count,
+                               const uint8_t *data)
+{
+    const struct params *p = &l->v.p;
+    uint32_t cluster = cluster_of(p, lba);
+    struct spot old = valid_frame(&l->v, cluster), at;
+    struct work work = { 0, 0 };
+    uint8_t bytes[16 * 512];
+    uint32_t segment;
+
+    load_old(&l->v, &old, bytes);
+    at = take_frame(l, cluster, &work);
+    if (MUTANT(OLD_AFTER_ERASE))
+        load_old(&l->v, &old, bytes);
+    memcpy(bytes + lba % p->alpha * p->s, data, (size_t)count * p->s);
+    program_frame(l, &at, cluster, bytes);
+    segment = MUTANT(CT_FRAME) ? at.virtual_block * p->f + at.frame
+                               : segment_of(p, at.virtual_block, at.frame);
+    l->ct[cluster] = (uint16_t)segment;
+    l->fst[MUTANT(ONE_OPEN) ? 0 : region_of(p, cluster)] = (uint16_t)segment;
+    return work;
+}
+
+/* ==== Reply numbers ==================================================== */
+
+enum {
+    ACCEPTED, BAD_PARAMETER, WRONG_LENGTH, BAD_COUNT, BAD_ADDRESS, WRONG_DATA,
+    TOO_FEW_BLOCKS, NOT_ORDERLY
+};
+
+/* "reply + 65,536 * programs + 4,294,967,296 * erases" */
+static uint64_t answer(uint32_t reply, uint32_t programs, uint32_t erases)
+{
+    return reply + 65536 * (uint64_t)programs + 4294967296 * (uint64_t)erases;
+}
+
+/* 1: "a parameter outside the table above, P above 256, or C/mu rounded up
+   above gamma*F - 1"; 2: "chip (in bytes) or a table (in entries) has the
+   wrong length". */
+static uint32_t refuse_board(const struct params *p, const struct lengths *l)
+{
+    if (MUTANT(LENGTHS_FIRST) && !lengths_right(p, l))
+        return WRONG_LENGTH;
+    if (!parameters_allowed(p))
+        return BAD_PARAMETER;
+    return lengths_right(p, l) ? ACCEPTED : WRONG_LENGTH;
+}
+
+/* 3: "count is 0, or LBA mod alpha + count exceeds alpha" */
+static bool count_bad(const struct params *p, uint32_t lba, uint32_t count)
+{
+    if (MUTANT(COUNT_32_BITS))
+        return count == 0 || (uint32_t)(lba % p->alpha + count) > p->alpha;
+    if (MUTANT(COUNT_0) && count == 0)
+        return false;
+    return count == 0 || (uint64_t)(lba % p->alpha) + count > p->alpha;
+}
+
+/* 4: "LBA is C*alpha or more" */
+static bool address_bad(const struct params *p, uint32_t lba)
+{
+    return lba >= p->c * p->alpha - MUTANT(LAST_SECTOR);
+}
+
+/* 5: "data length is not count x s" */
+static bool data_wrong(const struct params *p, uint32_t count, size_t data_len)
+{
+    uint64_t right = (uint64_t)count * p->s;
+
+    return MUTANT(DATA_AT_LEAST) ? data_len < right : data_len != right;
+}
+
+/* The refusals of a request: 3, 4, 5 and then 7 "state not orderly", in this
+   order. */
+static uint32_t refuse_request(const struct view *v, uint32_t lba,
+                               uint32_t count, size_t data_len)
+{
+    bool bad_count = count_bad(&v->p, lba, count);
+    bool bad_address = address_bad(&v->p, lba);
+    bool wrong_data = data_wrong(&v->p, count, data_len);
+
+    if (bad_address && MUTANT(COUNT_AFTER_ADDRESS))
+        return BAD_ADDRESS;
+    if (bad_count)
+        return BAD_COUNT;
+    if (wrong_data && MUTANT(DATA_BEFORE_ADDRESS))
+        return WRONG_DATA;
+    if (bad_address)
+        return BAD_ADDRESS;
+    if (MUTANT(ORDER_BEFORE_DATA) && !orderly(v))
+        return NOT_ORDERLY;
+    if (wrong_data)
+        return WRONG_DATA;
+    return orderly(v) ? ACCEPTED : NOT_ORDERLY;
+}
+
+/* 6: "fewer than mu*gamma+1 blocks are not bad".  "a format reports 0 programs
+   and one erase for each block not bad." */
+uint64_t model_format(uint32_t s, uint32_t alpha, uint32_t beta, uint32_t d,
+                      uint32_t mu, uint32_t gamma, uint32_t c, uint32_t n,
+                      uint8_t *chip, size_t chip_len,
+                      uint16_t *ct, size_t ct_len,
+                      uint16_t *bt, size_t bt_len,
+                      uint16_t *fst, size_t fst_len,
+                      uint8_t *bst, size_t bst_len,
+                      uint32_t *wear, size_t wear_len)
+{
+    struct params p = make_params(s, alpha, beta, d, mu, gamma, c, n);
+    struct lengths len = {
+        chip_len, ct_len, bt_len, fst_len, bst_len, wear_len
+    };
+    struct lent l = {
+        { p, chip, ct, bt, fst, bst, wear }, chip, ct, bt, fst, bst, wear
+    };
+    uint32_t reply = refuse_board(&p, &len), good;
+
+    if (reply != ACCEPTED)
+        return answer(reply, 0, 0);
+    good = good_blocks(&l.v);
+    if (good < mu * gamma + !MUTANT(FORMAT_BLOCKS_EXACT))
+        return answer(TOO_FEW_BLOCKS, 0, 0);
+    format_steps(&l);
+    if (MUTANT(FORMAT_NO_ERASES))
+        good = 0;
+    if (MUTANT(FORMAT_COUNTS_BAD))
+        good = n;
+    return answer(ACCEPTED, 0, good);
+}
+
+/* "A read reports 0 and 0 and writes only its data buffer" */
+uint64_t model_read(uint32_t s, uint32_t alpha, uint32_t beta, uint32_t d,
+                    uint32_t mu, uint32_t gamma, uint32_t c, uint32_t n,
+                    const uint8_t *chip, size_t chip_len,
+                    const uint16_t *ct, size_t ct_len,
+                    const uint16_t *bt, size_t bt_len,
+                    const uint16_t *fst, size_t fst_len,
+                    const uint8_t *bst, size_t bst_len,
+                    const uint32_t *wear, size_t wear_len,
+                    uint32_t lba, uint32_t count,
+                    uint8_t *data, size_t data_len)
+{
+    struct params p = make_params(s, alpha, beta, d, mu, gamma, c, n);
+    struct lengths len = {
+        chip_len, ct_len, bt_len, fst_len, bst_len, wear_len
+    };
+    struct view v = { p, chip, ct, bt, fst, bst, wear };
+    uint32_t reply = refuse_board(&p, &len);
+
+    if (reply == ACCEPTED)
+        reply = refuse_request(&v, lba, count, data_len);
+    if (reply == NOT_ORDERLY && MUTANT(REFUSED_READ_CLEARS))
+        memset(data, 255, data_len);
+    if (reply == ACCEPTED)
+        read_steps(&v, lba, count, data);
+    return answer(reply, 0, 0);
+}
+
+/* "A write reports alpha x (frames copied + 1) pages programmed, and 1 erase
+   if it reclaimed, else 0." */
+uint64_t model_write(uint32_t s, uint32_t alpha, uint32_t beta, uint32_t d,
+                     uint32_t mu, uint32_t gamma, uint32_t c, uint32_t n,
+                     uint8_t *chip, size_t chip_len,
+                     uint16_t *ct, size_t ct_len,
+                     uint16_t *bt, size_t bt_len,
+                     uint16_t *fst, size_t fst_len,
+                     uint8_t *bst, size_t bst_len,
+                     uint32_t *wear, size_t wear_len,
+                     uint32_t lba, uint32_t count,
+                     const uint8_t *data, size_t data_len)
+{
+    struct params p = make_params(s, alpha, beta, d, mu, gamma, c, n);
+    struct lengths len = {
+        chip_len, ct_len, bt_len, fst_len, bst_len, wear_len
+    };
+    struct lent l = {
+        { p, chip, ct, bt, fst, bst, wear }, chip, ct, bt, fst, bst, wear
+    };
+    uint32_t reply = refuse_board(&p, &len);
+    struct work work;
+
+    if (reply == ACCEPTED)
+        reply = refuse_request(&l.v, lba, count, data_len);
+    if (reply != ACCEPTED)
+        return answer(reply, 0, 0);
+    work = write_steps(&l, lba, count, data);
+    if (MUTANT(PROGRAMS_ALPHA))
+        work.copied = 0;
+    if (MUTANT(ERASE_UNCOUNTED))
+        work.erases = 0;
+    return answer(ACCEPTED, alpha * (work.copied + 1), work.erases);
+}

@@ -1,0 +1,91 @@
+/*
+ * mutants.h - the wrong readings of document 01 that the model can take on.
+ *
+ * Mutant 0 is the right model.  Each of the others is switched on by its
+ * number, counted from 1 in the order of this list, to show that a comparison
+ * with the model notices it.
+ */
+#ifndef MUTANTS_H
+#define MUTANTS_H
+
+#define MODEL_MUTANT_LIST(X)                                                   \
+    /* parameters, lengths and the order of the replies */                     \
+    X(GAMMA_F, "parameters: gamma*F clusters of a region allowed")             \
+    X(P_UNBOUNDED, "parameters: P above 256 allowed")                          \
+    X(PER_REGION_DOWN, "parameters: C/mu rounded down")                        \
+    X(C_UNBOUNDED, "parameters: C above 1,048,576 allowed")                    \
+    X(LENGTHS_FIRST, "replies: 2 checked before 1")                            \
+    X(LENGTH_AT_LEAST, "replies: a table too long is accepted")                \
+    X(WEAR_LENGTH, "replies: the length of wear is not checked")               \
+    X(COUNT_AFTER_ADDRESS, "replies: 4 checked before 3")                      \
+    X(DATA_BEFORE_ADDRESS, "replies: 5 checked before 4")                      \
+    X(ORDER_BEFORE_DATA, "replies: 7 checked before 5")                        \
+    X(COUNT_32_BITS, "replies: LBA mod alpha + count taken in 32 bits")        \
+    X(COUNT_0, "replies: count 0 accepted")                                    \
+    X(LAST_SECTOR, "replies: the last sector of the board refused")            \
+    X(DATA_AT_LEAST, "replies: data too long accepted")                        \
+    X(REFUSED_READ_CLEARS, "replies: a read refused with 7 clears its data")   \
+    /* when a state is orderly */                                              \
+    X(BST_VALUE, "orderly: a BST entry above 2 accepted")                      \
+    X(NAMED_TWICE, "orderly: a block named twice accepted")                    \
+    X(NAMED_NOT_USED, "orderly: a named block that is not used accepted")      \
+    X(USED_NOT_NAMED, "orderly: a used block that is not named accepted")      \
+    X(FEW_BLOCKS, "orderly: fewer than mu*gamma+1 blocks accepted")            \
+    X(ONE_BLOCK_SHORT, "orderly: mu*gamma blocks accepted")                    \
+    X(FREE_NOT_ERASED, "orderly: a free block not erased accepted")            \
+    X(RESERVED_ERASED, "orderly: a reserved block must be erased")             \
+    X(EMPTY_USED, "orderly: a used block with no frame accepted")              \
+    X(REST_NOT_ERASED, "orderly: pages after the last frame not checked")      \
+    X(FIRST_PAGE_ONLY, "orderly: only the first page of a frame checked")      \
+    X(PLACE_BYTE, "orderly: spare byte 4 not checked")                         \
+    X(MARK_BYTE, "orderly: spare byte 5 not checked")                          \
+    X(TAIL_BYTES, "orderly: spare bytes 7 to 15 not checked")                  \
+    X(OTHER_REGION, "orderly: a cluster of another region accepted")           \
+    X(FST_NONE, "orderly: FST none in a region with blocks accepted")          \
+    X(FST_OFF_BY_ONE, "orderly: FST one segment off accepted")                 \
+    X(TWO_OPEN, "orderly: a second block that is not full accepted")           \
+    X(CT_ELSEWHERE, "orderly: CT naming a segment without it accepted")        \
+    X(CT_NONE_REFUSED, "orderly: CT none refused where a frame is left")       \
+    /* format */                                                               \
+    X(FORMAT_NO_ERASES, "format: its erases are not counted")                  \
+    X(FORMAT_COUNTS_BAD, "format: an erase counted for bad blocks too")        \
+    X(FORMAT_CLEARS_WEAR, "format: wear starts again from 0")                  \
+    X(FORMAT_NO_WEAR, "format: wear stays as it was")                          \
+    X(FORMAT_ERASES_BAD, "format: bad blocks are erased too")                  \
+    X(BAD_WHEN_ZERO, "format: bad only if the byte is 0")                      \
+    X(BAD_IN_LAST_PAGE, "format: the bad mark looked up in the last page")     \
+    X(FORMAT_BLOCKS_EXACT, "format: mu*gamma good blocks are enough")          \
+    X(FORMAT_KEEPS_FST, "format: FST stays as it was")                         \
+    /* read and write */                                                       \
+    X(FIRST_FRAME, "read: the first frame of the cluster, not the last")       \
+    X(READ_PLACE_0, "read: from place 0 of the cluster")                       \
+    X(NO_MERGE, "write: sectors not given become 255")                         \
+    X(VIRTUAL_HIGHEST, "write: the highest virtual block without a block")     \
+    X(ONE_OPEN, "write: one open block for all regions")                       \
+    X(CT_FRAME, "write: CT names the frame in place of the segment")           \
+    X(SPARE_PLACE_0, "write: spare byte 4 always 0")                           \
+    X(CLUSTER_8_BITS, "write: spare bytes 1 to 3 always 0")                    \
+    X(CLUSTER_16_BITS, "write: spare bytes 2 and 3 always 0")                  \
+    X(PROGRAMS_ALPHA, "write: copied pages are not counted")                   \
+    X(ERASE_UNCOUNTED, "write: the erase is not counted")                      \
+    /* reclaim */                                                              \
+    X(VICTIM_TIE, "reclaim: the highest victim on a tie")                      \
+    X(VICTIM_MOST, "reclaim: the victim has most valid frames")                \
+    X(VICTIM_COUNTS_STALE, "reclaim: stale frames count for the victim")       \
+    X(VICTIM_ZERO, "reclaim: the victim is always virtual block 0")            \
+    X(FREE_BY_NUMBER, "reclaim: the free block by number only")                \
+    X(FREE_TIE, "reclaim: the highest free block on a tie")                    \
+    X(OLD_AFTER_ERASE, "reclaim: the old cluster is read after the erase")     \
+    X(OLD_NOT_COPIED, "reclaim: the old frame of the cluster is left out")     \
+    X(STALE_COPIED, "reclaim: stale frames of a segment are copied")           \
+    X(ALL_FRAMES_COPIED, "reclaim: every frame is copied while there is room") \
+    X(ERASE_FIRST, "reclaim: the victim is erased before its copies stand")    \
+    X(COPIES_FROM_1, "reclaim: copies from frame 1, the write in frame 0")     \
+    X(COPIES_BACKWARDS, "reclaim: copies in falling order of frames")          \
+    X(CT_NOT_FOLLOWING, "reclaim: CT does not follow a copy")                  \
+    X(VICTIM_NOT_ERASED, "reclaim: the victim's pages stay")                   \
+    X(VICTIM_NOT_FREED, "reclaim: the victim stays used")                      \
+    X(WEAR_WRAPS, "wear: goes back to 0 after 4,294,967,295")                  \
+    X(RECLAIM_NO_WEAR, "wear: a reclaim's erase is not counted")
+
+#endif

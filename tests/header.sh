@@ -1,0 +1,19 @@
+#!/usr/bin/env bash
+# Compiles include/cnftl.h as C99 and as C++ without a warning, links the archive, and runs Board T's cases through all three calls.
+# It also looks that the archive offers these three functions and asks for no other than the C library's memory functions.
+set -u
+cd "$(dirname "$0")/.."
+. tests/c/common.sh
+
+offers() {
+    ${objdump} -t "$archive" 2>/dev/null | awk '$2 == "g" && $4 == ".text" || $2 == "g" && $4 ~ /^\.text/ { print $NF }' | sort | tr '\n' ' '
+}
+asks() { ${objdump} -t "$archive" 2>/dev/null | awk '/\*UND\*/ { print $NF }' | sort -u | grep -v -x -e memcpy -e memset -e memmove -e memcmp -e bcmp; }
+
+check "the header as C99" "$cc" -std=c99 -O2 "${strict[@]}" ${link[@]+"${link[@]}"} -o "$room/c99" tests/c/header.c "$archive"
+check "its cases" run "$room/c99"
+check "the header as C++" "$cxx" -std=c++17 -O2 "${strict[@]}" ${link[@]+"${link[@]}"} -o "$room/cxx" tests/c/header.cc "$archive"
+check "its cases" run "$room/cxx"
+check "the archive's functions: $(offers)" [ "$(offers)" = "cnftl_format cnftl_read cnftl_write " ]
+check "what the archive asks for: $(asks)" [ -z "$(asks)" ]
+counted
