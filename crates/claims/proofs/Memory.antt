@@ -10,6 +10,7 @@ use mathlib.Core.Bool.{Bool, true, false, _&&_, cond}
 use mathlib.Core.List.{List, [], _∷_, _++_}
 use lib.Dec.{leb}
 use borrow.Author.Tests.{le-leb, le-ltb, lt-leb, lt-ltb}
+use Rattle.lists.proofs.Joins.{join-cong}
 use Rattle.lists.specs.Below.{joinBelow}
 use Rattle.lists.specs.Parts.{part}
 use Rattle.rules.specs.declared.Params.{Params}
@@ -134,11 +135,6 @@ run-agrees p b m [] h = h
 run-agrees p b m (c ∷ cs) h = run-agrees p (leaves p b c) _ cs (unfold replyTo in call-agrees p b m c h)
 
 -- ---- the read
-
-join-cong : (k : ℕ) (f g : ℕ → List ℕ) → ((i : ℕ) → i < k → f i ≡ g i) → joinBelow k f ≡ joinBelow k g
-unfolding joinBelow
-join-cong zero f g h = refl
-join-cong (suc k) f g h = ap₂ (λ (x y : List ℕ). x ++ y) (join-cong k f g (λ i m. h i (omega arith))) (h k (omega arith))
 
 pub read-agrees : (p : Params) (b : Board) (m : Memory) (q : Request) → accessReply p b q ≡ Accepted → Agrees p b m → readBytes p b q ≡ joinBelow (q .count) (λ i. m (q .lba + i))
 unfolding readBytes
