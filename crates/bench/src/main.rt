@@ -1,7 +1,11 @@
 // The bench program: formats Board T, then answers each line of standard input with a line on standard output.
 ghost use mathlib.Core.Path.{_≡_};
-ghost use Prim.Native.Nat.{_≤_};
-ghost use lib.ListN.{length};
+ghost use Prim.Native.Nat.{_*_, _≤_, min};
+ghost use lib.ListN.{length, replicate};
+ghost use Rattle.rules.specs.BoardT.{boardT};
+ghost use Rattle.rules.specs.Calls.{formatCall};
+ghost use Rattle.rules.specs.Tables.{boardOf};
+ghost use Rattle.lines.specs.Session.{turn};
 use libc::STDIN_FILENO;
 use libc::STDOUT_FILENO;
 use lines::Held;
@@ -10,7 +14,9 @@ use rules::Answer;
 use rules::Params;
 
 // Board T.
-fn board() -> Params {
+fn board() -> Params
+    ensures { λ p. ⌜ p ≡ boardT ⌝ }
+{
     Params {
         s: 16,
         alpha: 2,
@@ -25,21 +31,21 @@ fn board() -> Params {
 
 // A chip of 5 blocks, all 255: 4 pages of 32 bytes a block.
 fn blank_chip() -> [u8; 640]
-    ensures { λ r. ⌜ 640 ≡ length r ⌝ }
+    ensures { λ r. ⌜ r ≡ replicate 640 255 ⌝ }
 {
     [255; 640]
 }
 
 // A cluster's bytes, each of one value.
 fn filled(value: u8) -> [u8; 32]
-    ensures { λ r. ⌜ 32 ≡ length r ⌝ }
+    ensures { λ r. ⌜ r ≡ replicate 32 value ⌝ }
 {
     [value; 32]
 }
 
 // How many bytes go with a call: those of `count` sectors, and no more than a cluster has.
 fn lent(count: u32) -> usize
-    ensures { λ r. ⌜ r ≤ 32 ⌝ }
+    ensures { λ r. ⌜ r ≡ min count 2 * 16 ⌝ }
 {
     match count {
         0 => 0,
@@ -71,7 +77,7 @@ fn say_unknown() {
     io::write_all(STDOUT_FILENO, &out[..n]);
 }
 
-// Writes sectors of one byte value, and prints the answer.
+// Writes sectors of one byte value, and prints the answer. The board becomes the one that the line leaves.
 fn write(
     chip: &mut [u8],
     ct: &mut [u16],
@@ -82,7 +88,9 @@ fn write(
     lba: u32,
     count: u32,
     value: u8,
-) {
+)
+    ensures { λ _. ⌜ boardOf (now (chip .exit)) (now (ct .exit)) (now (bt .exit)) (now (fst .exit)) (now (bst .exit)) (now (wear .exit)) ≡ (turn (boardOf (now (chip .entry)) (now (ct .entry)) (now (bt .entry)) (now (fst .entry)) (now (bst .entry)) (now (wear .entry))) (Line.Write lba count value)) .board ⌝ }
+{
     let bytes = filled(value);
     let n = lent(count);
     let a = layer::write(
@@ -134,7 +142,7 @@ fn read(
     read_into(chip, ct, bt, fst, bst, wear, lba, count, &mut bytes[..n]);
 }
 
-// Does what a line asks, and prints one line.
+// Does what a line asks, and prints one line. The board becomes the one that the line leaves.
 fn answer(
     chip: &mut [u8],
     ct: &mut [u16],
@@ -143,7 +151,9 @@ fn answer(
     bst: &mut [u8],
     wear: &mut [u32],
     line: Line,
-) {
+)
+    ensures { λ _. ⌜ boardOf (now (chip .exit)) (now (ct .exit)) (now (bt .exit)) (now (fst .exit)) (now (bst .exit)) (now (wear .exit)) ≡ (turn (boardOf (now (chip .entry)) (now (ct .entry)) (now (bt .entry)) (now (fst .entry)) (now (bst .entry)) (now (wear .entry))) line) .board ⌝ }
+{
     match line {
         Line::Write(lba, count, value) => {
             write(chip, ct, bt, fst, bst, wear, lba, count, value);
@@ -230,7 +240,9 @@ fn start(
     fst: &mut [u16],
     bst: &mut [u8],
     wear: &mut [u32],
-) {
+)
+    ensures { λ _. ⌜ boardOf (now (chip .exit)) (now (ct .exit)) (now (bt .exit)) (now (fst .exit)) (now (bst .exit)) (now (wear .exit)) ≡ (formatCall boardT (boardOf (now (chip .entry)) (now (ct .entry)) (now (bt .entry)) (now (fst .entry)) (now (bst .entry)) (now (wear .entry)))) .board ⌝ }
+{
     let a = layer::format(board(), chip, ct, bt, fst, bst, wear);
     say_counts(b'F', a);
 }

@@ -2,7 +2,7 @@
 -- Assumes nothing.
 use mathlib.Core.Path.{sym}
 use Prim.Native.Nat.{_≤_}
-use lib.ListN.{length}
+use lib.ListN.{length, length-replicate}
 use lib.Seq.{length-take-le}
 use native.Mathlib.Omega.{arith}
 use borrow.Author.Needs.{needs}
@@ -19,13 +19,12 @@ array-borrow-prefix-bytes : tie.Need-array-borrow-prefix-bytes
 array-borrow-prefix-bytes c = search needs
 
 slice-aggregate-read-into : tie.Need-slice-aggregate-read-into
-slice-aggregate-read-into c = sym (length-take-le _ _ (omega (arith, c .before .lent .ensures, c .before .before .filled .ensures)))
+slice-aggregate-read-into c = sym (length-take-le _ _ (rw (c .before .before .filled .ensures, c .before .lent .ensures, length-replicate) (omega arith)))
 
 read-into-requires : tie.Need-read-into-requires
-read-into-requires c κs = let n = c .before .lent .result in
-    let l = c .before .before .filled .result in
-    let h : n ≤ length l = omega (arith, c .before .lent .ensures, c .before .before .filled .ensures) in
-    omega (arith, length-take-le n l h)
+read-into-requires c κs =
+    let e = length-take-le (c .before .lent .result) (c .before .before .filled .result) (rw (c .before .before .filled .ensures, c .before .lent .ensures, length-replicate) (omega arith)) in
+    omega (arith, e, c .before .lent .ensures)
 
 returns : tie.Need-returns
 returns c = search needs

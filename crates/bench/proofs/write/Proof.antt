@@ -1,9 +1,14 @@
--- `bench::write` is safe: the part that is lent is within the cluster's bytes.
+-- `bench::write`: the part that is lent is within the cluster's bytes, and is what the line's turn asks to be written.
 -- Assumes nothing.
-use mathlib.Core.Path.{sym}
+use mathlib.Core.Path.{ap, sym, _∙_}
+use Prim.Native.Nat.{_≤_}
+use lib.ListN.{length, length-replicate}
 use lib.Seq.{length-take-le}
 use native.Mathlib.Omega.{arith}
 use borrow.Author.Needs.{needs}
+use Rattle.rules.specs.Calls.{Outcome, writeCall}
+use Rattle.lines.specs.Session.{requested, turn}
+use Rattle.bench.proofs.Turns.{sent}
 use Rattle.bench.proofs.write.Statement.{statement}
 use Rattle.bench.proofs.write.Tie as tie
 
@@ -20,7 +25,7 @@ array-share-prefix-bytes : tie.Need-array-share-prefix-bytes
 array-share-prefix-bytes c = search needs
 
 slice-aggregate-write : tie.Need-slice-aggregate-write
-slice-aggregate-write c = sym (length-take-le _ _ (omega (arith, c .before .before .before .before .before .before .before .before .lent .ensures, c .before .before .before .before .before .before .before .before .before .filled .ensures)))
+slice-aggregate-write c = sym (length-take-le _ _ (rw (c .before .before .before .before .before .before .before .before .before .filled .ensures, c .before .before .before .before .before .before .before .before .lent .ensures, length-replicate) (omega arith)))
 
 write-requires : tie.Need-write-requires
 write-requires c κs = search needs
@@ -47,7 +52,8 @@ same-length-6 : tie.Need-same-length-6
 same-length-6 c = search needs
 
 returns : tie.Need-returns
-returns c = search needs
+unfolding turn requested
+returns c = rw (c .before .before .before .before .before .before .before .before .before .before .before .before .before .before .before .before .before .before .before .before .before .board .ensures, sent _ _ _ _ (c .before .before .before .before .before .before .before .before .before .before .before .before .before .before .before .before .before .before .before .before .before .before .lent .ensures) (c .before .before .before .before .before .before .before .before .before .before .before .before .before .before .before .before .before .before .before .before .before .before .before .filled .ensures)) at (ap (λ (o : Outcome). o .board) (c .before .before .before .before .before .before .before .before .before .before .before .before .before .write .ensures))
 
 pub write-spec : {M : Type 1} → statement M
 write-spec =

@@ -1,0 +1,13 @@
+-- `bench::board`: the parameters one by one.
+-- Assumes nothing.
+use mathlib.Core.Path.{refl}
+use Rattle.rules.specs.BoardT.{boardT, paramsT}
+use Rattle.bench.proofs.board.Statement.{statement}
+use Rattle.bench.proofs.board.Tie as tie
+
+returns : tie.Need-returns
+unfolding boardT paramsT
+returns c = refl
+
+pub board-spec : {M : Type 1} → statement M
+board-spec = tie.close (tie.spec returns)

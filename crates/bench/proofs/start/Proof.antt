@@ -1,0 +1,52 @@
+-- `bench::start`: the format of Board T.
+-- Assumes nothing.
+use mathlib.Core.Path.{ap}
+use borrow.Author.Needs.{needs}
+use Rattle.rules.specs.Calls.{Outcome}
+use Rattle.bench.proofs.start.Statement.{statement}
+use Rattle.bench.proofs.start.Tie as tie
+
+board-requires : tie.Need-board-requires
+board-requires c κs = search needs
+
+format-requires : tie.Need-format-requires
+format-requires c κs = search needs
+
+say-counts-requires : tie.Need-say-counts-requires
+say-counts-requires c κs = search needs
+
+same-length : tie.Need-same-length
+same-length c = search needs
+
+same-length-2 : tie.Need-same-length-2
+same-length-2 c = search needs
+
+same-length-3 : tie.Need-same-length-3
+same-length-3 c = search needs
+
+same-length-4 : tie.Need-same-length-4
+same-length-4 c = search needs
+
+same-length-5 : tie.Need-same-length-5
+same-length-5 c = search needs
+
+same-length-6 : tie.Need-same-length-6
+same-length-6 c = search needs
+
+returns : tie.Need-returns
+returns c = rw (c .before .before .before .before .before .before .before .before .before .before .before .before .before .before .before .before .before .before .before .before .board .ensures) at (ap (λ (o : Outcome). o .board) (c .before .before .before .before .before .before .before .before .before .before .before .before .before .format .ensures))
+
+pub start-spec : {M : Type 1} → statement M
+start-spec =
+    tie.close
+    (tie.spec
+    board-requires
+    format-requires
+    say-counts-requires
+    same-length
+    same-length-2
+    same-length-3
+    same-length-4
+    same-length-5
+    same-length-6
+    returns)
