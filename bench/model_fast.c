@@ -474,6 +474,15 @@ static uint64_t write_steps(const struct board *b, const struct lent *l,
 
 /* ==== The three calls ================================================== */
 
+/* Whether neither of a block's first two pages has the maker's bad mark. */
+static bool block_good(const struct board *b, uint32_t block)
+{
+    const uint8_t *mark = b->chip + block * b->block + b->s + 5;
+
+    return mark[0] == 255
+        && (b->alpha * b->frames < 2 || mark[b->page] == 255);
+}
+
 /* Erases the good blocks, reserves the bad ones and clears the tables. */
 uint64_t fast_format(uint32_t s, uint32_t alpha, uint32_t beta, uint32_t d,
                      uint32_t mu, uint32_t gamma, uint32_t c, uint32_t n,
@@ -491,12 +500,13 @@ uint64_t fast_format(uint32_t s, uint32_t alpha, uint32_t beta, uint32_t d,
 
     if (reply != ACCEPTED)
         return answer(reply, 0, 0);
+    b.chip = chip;
     for (uint32_t i = 0; i < n; i++)
-        good += chip[i * b.block + s + 5] == 255;
+        good += block_good(&b, i);
     if (good <= mu * gamma)
         return answer(TOO_FEW_BLOCKS, 0, 0);
     for (uint32_t i = 0; i < n; i++)
-        if (chip[i * b.block + s + 5] == 255)
+        if (block_good(&b, i))
             erase(&b, &l, i);
         else
             bst[i] = RESERVED;

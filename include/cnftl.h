@@ -100,8 +100,9 @@ enum cnftl_block_state {
 };
 
 /*
- * Format.  A block whose first page has a spare byte 5 other than 255 is bad:
- * it becomes reserved and is not touched.  All others are erased and become
+ * Format.  A block is bad if spare byte 5 of its first page, or of its second
+ * page where a block has two, is not 255: it becomes reserved and is not
+ * touched.  All others are erased and become
  * free, and their wear goes up by one.  CT, BT and FST become none.  The wear
  * lent must be the board's wear so far (0 for a new chip).
  * Replies 1, 2, 6, 0.  Counts: 0 programs, one erase for each block not bad.

@@ -570,6 +570,23 @@ static void random_wear(void)
     }
 }
 
+/* Where the bad mark of a block's page stands. */
+static uint8_t *mark_of(uint32_t block, uint32_t page)
+{
+    return chip + block * block_bytes() + page * (par.s + 16) + par.s + 5;
+}
+
+/* The maker's bad mark on a block: on its first page, its second, or both. */
+static void mark_bad(uint32_t block)
+{
+    uint32_t where = par.alpha * frames() < 2 ? 1 : 1 + below(3);
+
+    if (where & 1)
+        *mark_of(block, 0) = (uint8_t)below(255);
+    if (where & 2)
+        *mark_of(block, 1) = (uint8_t)below(255);
+}
+
 /* A chip before its format: new or full of anything, with the maker's bad
    marks on a few blocks, at times on one too many. */
 static void raw_chip(void)
@@ -580,9 +597,10 @@ static void raw_chip(void)
     if (once_in(2))
         memset(chip, 255, room[CHIP]);
     for (uint32_t b = 0; b < par.n; b++)
-        chip[b * block_bytes() + par.s + 5] = 255;
+        for (uint32_t j = 0; j < 2 && j < par.alpha * frames(); j++)
+            *mark_of(b, j) = 255;
     for (uint32_t i = below((spare < 8 ? spare : 8) + 2); i > 0; i--)
-        chip[below(par.n) * block_bytes() + par.s + 5] = (uint8_t)below(255);
+        mark_bad(below(par.n));
     random_wear();
 }
 

@@ -100,7 +100,8 @@ static void check_session(void)
     assert(ct[0] == 1 && ct[2] == 0 && ct[4] == 2);
 }
 
-/* The marked cases (d) to (i). */
+/* The marked cases (d) to (i); (f) with the mark on each page, of which the
+   first two count. */
 static void check_cases(void)
 {
     new_board();
@@ -110,9 +111,14 @@ static void check_cases(void)
     new_board();
     board.params.n = 4;
     assert(is(cnftl_board_format(&board), CNFTL_TOO_FEW_BLOCKS, 0, 0));
-    new_board();
-    chip[2 * 128 + 16 + 5] = 0;
-    assert(is(cnftl_board_format(&board), CNFTL_TOO_FEW_BLOCKS, 0, 0));
+    for (int page = 0; page < 4; page++) {
+        new_board();
+        chip[2 * 128 + page * 32 + 16 + 5] = 0;
+        if (page < 2)
+            assert(is(cnftl_board_format(&board), CNFTL_TOO_FEW_BLOCKS, 0, 0));
+        else
+            assert(is(cnftl_board_format(&board), CNFTL_ACCEPTED, 0, 5));
+    }
     new_board();
     assert(is(cnftl_board_format(&board), CNFTL_ACCEPTED, 0, 5));
     assert(is(cnftl_board_write(&board, 11, 1, data, 16), CNFTL_ACCEPTED,

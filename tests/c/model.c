@@ -574,14 +574,29 @@ static void count_erase(struct lent *l, uint32_t block)
         l->wear[block]++;
 }
 
-/* "A block is bad if byte 5 of the spare area of its first page is not 255." */
-static bool block_bad(const struct view *v, uint32_t block)
+/* "byte 5 of the spare area is not 255" in this page of a block. */
+static bool mark_bad(const struct view *v, uint32_t block, uint32_t page)
 {
-    uint32_t frame = MUTANT(BAD_IN_LAST_PAGE) ? v->p.f - 1 : 0;
-    uint32_t place = MUTANT(BAD_IN_LAST_PAGE) ? v->p.alpha - 1 : 0;
-    uint8_t mark = spare_at(v, block, frame, place)[5];
+    uint8_t mark = spare_at(v, block, page / v->p.alpha,
+                            page % v->p.alpha)[5];
 
     return MUTANT(BAD_WHEN_ZERO) ? mark == 0 : mark != 255;
+}
+
+/* T-02: "A block is bad if byte 5 of the spare area is not 255 in page 0, or
+   in page 1 where P is at least 2." */
+static bool block_bad(const struct view *v, uint32_t block)
+{
+    bool first = mark_bad(v, block, MUTANT(BAD_IN_LAST_PAGE) ? v->p.p - 1 : 0);
+    bool second = v->p.p >= 2 && mark_bad(v, block, 1);
+
+    if (MUTANT(BAD_BEYOND_THE_BLOCK) && v->p.p == 1 && block + 1 < v->p.n)
+        second = mark_bad(v, block + 1, 0);
+    if (MUTANT(BAD_IN_BOTH))
+        return v->p.p >= 2 ? first && second : first;
+    if (MUTANT(BAD_IN_FIRST_ONLY))
+        return first;
+    return MUTANT(BAD_IN_SECOND_ONLY) ? second : first || second;
 }
 
 /* How many blocks are not bad. */

@@ -54,6 +54,10 @@
     X(FORMAT_ERASES_BAD, "format: bad blocks are erased too")                  \
     X(BAD_WHEN_ZERO, "format: bad only if the byte is 0")                      \
     X(BAD_IN_LAST_PAGE, "format: the bad mark looked up in the last page")     \
+    X(BAD_IN_FIRST_ONLY, "format: the second page's bad mark not looked at")   \
+    X(BAD_IN_SECOND_ONLY, "format: the first page's bad mark not looked at")   \
+    X(BAD_IN_BOTH, "format: bad only if both pages are marked")                \
+    X(BAD_BEYOND_THE_BLOCK, "format: with P 1, the next block's mark counts")  \
     X(FORMAT_BLOCKS_EXACT, "format: mu*gamma good blocks are enough")          \
     X(FORMAT_KEEPS_FST, "format: FST stays as it was")                         \
     /* read and write */                                                       \

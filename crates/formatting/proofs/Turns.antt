@@ -18,7 +18,7 @@ use Rattle.rules.specs.Parameters.{blockBytes}
 use Rattle.rules.specs.Tables.{wearAt}
 use Rattle.rules.specs.Pages.{block}
 use Rattle.rules.specs.Traces.{Op, erase, onChip, onWear, replayChip, replayWear, isErase, erasesIn}
-use Rattle.rules.specs.Format.{bad, formatOps}
+use Rattle.rules.specs.Format.{bad, badMark, formatOps}
 use Rattle.rules.proofs.Chip.{replay-append}
 use Rattle.rules.proofs.Replays.{Ran, erase-ran}
 use Rattle.rules.proofs.Writes.{wear-length}
@@ -77,7 +77,7 @@ module _ (p : Params) (chip bst wear : List ℕ) (a : BlocksAsked p chip bst wea
 
   -- so the next block's mark is the one on the chip that was lent
   mark-same : (k : ℕ) → k ≤ p .N → bad p (replayChip p chip (opsBelow k)) k ≡ bad p chip k
-  unfolding bad
+  unfolding bad badMark
   mark-same k h = rw ((ahead k h) .same k (omega arith))
 
   -- after k turns

@@ -3,23 +3,41 @@ ghost use mathlib.Core.Path.{_≡_};
 ghost use mathlib.Core.Bool.{true};
 ghost use Prim.Native.Nat.{_*_, _<_};
 ghost use lib.ListN.{length, replicate};
-ghost use Rattle.rules.specs.Parameters.{allowed, blockBytes};
+ghost use Rattle.rules.specs.Parameters.{allowed, blockBytes, pages};
 ghost use Rattle.rules.specs.Tables.{none};
-ghost use Rattle.rules.specs.Format.{bad, goodBlocks};
+ghost use Rattle.rules.specs.Format.{badMark, bad, goodBlocks};
 ghost use Rattle.formatting.specs.Blocks.{BlockAsked, BlockDone, BlocksAsked, BlocksDone};
 use rules::PBlock;
 use rules::Params;
 
-// Is block n bad: is byte 5 of its first page's spare area not 255?
+// Has page j of block n the maker's mark: is byte 5 of its spare area not 255?
+fn has_bad_mark(p: Params, chip: &[u8], n: PBlock, j: usize) -> bool
+    requires { ⌜ allowed p ≡ true ⌝ }
+    requires { ⌜ length (now chip) ≡ p .N * blockBytes p ⌝ }
+    requires { ⌜ n .0 < p .N ⌝ }
+    requires { ⌜ j < pages p ⌝ }
+    ensures { λ r. ⌜ r ≡ badMark p (now (chip .entry)) (n .0) j ⌝ }
+{
+    let w = sizes::block_bytes(p);
+    let q = sizes::page_bytes(p);
+    let i = n.0 * w + (j * q + (p.s + 5));
+    chip[i] != 255
+}
+
+// Is block n bad: is page 0 marked, or page 1 where the block has one?
 pub fn is_bad(p: Params, chip: &[u8], n: PBlock) -> bool
     requires { ⌜ allowed p ≡ true ⌝ }
     requires { ⌜ length (now chip) ≡ p .N * blockBytes p ⌝ }
     requires { ⌜ n .0 < p .N ⌝ }
     ensures { λ r. ⌜ r ≡ bad p (now (chip .entry)) (n .0) ⌝ }
 {
-    let w = sizes::block_bytes(p);
-    let i = n.0 * w + (p.s + 5);
-    chip[i] != 255
+    if has_bad_mark(p, chip, n, 0) {
+        return true;
+    }
+    if sizes::pages(p) < 2 {
+        return false;
+    }
+    has_bad_mark(p, chip, n, 1)
 }
 
 // How many blocks are not bad.

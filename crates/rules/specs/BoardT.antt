@@ -23,11 +23,11 @@ paramsT c n = record { s = 16; alpha = 2; beta = 1; d = 2; mu = 2; gamma = 2; C 
 unfoldable pub boardT : Params
 boardT = paramsT 6 5
 
--- n blocks, "chip all 255, wear all 0", but for x at the bad mark of block k: a block has 128 bytes, and its mark is the byte at 21
+-- n blocks, "chip all 255, wear all 0", but for x at the bad mark of page q, counted over the chip: a page has 32 bytes, and its mark is the byte at 21
 unfoldable pub blankT : ℕ → ℕ → ℕ → Board
-blankT n k x =
+blankT n q x =
     record {
-      chip = replicate (k * 128 + 21) 255 ++ (x ∷ replicate (n * 128 - k * 128 - 22) 255);
+      chip = replicate (q * 32 + 21) 255 ++ (x ∷ replicate (n * 128 - q * 32 - 22) 255);
       ct = replicate 6 0;
       bt = replicate 4 0;
       fst = replicate 2 0;
@@ -111,7 +111,7 @@ reclaimAfter k q =
 unfoldable pub paramsJ : Params
 paramsJ = record { s = 16; alpha = 4; beta = 1; d = 2; mu = 512; gamma = 4; C = 1024; N = 3000 }
 
--- (a) to (j), as the rules give them
+-- (a) to (j), as the rules give them; (f) for each block in turn, with the mark on its first page and on its second
 unfoldable pub marked : List (List ℕ)
 marked =
     (reclaimAfter 5 (asks 5 1 22) ++ (bstAt ((after 5) .bst) 0 ∷ bstAt ((after 6) .bst) 0 ∷ []))
@@ -119,7 +119,7 @@ marked =
     ∷ (ctAt ((after 7) .ct) 0 ∷ ctAt ((after 7) .ct) 2 ∷ ctAt ((after 7) .ct) 4 ∷ [])
     ∷ (numberOf (formatReply (paramsT 7 5) (blankT 5 0 255)) ∷ numberOf (accessReply (paramsT 7 5) (after 0) (asks 0 1 0)) ∷ [])
     ∷ (numberOf (formatReply (paramsT 6 4) (blankT 4 0 255)) ∷ [])
-    ∷ joinBelow 5 (λ k. numberOf (formatReply boardT (blankT 5 k 0)) ∷ [])
+    ∷ joinBelow 5 (λ n. numberOf (formatReply boardT (blankT 5 (n * 4) 0)) ∷ numberOf (formatReply boardT (blankT 5 (n * 4 + 1) 0)) ∷ [])
     ∷ (numberOf (accessReply boardT (after 0) (asks 11 1 0)) ∷ [])
     ∷ (numberOf (accessReply boardT (after 0) (asks 13 2 0)) ∷ [])
     ∷ (numberOf (accessReply boardT (after 0) (asks 0 0 0)) ∷ [])
@@ -135,7 +135,7 @@ asSaid =
     ∷ (1 ∷ 0 ∷ 2 ∷ [])
     ∷ (1 ∷ 1 ∷ [])
     ∷ (6 ∷ [])
-    ∷ (6 ∷ 6 ∷ 6 ∷ 6 ∷ 6 ∷ [])
+    ∷ replicate 10 6
     ∷ (0 ∷ [])
     ∷ (3 ∷ [])
     ∷ (3 ∷ [])

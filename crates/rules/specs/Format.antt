@@ -1,19 +1,24 @@
--- Document 01, "Format".
+-- Document 01, "Format", as document 02's T-02 amends it.
 -- Assumes nothing.
 use Prim.Native.Nat.{ℕ, _*_}
-use mathlib.Core.Bool.{Bool, not, cond}
+use mathlib.Core.Bool.{Bool, not, _&&_, _||_, cond}
 use mathlib.Core.List.{List, [], _∷_}
 use lib.ListN.{getD, replicate}
-use lib.Dec.{eqb}
+use lib.Dec.{eqb, leb}
 use Rattle.lists.specs.Below.{countBelow, joinBelow}
 use Rattle.rules.specs.declared.Params.{Params}
+use Rattle.rules.specs.Parameters.{pages}
 use Rattle.rules.specs.Tables.{Board, none}
-use Rattle.rules.specs.Pages.{block, frame, spare}
+use Rattle.rules.specs.Pages.{block, spare}
 use Rattle.rules.specs.Traces.{Op, erase, replayChip, replayWear}
 
--- "A block is bad if byte 5 of the spare area of its first page is not 255"
+-- "byte 5 of the spare area is not 255" in page j of block n
+unfoldable pub badMark : Params → List ℕ → ℕ → ℕ → Bool
+badMark p chip n j = not (eqb (getD (spare p (block p chip n) j) 5 0) 255)
+
+-- T-02: "A block is bad if byte 5 of the spare area is not 255 in page 0, or in page 1 where P is at least 2"
 unfoldable pub bad : Params → List ℕ → ℕ → Bool
-bad p chip n = not (eqb (getD (spare p (frame p (block p chip n) 0) 0) 5 0) 255)
+bad p chip n = badMark p chip n 0 || (leb 2 (pages p) && badMark p chip n 1)
 
 unfoldable pub goodBlocks : Params → List ℕ → ℕ
 goodBlocks p chip = countBelow (p .N) (λ n. not (bad p chip n))
@@ -37,5 +42,5 @@ formatted p b =
 
 -- every definition of this file, for an `unfolding` line
 unfoldable pub all-format : Unit {0}
-unfolding bad goodBlocks formatOps formatted
+unfolding badMark bad goodBlocks formatOps formatted
 all-format = tt

@@ -1,7 +1,7 @@
 // The sizes that follow from the parameters, and the two checks that look at numbers alone: replies 1 and 2.
 ghost use mathlib.Core.Path.{_≡_};
 ghost use mathlib.Core.Bool.{true};
-ghost use Rattle.rules.specs.Parameters.{allowed, frames, pageBytes, frameBytes, blockBytes, within};
+ghost use Rattle.rules.specs.Parameters.{allowed, frames, pages, pageBytes, frameBytes, blockBytes, within};
 ghost use Rattle.sizes.specs.Checks.{inRanges, tied, lengthsAre};
 use rules::Params;
 
@@ -11,6 +11,15 @@ pub fn frames(p: Params) -> usize
     ensures { λ n. ⌜ n ≡ frames p ⌝ }
 {
     p.beta * p.d
+}
+
+// The pages of a block.
+pub fn pages(p: Params) -> usize
+    requires { ⌜ allowed p ≡ true ⌝ }
+    ensures { λ n. ⌜ n ≡ pages p ⌝ }
+{
+    let f = frames(p);
+    p.alpha * f
 }
 
 // The bytes of a page.

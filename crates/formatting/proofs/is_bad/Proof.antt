@@ -1,41 +1,35 @@
--- `formatting::is_bad`: the byte that it reads is the block's mark.
+-- `formatting::is_bad`: the first page, then the second where there is one.
 -- Assumes nothing.
-use mathlib.Core.Path.{_≡_, sym, ap, _∙_}
-use Prim.Native.Nat.{_+_, _*_, _≤_, _<_}
-use native.Mathlib.Nat.{lt-of-le-of-lt}
+use mathlib.Core.Path.{sym}
 use native.Mathlib.Omega.{arith}
 use borrow.Author.Needs.{needs}
-use Rattle.rules.specs.Parameters.{blockBytes}
-use Rattle.rules.proofs.Sizes.{sizes}
-use Rattle.formatting.proofs.Marks.{mark-low, product-low, bad-is}
+use borrow.Author.Tests.{le-leb, lt-leb}
+use Rattle.rules.specs.Parameters.{pages}
+use Rattle.rules.specs.Format.{bad}
+use Rattle.formatting.proofs.Marks.{first-low}
 use Rattle.formatting.proofs.is_bad.Statement.{statement}
 use Rattle.formatting.proofs.is_bad.Tie as tie
 
-block-bytes-requires : tie.Need-block-bytes-requires
-block-bytes-requires c κs = search needs
-
-mul-i : tie.Need-mul-i
-mul-i c =
-    let a = c .before .before .before in
-    record { fits = lt-of-le-of-lt (product-low (a .args .p) (a .args .chip .now) (a .args .n .0) (a .pre .0) (a .pre .1 .0) (a .pre .1 .1) _ (c .before .block-bytes .ensures)) (omega arith) }
-
-add-i : tie.Need-add-i
-add-i c = let a = c .before .before .before .before in omega (arith, (sizes (a .args .p) (a .pre .0)) .sHigh)
-
-add-i-2 : tie.Need-add-i-2
-add-i-2 c =
-    let a = c .before .before .before .before in
-    omega (arith, product-low (a .args .p) (a .args .chip .now) (a .args .n .0) (a .pre .0) (a .pre .1 .0) (a .pre .1 .1) _ (c .before .before .block-bytes .ensures), (sizes (a .args .p) (a .pre .0)) .sHigh)
-
-shared-slice-read-result : tie.Need-shared-slice-read-result
-shared-slice-read-result c =
-    let a = c .before .before .before .before .before in
-    mark-low (a .args .p) (a .args .chip .now) (a .args .n .0) (a .pre .0) (a .pre .1 .0) (a .pre .1 .1) _ (c .before .before .before .block-bytes .ensures)
+has-bad-mark-requires : tie.Need-has-bad-mark-requires
+has-bad-mark-requires c κs = let a = c .before in (a .pre .0, (a .pre .1 .0, (a .pre .1 .1, first-low (a .args .p) (a .pre .0))))
 
 returns : tie.Need-returns
-returns c =
-    let a = c .before .before .before .before .before in
-    sym (bad-is (a .args .p) (a .args .chip .now) (a .args .n .0) (a .pre .0) (a .pre .1 .0) (a .pre .1 .1) _ (c .before .before .before .block-bytes .ensures))
+unfolding bad
+returns c = rw (← (c .before .has-bad-mark .ensures), c .if1 .taken)
+
+pages-requires : tie.Need-pages-requires
+pages-requires c κs = search needs
+
+returns-2 : tie.Need-returns-2
+unfolding bad
+returns-2 c = rw (← (c .before .before .before .has-bad-mark .ensures), c .before .before .if1 .left, lt-leb 2 (pages (c .before .before .before .before .before .args .p)) (omega (arith, c .before .pages .ensures, c .if2 .taken)))
+
+has-bad-mark-requires-2 : tie.Need-has-bad-mark-requires-2
+has-bad-mark-requires-2 c κs = let a = c .before .before .before .before .before in (a .pre .0, (a .pre .1 .0, (a .pre .1 .1, omega (arith, c .before .pages .ensures, c .if2 .left))))
+
+returns-3 : tie.Need-returns-3
+unfolding bad
+returns-3 c = rw (← (c .before .before .before .before .has-bad-mark .ensures), c .before .before .before .if1 .left, le-leb 2 (pages (c .before .before .before .before .before .before .args .p)) (omega (arith, c .before .before .pages .ensures, c .before .if2 .left))) (c .has-bad-mark2 .ensures)
 
 pub is-bad-spec : {M : Type 1} → statement M
-is-bad-spec = tie.close (tie.spec block-bytes-requires mul-i add-i add-i-2 shared-slice-read-result returns)
+is-bad-spec = tie.close (tie.spec has-bad-mark-requires returns pages-requires returns-2 has-bad-mark-requires-2 returns-3)
