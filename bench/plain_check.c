@@ -86,39 +86,24 @@ static bool good_block(const struct cnftl_params *p, size_t r,
     return k != 0;
 }
 
-/* BST, and the entries of BT. */
+/* BST, the entries of BT, and as many blocks used as named. */
 static bool good_tables(const struct cnftl_board *b)
 {
     const struct cnftl_params *p = &b->params;
-    size_t room = 0, all = (size_t)p->mu * p->gamma;
+    size_t room = 0, used = 0, named = 0, all = (size_t)p->mu * p->gamma;
 
     for (size_t n = 0; n < p->n; n++) {
         if (b->bst[n] > 2)
             return false;
         room += b->bst[n] != 2;
+        used += b->bst[n] == 1;
     }
-    for (size_t i = 0; i < all; i++)
+    for (size_t i = 0; i < all; i++) {
         if (b->bt[i] != CNFTL_NONE && b->bt[i] >= p->n)
             return false;
-    return room >= all + 1;
-}
-
-/* A free block is erased; a used one is named in the region that it holds. */
-static bool good_number(const struct cnftl_board *b, size_t n)
-{
-    const struct cnftl_params *p = &b->params;
-    const uint8_t *block = block_of(b, n);
-    const uint16_t *e;
-    bool named = false;
-
-    if (b->bst[n] == 0)
-        return are_erased(p, block, p->alpha * frames(p));
-    if (b->bst[n] == 2)
-        return true;
-    e = b->bt + held(p, block) % p->mu * p->gamma;
-    for (size_t v = 0; v < p->gamma; v++)
-        named |= e[v] == n;
-    return named;
+        named += b->bt[i] != CNFTL_NONE;
+    }
+    return room >= all + 1 && used == named;
 }
 
 /* FST names the last programmed frame's segment; all other blocks are full. */
@@ -189,7 +174,8 @@ bool plain_orderly(const struct cnftl_board *b)
     if (!good_tables(b))
         return false;
     for (size_t n = 0; n < p->n; n++)
-        if (!good_number(b, n))
+        if (b->bst[n] == 0
+            && !are_erased(p, block_of(b, n), p->alpha * frames(p)))
             return false;
     for (size_t r = 0; r < p->mu; r++)
         if (!good_region(b, r))

@@ -2,20 +2,21 @@
 -- Assumes nothing.
 use mathlib.Core.Path.{ap, refl, sym, _∙_, _≡_}
 use mathlib.Core.Logic.{inl, inr, _⊎_}
-use mathlib.Core.Bool.{_&&_, Bool, and-assoc, false, not, true, _||_}
+use mathlib.Core.Bool.{_&&_, Bool, false, not, true, _||_}
 use mathlib.Core.List.{List}
 use Prim.Native.Nat.{_%_, _*_, _+_, _/_, _<_, ℕ, _≤_}
 use native.Mathlib.Decide.{decLt, ℕ-discrete}
 use native.Mathlib.Nat.{div-add-mod', div-lt-iff-lt-mul, mod-lt}
 use native.Mathlib.Omega.{arith}
 use lib.Dec.{eqb, ltb}
-use borrow.Author.Tests.{eq-eqb, eqb-true, le-leb, leb-true, lt-ltb, ltb-true, ne-eqb, not-false, not-true}
-use Rattle.lists.specs.Below.{allBelow}
-use Rattle.lists.proofs.Tests.{all-at, all-below-intro, all-true, and-intro, and-left, and-right, never, or-cases, or-right, some-fails, truths}
+use borrow.Author.Tests.{eq-eqb, eqb-false, eqb-true, leb-true, ltb-true, ne-eqb, not-true}
+use Rattle.lists.specs.Below.{allBelow, countBelow}
+use Rattle.lists.proofs.Tests.{all-at, all-below-intro, all-true, and-intro, and-left, and-right, never, or-cases, truths}
+use Rattle.lists.proofs.Counts.{each-met}
 use Rattle.rules.specs.declared.Params.{Params}
 use Rattle.rules.specs.Numbers.{regionOf}
-use Rattle.rules.specs.Orderly.{blockRule, blocksRule, bstRule, btRule, clusterRule, ctRule, entryRule, fstRule, orderly, regionBlocks, regionFst, roomRule, rulesOf}
-use Rattle.rules.specs.Pages.{block, filled}
+use Rattle.rules.specs.Orderly.{blockRule, blocksRule, bstRule, btRule, clusterRule, ctRule, entryRule, freeRule, fstRule, orderly, regionBlocks, regionFst, roomRule, rulesOf}
+use Rattle.rules.specs.Pages.{block, erased, filled, frame, held}
 use Rattle.rules.specs.Parameters.{allowed}
 use Rattle.rules.specs.Regions.{assigned, view}
 use Rattle.rules.specs.Replies.{lengthsFit}
@@ -25,18 +26,14 @@ use Rattle.rules.proofs.Isolation.{index-low}
 use Rattle.rules.proofs.RegionFacts.{regionOrderly, up-to}
 use Rattle.rules.proofs.Sizes.{Sizes, sizes}
 use Rattle.rules.proofs.TableFacts.{Tables, chip-size, tables-in}
-use Rattle.loops.proofs.Below.{all-fails}
-use Rattle.tables.specs.Entries.{differs, unnamed}
-use Rattle.agree.specs.Check.{Lengths, blockOk, chipOk, clusterOk, home, regionOk, tablesOk, vblockOk}
+use Rattle.rules.proofs.Totals.{used-total}
+use Rattle.tables.specs.Entries.{differs, usedOk}
+use Rattle.agree.specs.Check.{Lengths, chipOk, clusterOk, regionOk, tablesOk, vblockOk}
 use Rattle.agree.proofs.Same.{Names, assigned-no, assigned-yes, body-is, entry-other, entry-same, open-same}
 
--- the check in one line, as the theorem goes over it
-unfoldable checked : Params → Board → Bool
-checked p b =
-    bstRule p (b .bst) && (btRule p (b .bt) && (roomRule p (b .bst)
-    && (allBelow (p .N) (blockOk p (b .chip) (b .bt) (b .bst))
-    && (allBelow (p .mu) (regionOk p (b .chip) (b .bt) (b .fst) (b .bst))
-    && allBelow (p .C) (clusterOk p (b .chip) (b .ct) (b .bt))))))
+-- the region that the first page of block n tells
+home : Params → List ℕ → ℕ → ℕ
+home p chip n = regionOf p (held p (frame p (block p chip n) 0))
 
 same-truth : (x y : Bool) → (x ≡ true → y ≡ true) → (y ≡ true → x ≡ true) → x ≡ y
 same-truth true y f g = sym (f refl)
@@ -86,23 +83,6 @@ module _ (p : Params) (b : Board) (fine : Sizes p) (len : lengthsFit p b ≡ tru
         rw (assigned-yes p b nm r hr v hv ne, body-is p b nm r hr v hv ne) at
         (all-at (p .gamma) (λ v. not (assigned (view p b r) v) || blockRule p r ((view p b r) .body v)) ((truths _ (region r hr)) .0) v hv)
 
-    named-home : (n i : ℕ) → n < p .N → i < p .mu * p .gamma → btEntry (b .bt) i ≡ n → unnamed p (b .bt) (home p (b .chip) n) n ≡ false
-    unfolding unnamed btAt
-    named-home n i hn hi e =
-        let w = index (p .mu) (p .gamma) i (fine .vblocks) hi in
-        let k : E (i / p .gamma) (i % p .gamma) ≡ n = ap (λ (x : ℕ). btEntry (b .bt) x) (w .2) ∙ e in
-        let h : home p (b .chip) n ≡ i / p .gamma = block-home (i / p .gamma) n (rw k at (rule (i / p .gamma) (i % p .gamma) (w .0) (w .1) (not-none n _ hn k))) in
-        rw h (all-fails (p .gamma) (i % p .gamma) (λ v. not (eqb (E (i / p .gamma) v) n)) (w .1) (ap not (eq-eqb _ _ k)))
-
-    block-ok : (n : ℕ) → n < p .N → blockOk p (b .chip) (b .bt) (b .bst) n ≡ true
-    unfolding blockOk
-    block-ok n h = go (ℕ-discrete (bstAt (b .bst) n) 0) (ℕ-discrete (bstAt (b .bst) n) 1)
-      where
-        go : Dec (bstAt (b .bst) n ≡ 0) → Dec (bstAt (b .bst) n ≡ 1) → blockOk p (b .chip) (b .bt) (b .bst) n ≡ true
-        go (yes x) y = rw (eq-eqb (bstAt (b .bst) n) 0 x) (t .free n h x)
-        go (no x) (yes y) = let w = t .used n h y in rw (ne-eqb (bstAt (b .bst) n) 0 x, eq-eqb (bstAt (b .bst) n) 1 y) (ap not (named-home n (w .0) h (w .1) (w .2)))
-        go (no x) (no y) = rw (ne-eqb (bstAt (b .bst) n) 0 x, ne-eqb (bstAt (b .bst) n) 1 y)
-
     apart : (r v : ℕ) → r < p .mu → v < p .gamma → (E r v ≡ none → ⊥) → differs p (b .bt) r v ≡ true
     unfolding differs btAt
     apart r v hr hv ne = all-below-intro v _ (λ u k. ap not (ne-eqb (E r u) (E r v) (λ e. go u k e)))
@@ -122,6 +102,10 @@ module _ (p : Params) (b : Board) (fine : Sizes p) (len : lengthsFit p b ≡ tru
             rw (ne-eqb (E r v) none e)
             (and-intro (apart r v hr hv e) (and-intro (eq-eqb _ 1 (t .usedBack (r * p .gamma + v) (index-low p r v hr hv) (E r v) (nm .low r v hr hv e) refl)) (rule r v hr hv e)))
 
+    counted : usedOk p (b .bt) (b .bst) ≡ true
+    unfolding usedOk
+    counted = eq-eqb _ _ (used-total p fine b t)
+
     region-ok : (r : ℕ) → r < p .mu → regionOk p (b .chip) (b .bt) (b .fst) (b .bst) r ≡ true
     unfolding regionOk regionOrderly
     region-ok r h = and-intro (all-below-intro (p .gamma) _ (λ v k. vblock-ok r v h k)) (sym (open-same p b nm r h) ∙ (truths _ (region r h)) .1 .0)
@@ -133,48 +117,42 @@ module _ (p : Params) (b : Board) (fine : Sizes p) (len : lengthsFit p b ≡ tru
         let k : regionOf p c < p .mu = mod-lt c (fine .regions) in
         sym (entry-same p b nm (regionOf p c) k c refl) ∙ all-at (p .C) (λ c′. eqb ((view p b (regionOf p c)) .segOf c′) none || entryRule p (view p b (regionOf p c)) c′) ((truths _ (region (regionOf p c) k)) .1 .1 .0) c h
 
-    passes : checked p b ≡ true
-    unfolding checked bstRule btRule roomRule
+    passes : tablesOk p (b .bt) (b .bst) && chipOk p (b .chip) (b .ct) (b .bt) (b .fst) (b .bst) ≡ true
+    unfolding tablesOk chipOk orderly rulesOf
     passes =
-        and-intro (all-below-intro (p .N) _ (λ n h. le-leb _ _ (t .kinds n h)))
-        (and-intro (all-below-intro (p .mu * p .gamma) _ (λ i h. entry i (t .names i h)))
-        (and-intro (le-leb _ _ (t .room))
-        (and-intro (all-below-intro (p .N) _ block-ok) (and-intro (all-below-intro (p .mu) _ region-ok) (all-below-intro (p .C) _ cluster-ok)))))
-      where
-        entry : (i : ℕ) → (btEntry (b .bt) i ≡ none) ⊎ (btEntry (b .bt) i < p .N) → eqb (btEntry (b .bt) i) none || ltb (btEntry (b .bt) i) (p .N) ≡ true
-        entry i (inl e) = rw (eq-eqb (btEntry (b .bt) i) none e)
-        entry i (inr e) = or-right (eqb (btEntry (b .bt) i) none) (lt-ltb _ _ e)
+        let k = truths _ o in
+        and-intro (and-intro (k .0) (and-intro (k .1 .0) (and-intro (k .1 .1 .1 .1 .0) counted)))
+        (and-intro (k .1 .1 .1 .1 .1 .0) (and-intro (all-below-intro (p .mu) _ region-ok) (all-below-intro (p .C) _ cluster-ok)))
 
   -- ---- what passes the check is orderly
-  module _ (k : checked p b ≡ true) where
+  module _ (k : tablesOk p (b .bt) (b .bst) ≡ true) (l : chipOk p (b .chip) (b .ct) (b .bt) (b .fst) (b .bst) ≡ true) where
     k₀ : bstRule p (b .bst) ≡ true
-    unfolding checked
+    unfolding tablesOk
     k₀ = and-left (bstRule p (b .bst)) _ k
 
-    l₁ : btRule p (b .bt) && (roomRule p (b .bst) && (allBelow (p .N) (blockOk p (b .chip) (b .bt) (b .bst)) && (allBelow (p .mu) (regionOk p (b .chip) (b .bt) (b .fst) (b .bst)) && allBelow (p .C) (clusterOk p (b .chip) (b .ct) (b .bt))))) ≡ true
-    unfolding checked
-    l₁ = and-right (bstRule p (b .bst)) k
-
     k₁ : btRule p (b .bt) ≡ true
-    k₁ = and-left (btRule p (b .bt)) _ l₁
+    unfolding tablesOk
+    k₁ = and-left (btRule p (b .bt)) _ (and-right (bstRule p (b .bst)) k)
 
     k₂ : roomRule p (b .bst) ≡ true
-    k₂ = and-left (roomRule p (b .bst)) _ (and-right (btRule p (b .bt)) l₁)
+    unfolding tablesOk
+    k₂ = and-left (roomRule p (b .bst)) _ (and-right (btRule p (b .bt)) (and-right (bstRule p (b .bst)) k))
 
-    l₃ : allBelow (p .N) (blockOk p (b .chip) (b .bt) (b .bst)) && (allBelow (p .mu) (regionOk p (b .chip) (b .bt) (b .fst) (b .bst)) && allBelow (p .C) (clusterOk p (b .chip) (b .ct) (b .bt))) ≡ true
-    l₃ = and-right (roomRule p (b .bst)) (and-right (btRule p (b .bt)) l₁)
+    k₃ : usedOk p (b .bt) (b .bst) ≡ true
+    unfolding tablesOk
+    k₃ = and-right (roomRule p (b .bst)) (and-right (btRule p (b .bt)) (and-right (bstRule p (b .bst)) k))
 
-    k₃ : (n : ℕ) → n < p .N → blockOk p (b .chip) (b .bt) (b .bst) n ≡ true
-    k₃ = all-at (p .N) (blockOk p (b .chip) (b .bt) (b .bst)) (and-left (allBelow (p .N) (blockOk p (b .chip) (b .bt) (b .bst))) _ l₃)
+    l₀ : freeRule p (b .chip) (b .bst) ≡ true
+    unfolding chipOk
+    l₀ = and-left (freeRule p (b .chip) (b .bst)) _ l
 
-    l₄ : allBelow (p .mu) (regionOk p (b .chip) (b .bt) (b .fst) (b .bst)) && allBelow (p .C) (clusterOk p (b .chip) (b .ct) (b .bt)) ≡ true
-    l₄ = and-right (allBelow (p .N) (blockOk p (b .chip) (b .bt) (b .bst))) l₃
+    l₁ : (r : ℕ) → r < p .mu → regionOk p (b .chip) (b .bt) (b .fst) (b .bst) r ≡ true
+    unfolding chipOk
+    l₁ = all-at (p .mu) (regionOk p (b .chip) (b .bt) (b .fst) (b .bst)) (and-left (allBelow (p .mu) (regionOk p (b .chip) (b .bt) (b .fst) (b .bst))) _ (and-right (freeRule p (b .chip) (b .bst)) l))
 
-    k₄ : (r : ℕ) → r < p .mu → regionOk p (b .chip) (b .bt) (b .fst) (b .bst) r ≡ true
-    k₄ = all-at (p .mu) (regionOk p (b .chip) (b .bt) (b .fst) (b .bst)) (and-left (allBelow (p .mu) (regionOk p (b .chip) (b .bt) (b .fst) (b .bst))) _ l₄)
-
-    k₅ : (c : ℕ) → c < p .C → clusterOk p (b .chip) (b .ct) (b .bt) c ≡ true
-    k₅ = all-at (p .C) (clusterOk p (b .chip) (b .ct) (b .bt)) (and-right (allBelow (p .mu) (regionOk p (b .chip) (b .bt) (b .fst) (b .bst))) l₄)
+    l₂ : (c : ℕ) → c < p .C → clusterOk p (b .chip) (b .ct) (b .bt) c ≡ true
+    unfolding chipOk
+    l₂ = all-at (p .C) (clusterOk p (b .chip) (b .ct) (b .bt)) (and-right (allBelow (p .mu) (regionOk p (b .chip) (b .bt) (b .fst) (b .bst))) (and-right (freeRule p (b .chip) (b .bst)) l))
 
     entries : (i : ℕ) → i < p .mu * p .gamma → (btEntry (b .bt) i ≡ none) ⊎ (btEntry (b .bt) i < p .N)
     unfolding btRule
@@ -191,7 +169,7 @@ module _ (p : Params) (b : Board) (fine : Sizes p) (len : lengthsFit p b ≡ tru
     vblock : (r v : ℕ) → r < p .mu → v < p .gamma → (E r v ≡ none → ⊥) → (differs p (b .bt) r v ≡ true) × (bstAt (b .bst) (E r v) ≡ 1) × (blockRule p r (block p (b .chip) (E r v)) ≡ true)
     unfolding regionOk vblockOk
     vblock r v hr hv ne =
-        let w = rw (ne-eqb (E r v) none ne) at (all-at (p .gamma) (vblockOk p (b .chip) (b .bt) (b .bst) r) (and-left (allBelow (p .gamma) (vblockOk p (b .chip) (b .bt) (b .bst) r)) _ (k₄ r hr)) v hv) in
+        let w = rw (ne-eqb (E r v) none ne) at (all-at (p .gamma) (vblockOk p (b .chip) (b .bt) (b .bst) r) (and-left (allBelow (p .gamma) (vblockOk p (b .chip) (b .bt) (b .bst) r)) _ (l₁ r hr)) v hv) in
         let u = and-right (differs p (b .bt) r v) w in
         (and-left (differs p (b .bt) r v) _ w, eqb-true _ _ (and-left (eqb (bstAt (b .bst) (E r v)) 1) _ u), and-right (eqb (bstAt (b .bst) (E r v)) 1) u)
 
@@ -221,15 +199,6 @@ module _ (p : Params) (b : Board) (fine : Sizes p) (len : lengthsFit p b ≡ tru
         go r s u v q hr hu hv a nu nv ui vj (no d) (yes w) = absurd (one r v u hr w hu nu (sym (a ∙ ap (λ (x : ℕ). E x v) (sym q))))
         go r s u v q hr hu hv a nu nv ui vj (no d) (no w) = let z : u ≡ v = omega arith in let y : r * p .gamma + u ≡ s * p .gamma + v = rw (q, z) in sym ui ∙ y ∙ vj
 
-    used : (n : ℕ) → n < p .N → bstAt (b .bst) n ≡ 1 → (i : ℕ) × (i < p .mu * p .gamma) × (btEntry (b .bt) i ≡ n)
-    unfolding blockOk unnamed btAt
-    used n h e =
-        let zero-no : bstAt (b .bst) n ≡ 0 → ⊥ = λ q. omega arith in
-        let w : not (allBelow (p .gamma) (λ v. not (eqb (E (home p (b .chip) n) v) n))) ≡ true = rw (ne-eqb (bstAt (b .bst) n) 0 zero-no, eq-eqb (bstAt (b .bst) n) 1 e) at (k₃ n h) in
-        let f = some-fails (p .gamma) (λ v. not (eqb (E (home p (b .chip) n) v) n)) (not-true _ w) in
-        let m : home p (b .chip) n < p .mu = unfold home in mod-lt _ (fine .regions) in
-        (home p (b .chip) n * p .gamma + f .0, index-low p (home p (b .chip) n) (f .0) m (f .1), eqb-true _ _ (not-false _ (f .2)))
-
     usedBack : (i : ℕ) → i < p .mu * p .gamma → (n : ℕ) → n < p .N → btEntry (b .bt) i ≡ n → bstAt (b .bst) n ≡ 1
     unfolding btAt
     usedBack i hi n hn e =
@@ -237,8 +206,23 @@ module _ (p : Params) (b : Board) (fine : Sizes p) (len : lengthsFit p b ≡ tru
         let ei : E (i / p .gamma) (i % p .gamma) ≡ n = ap (λ (x : ℕ). btEntry (b .bt) x) (x .2) ∙ e in
         rw ei at ((vblock (i / p .gamma) (i % p .gamma) (x .0) (x .1) (not-none n _ hn ei)) .1)
 
+    -- an entry that is not none is a block that is used, no two the same; there are no more used blocks, so each is an entry
+    used : (n : ℕ) → n < p .N → bstAt (b .bst) n ≡ 1 → (i : ℕ) × (i < p .mu * p .gamma) × (btEntry (b .bt) i ≡ n)
+    unfolding usedOk
+    used n h e =
+        let w =
+        each-met (p .mu * p .gamma) (p .N) (λ i. not (eqb (btEntry (b .bt) i) none)) (λ n. eqb (bstAt (b .bst) n) 1) (btEntry (b .bt))
+        (λ i k s. let x = low i (entries i k) s in (x, eq-eqb _ _ (usedBack i k (btEntry (b .bt) i) x refl)))
+        (λ i j k m s u q. once i j k m q (eqb-false _ _ (not-true _ s)))
+        (omega (arith, eqb-true (countBelow (p .N) (λ n. eqb (bstAt (b .bst) n) 1)) _ k₃)) n h (eq-eqb _ _ e) in
+        (w .0, w .1, w .3)
+      where
+        low : (i : ℕ) → (btEntry (b .bt) i ≡ none) ⊎ (btEntry (b .bt) i < p .N) → not (eqb (btEntry (b .bt) i) none) ≡ true → btEntry (b .bt) i < p .N
+        low i (inl q) s = absurd (eqb-false _ _ (not-true _ s) q)
+        low i (inr q) s = q
+
     tables : Tables p b
-    unfolding bstRule roomRule blockOk lengthsFit
+    unfolding bstRule roomRule freeRule lengthsFit
     tables =
         record {
           chipLength = eqb-true _ _ ((truths _ len) .0) ∙ chip-size p;
@@ -253,7 +237,7 @@ module _ (p : Params) (b : Board) (fine : Sizes p) (len : lengthsFit p b ≡ tru
           used = used;
           usedBack = usedBack;
           room = leb-true _ _ k₂;
-          free = λ n h e. rw (eq-eqb (bstAt (b .bst) n) 0 e) at (k₃ n h);
+          free = λ n h e. rw (eq-eqb (bstAt (b .bst) n) 0 e) at (all-at (p .N) (λ n. not (eqb (bstAt (b .bst) n) 0) || erased (block p (b .chip) n)) l₀ n h);
         }
 
     blocks : (r : ℕ) → r < p .mu → regionBlocks p r (view p b r) ≡ true
@@ -269,19 +253,19 @@ module _ (p : Params) (b : Board) (fine : Sizes p) (len : lengthsFit p b ≡ tru
     clusters r h = all-below-intro (p .C) _ (λ c l. go c l (ℕ-discrete (regionOf p c) r))
       where
         go : (c : ℕ) → c < p .C → Dec (regionOf p c ≡ r) → eqb ((view p b r) .segOf c) none || entryRule p (view p b r) c ≡ true
-        go c l (yes e) = entry-same p b ns r h c e ∙ k₅ c l
+        go c l (yes e) = entry-same p b ns r h c e ∙ l₂ c l
         go c l (no e) = rw (entry-other p b ns r h c e)
 
     opens : (r : ℕ) → r < p .mu → regionFst p (view p b r) ≡ true
     unfolding regionOk
-    opens r h = open-same p b ns r h ∙ and-right (allBelow (p .gamma) (vblockOk p (b .chip) (b .bt) (b .bst) r)) (k₄ r h)
+    opens r h = open-same p b ns r h ∙ and-right (allBelow (p .gamma) (vblockOk p (b .chip) (b .bt) (b .bst) r)) (l₁ r h)
 
     is-orderly : orderly p b ≡ true
     unfolding regionOrderly
     is-orderly = orderly-all p b fine tables (λ r h. all-true _ (blocks r h, (opens r h, (clusters r h, tt))))
 
-  agree : checked p b ≡ orderly p b
-  agree = same-truth (checked p b) (orderly p b) is-orderly passes
+  agree : tablesOk p (b .bt) (b .bst) && chipOk p (b .chip) (b .ct) (b .bt) (b .fst) (b .bst) ≡ orderly p b
+  agree = same-truth (tablesOk p (b .bt) (b .bst) && chipOk p (b .chip) (b .ct) (b .bt) (b .fst) (b .bst)) (orderly p b) (λ h. is-orderly (and-left (tablesOk p (b .bt) (b .bst)) _ h) (and-right (tablesOk p (b .bt) (b .bst)) h)) passes
 
 -- the wear is in no rule
 no-wear : (p : Params) (chip ct bt fst bst w w′ : List ℕ) → orderly p (boardOf chip ct bt fst bst w) ≡ orderly p (boardOf chip ct bt fst bst w′)
@@ -310,6 +294,4 @@ lengths-out p chip ct bt fst bst z =
 -- the tables' rules, then the chip's, are the rules of an orderly state
 pub check-agrees : (p : Params) (chip ct bt fst bst : List ℕ) → Lengths p chip ct bt fst bst → (wear : List ℕ)
     → tablesOk p bt bst && chipOk p chip ct bt fst bst ≡ orderly p (boardOf chip ct bt fst bst wear)
-unfolding checked tablesOk chipOk
-check-agrees p chip ct bt fst bst z wear =
-    rw (and-assoc, and-assoc) (agree p (boardOf chip ct bt fst bst bst) (sizes p (z .fine)) (lengths-out p chip ct bt fst bst z) ∙ no-wear p chip ct bt fst bst bst wear)
+check-agrees p chip ct bt fst bst z wear = agree p (boardOf chip ct bt fst bst bst) (sizes p (z .fine)) (lengths-out p chip ct bt fst bst z) ∙ no-wear p chip ct bt fst bst bst wear

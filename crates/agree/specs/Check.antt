@@ -7,23 +7,13 @@ use Prim.Native.Nat.{_*_, _-_, ℕ}
 use lib.Dec.{eqb, ltb}
 use lib.ListN.{length}
 use Rattle.lists.specs.Below.{allBelow}
-use Rattle.lists.specs.Parts.{allAre}
 use Rattle.rules.specs.declared.Params.{Params}
 use Rattle.rules.specs.Numbers.{placeOf, regionOf, segmentOf, vblockOf}
-use Rattle.rules.specs.Orderly.{blockRule, bstRule, btRule, roomRule}
-use Rattle.rules.specs.Pages.{block, filled, frame, held, lastIn}
+use Rattle.rules.specs.Orderly.{blockRule, bstRule, btRule, freeRule, roomRule}
+use Rattle.rules.specs.Pages.{block, filled, lastIn}
 use Rattle.rules.specs.Parameters.{allowed, chipBytes, frames}
 use Rattle.rules.specs.Tables.{bstAt, btAt, ctAt, fstAt, none}
-use Rattle.tables.specs.Entries.{differs, emptyAt, unnamed}
-
--- the region that the first page of block n tells
-unfoldable pub home : Params → List ℕ → ℕ → ℕ
-home p chip n = regionOf p (held p (frame p (block p chip n) 0))
-
--- a free block is erased; of a used one, the region that its first page tells names it
-unfoldable pub blockOk : Params → List ℕ → List ℕ → List ℕ → ℕ → Bool
-blockOk p chip bt bst n =
-    cond (eqb (bstAt bst n) 0) (allAre 255 (block p chip n)) (cond (eqb (bstAt bst n) 1) (not (unnamed p bt (home p chip n) n)) true)
+use Rattle.tables.specs.Entries.{differs, emptyAt, usedOk}
 
 -- a named block is named once in its region, is used, and is a block of that region
 unfoldable pub vblockOk : Params → List ℕ → List ℕ → List ℕ → ℕ → ℕ → Bool
@@ -61,14 +51,15 @@ segmentOk p chip bt c sg =
 unfoldable pub clusterOk : Params → List ℕ → List ℕ → List ℕ → ℕ → Bool
 clusterOk p chip ct bt c = cond (eqb (ctAt ct c) none) true (segmentOk p chip bt c (ctAt ct c))
 
--- the rules of the tables that look at no byte of the chip
+-- the rules of the tables that look at no byte of the chip, and as many blocks used as named: each block that BT names is used and is named once, so
+-- then each used block is named
 unfoldable pub tablesOk : Params → List ℕ → List ℕ → Bool
-tablesOk p bt bst = bstRule p bst && (btRule p bt && roomRule p bst)
+tablesOk p bt bst = bstRule p bst && (btRule p bt && (roomRule p bst && usedOk p bt bst))
 
 -- the rules that look at the chip
 unfoldable pub chipOk : Params → List ℕ → List ℕ → List ℕ → List ℕ → List ℕ → Bool
 chipOk p chip ct bt fst bst =
-    allBelow (p .N) (blockOk p chip bt bst) && (allBelow (p .mu) (regionOk p chip bt fst bst) && allBelow (p .C) (clusterOk p chip ct bt))
+    freeRule p chip bst && (allBelow (p .mu) (regionOk p chip bt fst bst) && allBelow (p .C) (clusterOk p chip ct bt))
 
 -- the lent chip and tables, of the right lengths
 pub record Lengths (p : Params) (chip ct bt fst bst : List ℕ) : Type 0 where

@@ -6,7 +6,7 @@ ghost use lib.ListN.{length};
 ghost use lib.Dec.{ltb};
 ghost use Rattle.lists.specs.Parts.{allAre};
 ghost use Rattle.rules.specs.Parameters.{allowed, frames, frameBytes, blockBytes, chipBytes};
-ghost use Rattle.rules.specs.Pages.{block, frame, held, holds, filled, lastIn};
+ghost use Rattle.rules.specs.Pages.{block, frame, holds, filled, lastIn};
 ghost use Rattle.rules.specs.Orderly.{goodFrame, goodUpTo, blockRule};
 use rules::Cluster;
 use rules::PBlock;
@@ -74,15 +74,6 @@ pub fn holds(p: Params, fr: &[u8], c: Cluster) -> bool
         return nand::cluster_in(p, fr).0 == c.0;
     }
     false
-}
-
-// The cluster that the block's first frame holds.
-pub fn first_cluster(p: Params, blk: &[u8]) -> Cluster
-    requires { ⌜ allowed p ≡ true ⌝ }
-    requires { ⌜ length (now blk) ≡ blockBytes p ⌝ }
-    ensures { λ c. ⌜ c .0 ≡ held p (frame p (now (blk .entry)) 0) ⌝ }
-{
-    nand::cluster_in(p, frame_of(p, blk, 0))
 }
 
 // How many frames of the block are programmed.

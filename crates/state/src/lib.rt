@@ -1,49 +1,48 @@
 // When a state is orderly: one pass over the chip and the tables. A block that two regions name would be one of both, which its first page rules out; so no
-// search goes beyond one region.
+// search goes beyond one region. The named blocks are used, so that every used block is named if there are as many.
 ghost use mathlib.Core.Path.{_≡_};
-ghost use mathlib.Core.Bool.{true};
+ghost use mathlib.Core.Bool.{true, not, _||_};
 ghost use mathlib.Core.List.{List};
 ghost use Prim.Native.Nat.{ℕ, _-_, _*_, _<_};
 ghost use lib.ListN.{length};
+ghost use lib.Dec.{eqb};
 ghost use Rattle.lists.specs.Below.{allBelow};
-ghost use Rattle.rules.specs.Parameters.{allowed};
-ghost use Rattle.rules.specs.Tables.{boardOf};
-ghost use Rattle.rules.specs.Orderly.{orderly};
-ghost use Rattle.agree.specs.Check.{Lengths, Lent, blockOk, vblockOk, fullOk, openOk, fstOk, regionOk, segmentOk, clusterOk, tablesOk, chipOk};
+ghost use Rattle.rules.specs.Parameters.{allowed, chipBytes};
+ghost use Rattle.rules.specs.Tables.{boardOf, bstAt};
+ghost use Rattle.rules.specs.Pages.{block, erased};
+ghost use Rattle.rules.specs.Orderly.{freeRule, orderly};
+ghost use Rattle.agree.specs.Check.{Lengths, Lent, vblockOk, fullOk, openOk, fstOk, regionOk, segmentOk, clusterOk, tablesOk, chipOk};
 use rules::Cluster;
 use rules::PBlock;
 use rules::Params;
 use rules::Segment;
 use rules::VBlock;
 
-// A free block is erased; of a used one, the region that its first page tells names it.
-fn block_ok(p: Params, chip: &[u8], bt: &[u16], bst: &[u8], n: PBlock) -> bool
-    requires { ⌜ Lent p (now chip) (now bt) ⌝ }
+// Block n is erased if it is free.
+fn free_ok(p: Params, chip: &[u8], bst: &[u8], n: PBlock) -> bool
+    requires { ⌜ allowed p ≡ true ⌝ }
+    requires { ⌜ length (now chip) ≡ chipBytes p ⌝ }
     requires { ⌜ length (now bst) ≡ p .N ⌝ }
     requires { ⌜ n .0 < p .N ⌝ }
-    ensures { λ ok. ⌜ ok ≡ blockOk p (now (chip .entry)) (now (bt .entry)) (now (bst .entry)) (n .0) ⌝ }
+    ensures { λ ok. ⌜ ok ≡ not (eqb (bstAt (now (bst .entry)) (n .0)) 0) || erased (block p (now (chip .entry)) (n .0)) ⌝ }
 {
-    let s = tables::bst_at(bst, n);
-    if s == 0 {
-        return blocks::block_erased(p, blocks::block_of(p, chip, n));
+    if tables::bst_at(bst, n) != 0 {
+        return true;
     }
-    if s == 1 {
-        let r = rules::region_of(p, blocks::first_cluster(p, blocks::block_of(p, chip, n)));
-        return !tables::unnamed(p, bt, r, n);
-    }
-    true
+    blocks::block_erased(p, blocks::block_of(p, chip, n))
 }
 
 // The same of every block.
-fn blocks_ok(p: Params, chip: &[u8], bt: &[u16], bst: &[u8]) -> bool
-    requires { ⌜ Lent p (now chip) (now bt) ⌝ }
+fn frees_ok(p: Params, chip: &[u8], bst: &[u8]) -> bool
+    requires { ⌜ allowed p ≡ true ⌝ }
+    requires { ⌜ length (now chip) ≡ chipBytes p ⌝ }
     requires { ⌜ length (now bst) ≡ p .N ⌝ }
-    ensures { λ ok. ⌜ ok ≡ allBelow (p .N) (blockOk p (now (chip .entry)) (now (bt .entry)) (now (bst .entry))) ⌝ }
+    ensures { λ ok. ⌜ ok ≡ freeRule p (now (chip .entry)) (now (bst .entry)) ⌝ }
 {
     let m = p.N;
     let mut n = 0;
     while n < m {
-        if !block_ok(p, chip, bt, bst, PBlock(n)) {
+        if !free_ok(p, chip, bst, PBlock(n)) {
             return false;
         }
         n += 1;
@@ -252,7 +251,7 @@ fn regions_ok(p: Params, chip: &[u8], bt: &[u16], fst: &[u16], bst: &[u8]) -> bo
     true
 }
 
-// The rules of the tables that look at no byte of the chip.
+// The rules of the tables that look at no byte of the chip, and as many blocks used as named.
 fn tables_ok(p: Params, bt: &[u16], bst: &[u8]) -> bool
     requires { ⌜ allowed p ≡ true ⌝ }
     requires { ⌜ length (now bt) ≡ p .mu * p .gamma ⌝ }
@@ -265,7 +264,10 @@ fn tables_ok(p: Params, bt: &[u16], bst: &[u8]) -> bool
     if !tables::bt_ok(p, bt) {
         return false;
     }
-    tables::room_ok(p, bst)
+    if !tables::room_ok(p, bst) {
+        return false;
+    }
+    tables::used_ok(p, bt, bst)
 }
 
 // The rules that look at the chip.
@@ -274,7 +276,7 @@ fn chip_ok(p: Params, chip: &[u8], ct: &[u16], bt: &[u16], fst: &[u16], bst: &[u
     requires { ⌜ Lent p (now chip) (now bt) ⌝ }
     ensures { λ ok. ⌜ ok ≡ chipOk p (now (chip .entry)) (now (ct .entry)) (now (bt .entry)) (now (fst .entry)) (now (bst .entry)) ⌝ }
 {
-    if !blocks_ok(p, chip, bt, bst) {
+    if !frees_ok(p, chip, bst) {
         return false;
     }
     if !regions_ok(p, chip, bt, fst, bst) {

@@ -8,7 +8,7 @@ ghost use Rattle.lists.specs.Below.{countBelow};
 ghost use Rattle.rules.specs.Parameters.{allowed};
 ghost use Rattle.rules.specs.Tables.{none, ctAt, btEntry, btAt, fstAt, bstAt, wearAt};
 ghost use Rattle.rules.specs.Orderly.{bstRule, btRule, roomRule};
-ghost use Rattle.tables.specs.Entries.{unnamed, differs, emptyAt};
+ghost use Rattle.tables.specs.Entries.{differs, emptyAt, usedOk};
 use rules::Cluster;
 use rules::PBlock;
 use rules::Params;
@@ -192,21 +192,44 @@ pub fn bt_ok(p: Params, bt: &[u16]) -> bool
     true
 }
 
-// No entry of region r names block n.
-pub fn unnamed(p: Params, bt: &[u16], r: usize, n: PBlock) -> bool
-    requires { ⌜ length (now bt) ≡ p .mu * p .gamma ⌝ }
-    requires { ⌜ r < p .mu ⌝ }
-    ensures { λ ok. ⌜ ok ≡ unnamed p (now (bt .entry)) r (n .0) ⌝ }
+// How many blocks are used.
+fn used(bst: &[u8]) -> usize
+    ensures { λ k. ⌜ k ≡ countBelow (length (now (bst .entry))) (λ n. eqb (bstAt (now (bst .entry)) n) 1) ⌝ }
 {
-    let m = p.gamma;
-    let mut v = 0;
-    while v < m {
-        if bt_at(p, bt, r, VBlock(v)).0 == n.0 {
-            return false;
+    let mut k = 0;
+    let mut n = 0;
+    while n < bst.len() {
+        if bst[n] == 1 {
+            k += 1;
         }
-        v += 1;
+        n += 1;
     }
-    true
+    k
+}
+
+// How many entries of BT are not none.
+fn assigned(bt: &[u16]) -> usize
+    ensures { λ k. ⌜ k ≡ countBelow (length (now (bt .entry))) (λ i. not (eqb (btEntry (now (bt .entry)) i) none)) ⌝ }
+{
+    let mut k = 0;
+    let mut i = 0;
+    while i < bt.len() {
+        if bt[i] != 65535 {
+            k += 1;
+        }
+        i += 1;
+    }
+    k
+}
+
+// As many blocks are used as BT has entries that are not none.
+pub fn used_ok(p: Params, bt: &[u16], bst: &[u8]) -> bool
+    requires { ⌜ length (now bt) ≡ p .mu * p .gamma ⌝ }
+    requires { ⌜ length (now bst) ≡ p .N ⌝ }
+    ensures { λ ok. ⌜ ok ≡ usedOk p (now (bt .entry)) (now (bst .entry)) ⌝ }
+{
+    let k = used(bst);
+    k == assigned(bt)
 }
 
 // No lower virtual block of region r has the block of virtual block v.
