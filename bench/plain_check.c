@@ -124,6 +124,30 @@ static bool good_open(const struct cnftl_board *b, size_t r)
     return true;
 }
 
+/* CT names a segment of region r that holds a programmed frame of c. */
+static bool good_entry(const struct cnftl_board *b, size_t r, size_t c)
+{
+    const struct cnftl_params *p = &b->params;
+    size_t sg = b->ct[c], n;
+    const uint8_t *segment;
+
+    if (sg == CNFTL_NONE)
+        return true;
+    if (sg >= (size_t)p->gamma * p->d)
+        return false;
+    n = b->bt[r * p->gamma + sg / p->d];
+    if (n == CNFTL_NONE)
+        return false;
+    segment = block_of(b, n) + sg % p->d * p->beta * frame_bytes(p);
+    for (size_t i = p->beta; i-- > 0;) {
+        const uint8_t *frame = segment + i * frame_bytes(p);
+
+        if (frame[p->s + 6] == 0 && held(p, frame) == c)
+            return true;
+    }
+    return false;
+}
+
 static bool good_region(const struct cnftl_board *b, size_t r)
 {
     const struct cnftl_params *p = &b->params;
@@ -140,31 +164,12 @@ static bool good_region(const struct cnftl_board *b, size_t r)
         if (b->bst[e[v]] != 1 || !good_block(p, r, block_of(b, e[v])))
             return false;
     }
-    return empty ? b->fst[r] == CNFTL_NONE : good_open(b, r);
-}
-
-/* CT names a segment that holds a programmed frame of the cluster. */
-static bool good_entry(const struct cnftl_board *b, size_t c)
-{
-    const struct cnftl_params *p = &b->params;
-    size_t sg = b->ct[c], n;
-    const uint8_t *segment;
-
-    if (sg == CNFTL_NONE)
-        return true;
-    if (sg >= (size_t)p->gamma * p->d)
+    if (!(empty ? b->fst[r] == CNFTL_NONE : good_open(b, r)))
         return false;
-    n = b->bt[c % p->mu * p->gamma + sg / p->d];
-    if (n == CNFTL_NONE)
-        return false;
-    segment = block_of(b, n) + sg % p->d * p->beta * frame_bytes(p);
-    for (size_t i = p->beta; i-- > 0;) {
-        const uint8_t *frame = segment + i * frame_bytes(p);
-
-        if (frame[p->s + 6] == 0 && held(p, frame) == c)
-            return true;
-    }
-    return false;
+    for (size_t c = r; c < p->c; c += p->mu)
+        if (!good_entry(b, r, c))
+            return false;
+    return true;
 }
 
 bool plain_orderly(const struct cnftl_board *b)
@@ -179,9 +184,6 @@ bool plain_orderly(const struct cnftl_board *b)
             return false;
     for (size_t r = 0; r < p->mu; r++)
         if (!good_region(b, r))
-            return false;
-    for (size_t c = 0; c < p->c; c++)
-        if (!good_entry(b, c))
             return false;
     return true;
 }

@@ -2,7 +2,7 @@
 -- Assumes nothing.
 use mathlib.Core.Path.{ap, refl, sym, _∙_, _≡_}
 use mathlib.Core.Logic.{inl, inr, _⊎_}
-use mathlib.Core.Bool.{_&&_, Bool, false, not, true, _||_}
+use mathlib.Core.Bool.{_&&_, Bool, cond, false, not, true, _||_}
 use mathlib.Core.List.{List}
 use Prim.Native.Nat.{_%_, _*_, _+_, _/_, _<_, ℕ, _≤_}
 use native.Mathlib.Decide.{decLt, ℕ-discrete}
@@ -28,7 +28,7 @@ use Rattle.rules.proofs.Sizes.{Sizes, sizes}
 use Rattle.rules.proofs.TableFacts.{Tables, chip-size, tables-in}
 use Rattle.rules.proofs.Totals.{used-total}
 use Rattle.tables.specs.Entries.{differs, usedOk}
-use Rattle.agree.specs.Check.{Lengths, chipOk, clusterOk, regionOk, tablesOk, vblockOk}
+use Rattle.agree.specs.Check.{Lengths, chipOk, clusterOk, clustersOk, fstOk, regionOk, tablesOk, vblockOk}
 use Rattle.agree.proofs.Same.{Names, assigned-no, assigned-yes, body-is, entry-other, entry-same, open-same}
 
 -- the region that the first page of block n tells
@@ -106,23 +106,27 @@ module _ (p : Params) (b : Board) (fine : Sizes p) (len : lengthsFit p b ≡ tru
     unfolding usedOk
     counted = eq-eqb _ _ (used-total p fine b t)
 
-    region-ok : (r : ℕ) → r < p .mu → regionOk p (b .chip) (b .bt) (b .fst) (b .bst) r ≡ true
-    unfolding regionOk regionOrderly
-    region-ok r h = and-intro (all-below-intro (p .gamma) _ (λ v k. vblock-ok r v h k)) (sym (open-same p b nm r h) ∙ (truths _ (region r h)) .1 .0)
+    clusters-ok : (r : ℕ) → r < p .mu → clustersOk p (b .chip) (b .ct) (b .bt) r ≡ true
+    unfolding clustersOk regionOrderly clusterRule
+    clusters-ok r h = all-below-intro (p .C) _ (λ c l. go c l (ℕ-discrete (regionOf p c) r))
+      where
+        go : (c : ℕ) → c < p .C → Dec (regionOf p c ≡ r) → cond (eqb (regionOf p c) r) (clusterOk p (b .chip) (b .ct) (b .bt) r c) true ≡ true
+        go c l (yes e) =
+            rw (eq-eqb (regionOf p c) r e)
+            (sym (entry-same p b nm r h c e) ∙ all-at (p .C) (λ c′. eqb ((view p b r) .segOf c′) none || entryRule p (view p b r) c′) ((truths _ (region r h)) .1 .1 .0) c l)
+        go c l (no e) = rw (ne-eqb (regionOf p c) r e)
 
-    cluster-ok : (c : ℕ) → c < p .C → clusterOk p (b .chip) (b .ct) (b .bt) c ≡ true
-    unfolding regionOrderly clusterRule
-    cluster-ok c h =
-        let r : ℕ = regionOf p c in
-        let k : regionOf p c < p .mu = mod-lt c (fine .regions) in
-        sym (entry-same p b nm (regionOf p c) k c refl) ∙ all-at (p .C) (λ c′. eqb ((view p b (regionOf p c)) .segOf c′) none || entryRule p (view p b (regionOf p c)) c′) ((truths _ (region (regionOf p c) k)) .1 .1 .0) c h
+    region-ok : (r : ℕ) → r < p .mu → regionOk p (b .chip) (b .ct) (b .bt) (b .fst) (b .bst) r ≡ true
+    unfolding regionOk regionOrderly
+    region-ok r h =
+        and-intro (all-below-intro (p .gamma) _ (λ v k. vblock-ok r v h k)) (and-intro (sym (open-same p b nm r h) ∙ (truths _ (region r h)) .1 .0) (clusters-ok r h))
 
     passes : tablesOk p (b .bt) (b .bst) && chipOk p (b .chip) (b .ct) (b .bt) (b .fst) (b .bst) ≡ true
     unfolding tablesOk chipOk orderly rulesOf
     passes =
         let k = truths _ o in
         and-intro (and-intro (k .0) (and-intro (k .1 .0) (and-intro (k .1 .1 .1 .1 .0) counted)))
-        (and-intro (k .1 .1 .1 .1 .1 .0) (and-intro (all-below-intro (p .mu) _ region-ok) (all-below-intro (p .C) _ cluster-ok)))
+        (and-intro (k .1 .1 .1 .1 .1 .0) (all-below-intro (p .mu) _ region-ok))
 
   -- ---- what passes the check is orderly
   module _ (k : tablesOk p (b .bt) (b .bst) ≡ true) (l : chipOk p (b .chip) (b .ct) (b .bt) (b .fst) (b .bst) ≡ true) where
@@ -146,13 +150,9 @@ module _ (p : Params) (b : Board) (fine : Sizes p) (len : lengthsFit p b ≡ tru
     unfolding chipOk
     l₀ = and-left (freeRule p (b .chip) (b .bst)) _ l
 
-    l₁ : (r : ℕ) → r < p .mu → regionOk p (b .chip) (b .bt) (b .fst) (b .bst) r ≡ true
+    l₁ : (r : ℕ) → r < p .mu → regionOk p (b .chip) (b .ct) (b .bt) (b .fst) (b .bst) r ≡ true
     unfolding chipOk
-    l₁ = all-at (p .mu) (regionOk p (b .chip) (b .bt) (b .fst) (b .bst)) (and-left (allBelow (p .mu) (regionOk p (b .chip) (b .bt) (b .fst) (b .bst))) _ (and-right (freeRule p (b .chip) (b .bst)) l))
-
-    l₂ : (c : ℕ) → c < p .C → clusterOk p (b .chip) (b .ct) (b .bt) c ≡ true
-    unfolding chipOk
-    l₂ = all-at (p .C) (clusterOk p (b .chip) (b .ct) (b .bt)) (and-right (allBelow (p .mu) (regionOk p (b .chip) (b .bt) (b .fst) (b .bst))) (and-right (freeRule p (b .chip) (b .bst)) l))
+    l₁ = all-at (p .mu) (regionOk p (b .chip) (b .ct) (b .bt) (b .fst) (b .bst)) (and-right (freeRule p (b .chip) (b .bst)) l)
 
     entries : (i : ℕ) → i < p .mu * p .gamma → (btEntry (b .bt) i ≡ none) ⊎ (btEntry (b .bt) i < p .N)
     unfolding btRule
@@ -249,16 +249,21 @@ module _ (p : Params) (b : Board) (fine : Sizes p) (len : lengthsFit p b ≡ tru
         go v hv (no e) = rw (assigned-yes p b ns r h v hv e, body-is p b ns r h v hv e) ((vblock r v h hv e) .2)
 
     clusters : (r : ℕ) → r < p .mu → allBelow (p .C) (clusterRule p (view p b r)) ≡ true
-    unfolding clusterRule
+    unfolding clusterRule regionOk clustersOk
     clusters r h = all-below-intro (p .C) _ (λ c l. go c l (ℕ-discrete (regionOf p c) r))
       where
+        passed : (c : ℕ) → c < p .C → cond (eqb (regionOf p c) r) (clusterOk p (b .chip) (b .ct) (b .bt) r c) true ≡ true
+        passed =
+            all-at (p .C) (λ c. cond (eqb (regionOf p c) r) (clusterOk p (b .chip) (b .ct) (b .bt) r c) true)
+            (and-right (fstOk p (b .chip) (b .bt) (b .fst) r) (and-right (allBelow (p .gamma) (vblockOk p (b .chip) (b .bt) (b .bst) r)) (l₁ r h)))
+
         go : (c : ℕ) → c < p .C → Dec (regionOf p c ≡ r) → eqb ((view p b r) .segOf c) none || entryRule p (view p b r) c ≡ true
-        go c l (yes e) = entry-same p b ns r h c e ∙ l₂ c l
+        go c l (yes e) = entry-same p b ns r h c e ∙ (rw (eq-eqb (regionOf p c) r e) at (passed c l))
         go c l (no e) = rw (entry-other p b ns r h c e)
 
     opens : (r : ℕ) → r < p .mu → regionFst p (view p b r) ≡ true
     unfolding regionOk
-    opens r h = open-same p b ns r h ∙ and-right (allBelow (p .gamma) (vblockOk p (b .chip) (b .bt) (b .bst) r)) (l₁ r h)
+    opens r h = open-same p b ns r h ∙ and-left (fstOk p (b .chip) (b .bt) (b .fst) r) _ (and-right (allBelow (p .gamma) (vblockOk p (b .chip) (b .bt) (b .bst) r)) (l₁ r h))
 
     is-orderly : orderly p b ≡ true
     unfolding regionOrderly

@@ -106,9 +106,9 @@ module _ (p : Params) (b : Board) (t : Names p b) (r : ℕ) (region : r < p .mu)
       (ap (λ (s : ℕ). cond (allBelow (p .gamma) (λ v. eqb (btAt p (b .bt) r v) none)) (eqb s none) (openOk p (b .chip) (b .bt) r s)) seg-of)
 
   -- a cluster of the region
-  pub entry-same : (c : ℕ) → regionOf p c ≡ r → eqb ((view p b r) .segOf c) none || entryRule p (view p b r) c ≡ clusterOk p (b .chip) (b .ct) (b .bt) c
+  pub entry-same : (c : ℕ) → regionOf p c ≡ r → eqb ((view p b r) .segOf c) none || entryRule p (view p b r) c ≡ clusterOk p (b .chip) (b .ct) (b .bt) r c
   unfolding entryRule clusterOk segmentOk allTrue
-  entry-same c e = rw (seg, e) (go (ctAt (b .ct) c) (so (eqb (ctAt (b .ct) c) none)) (so (ltb (ctAt (b .ct) c) (p .gamma * p .d))))
+  entry-same c e = rw seg (go (ctAt (b .ct) c) (so (eqb (ctAt (b .ct) c) none)) (so (ltb (ctAt (b .ct) c) (p .gamma * p .d))))
     where
       seg : (view p b r) .segOf c ≡ ctAt (b .ct) c
       seg = unfold viewOf in rw (eq-eqb (regionOf p c) r e)

@@ -37,19 +37,23 @@ openOk p chip bt r sg =
 unfoldable pub fstOk : Params → List ℕ → List ℕ → List ℕ → ℕ → Bool
 fstOk p chip bt fst r = cond (emptyAt p bt r) (eqb (fstAt fst r) none) (openOk p chip bt r (fstAt fst r))
 
+-- segment sg of region r holds a programmed frame of cluster c
+unfoldable pub segmentOk : Params → List ℕ → List ℕ → ℕ → ℕ → ℕ → Bool
+segmentOk p chip bt r c sg =
+    ltb sg (p .gamma * p .d) && (not (eqb (btAt p bt r (vblockOf p sg)) none)
+    && ltb (lastIn p (block p chip (btAt p bt r (vblockOf p sg))) (placeOf p sg) c) (frames p))
+
+-- the entry of cluster c, of region r, is none, or names such a segment
+unfoldable pub clusterOk : Params → List ℕ → List ℕ → List ℕ → ℕ → ℕ → Bool
+clusterOk p chip ct bt r c = cond (eqb (ctAt ct c) none) true (segmentOk p chip bt r c (ctAt ct c))
+
+-- the same of every cluster of region r
+unfoldable pub clustersOk : Params → List ℕ → List ℕ → List ℕ → ℕ → Bool
+clustersOk p chip ct bt r = allBelow (p .C) (λ c. cond (eqb (regionOf p c) r) (clusterOk p chip ct bt r c) true)
+
 -- the rules of region r
-unfoldable pub regionOk : Params → List ℕ → List ℕ → List ℕ → List ℕ → ℕ → Bool
-regionOk p chip bt fst bst r = allBelow (p .gamma) (vblockOk p chip bt bst r) && fstOk p chip bt fst r
-
--- segment sg, in the region of cluster c, holds a programmed frame of that cluster
-unfoldable pub segmentOk : Params → List ℕ → List ℕ → ℕ → ℕ → Bool
-segmentOk p chip bt c sg =
-    ltb sg (p .gamma * p .d) && (not (eqb (btAt p bt (regionOf p c) (vblockOf p sg)) none)
-    && ltb (lastIn p (block p chip (btAt p bt (regionOf p c) (vblockOf p sg))) (placeOf p sg) c) (frames p))
-
--- cluster c's entry is none, or names such a segment
-unfoldable pub clusterOk : Params → List ℕ → List ℕ → List ℕ → ℕ → Bool
-clusterOk p chip ct bt c = cond (eqb (ctAt ct c) none) true (segmentOk p chip bt c (ctAt ct c))
+unfoldable pub regionOk : Params → List ℕ → List ℕ → List ℕ → List ℕ → List ℕ → ℕ → Bool
+regionOk p chip ct bt fst bst r = allBelow (p .gamma) (vblockOk p chip bt bst r) && (fstOk p chip bt fst r && clustersOk p chip ct bt r)
 
 -- the rules of the tables that look at no byte of the chip, and as many blocks used as named: each block that BT names is used and is named once, so
 -- then each used block is named
@@ -58,8 +62,7 @@ tablesOk p bt bst = bstRule p bst && (btRule p bt && (roomRule p bst && usedOk p
 
 -- the rules that look at the chip
 unfoldable pub chipOk : Params → List ℕ → List ℕ → List ℕ → List ℕ → List ℕ → Bool
-chipOk p chip ct bt fst bst =
-    freeRule p chip bst && (allBelow (p .mu) (regionOk p chip bt fst bst) && allBelow (p .C) (clusterOk p chip ct bt))
+chipOk p chip ct bt fst bst = freeRule p chip bst && allBelow (p .mu) (regionOk p chip ct bt fst bst)
 
 -- the lent chip and tables, of the right lengths
 pub record Lengths (p : Params) (chip ct bt fst bst : List ℕ) : Type 0 where

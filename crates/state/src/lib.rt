@@ -11,7 +11,7 @@ ghost use Rattle.rules.specs.Parameters.{allowed, chipBytes};
 ghost use Rattle.rules.specs.Tables.{boardOf, bstAt};
 ghost use Rattle.rules.specs.Pages.{block, erased};
 ghost use Rattle.rules.specs.Orderly.{freeRule, orderly};
-ghost use Rattle.agree.specs.Check.{Lengths, Lent, vblockOk, fullOk, openOk, fstOk, regionOk, segmentOk, clusterOk, tablesOk, chipOk};
+ghost use Rattle.agree.specs.Check.{Lengths, Lent, vblockOk, fullOk, openOk, fstOk, regionOk, segmentOk, clusterOk, clustersOk, tablesOk, chipOk};
 use rules::Cluster;
 use rules::PBlock;
 use rules::Params;
@@ -170,15 +170,15 @@ fn fst_ok(p: Params, chip: &[u8], bt: &[u16], fst: &[u16], r: usize) -> bool
     open_ok(p, chip, bt, r, sg)
 }
 
-// Segment sg, in the region of cluster c, holds a programmed frame of that cluster.
-fn segment_ok(p: Params, chip: &[u8], bt: &[u16], c: Cluster, sg: Segment) -> bool
+// Segment sg of region r holds a programmed frame of cluster c.
+fn segment_ok(p: Params, chip: &[u8], bt: &[u16], r: usize, c: Cluster, sg: Segment) -> bool
     requires { ⌜ Lent p (now chip) (now bt) ⌝ }
-    ensures { λ ok. ⌜ ok ≡ segmentOk p (now (chip .entry)) (now (bt .entry)) (c .0) (sg .0) ⌝ }
+    requires { ⌜ r < p .mu ⌝ }
+    ensures { λ ok. ⌜ ok ≡ segmentOk p (now (chip .entry)) (now (bt .entry)) r (c .0) (sg .0) ⌝ }
 {
     if sg.0 >= p.gamma * p.d {
         return false;
     }
-    let r = rules::region_of(p, c);
     let v = rules::vblock_of(p, sg);
     let n = tables::bt_at(p, bt, r, v);
     if n.0 == 65535 {
@@ -189,61 +189,73 @@ fn segment_ok(p: Params, chip: &[u8], bt: &[u16], c: Cluster, sg: Segment) -> bo
     blocks::last_in(p, blocks::block_of(p, chip, n), k, c) < f
 }
 
-// The CT entry of cluster c is none or names such a segment.
-fn cluster_ok(p: Params, chip: &[u8], ct: &[u16], bt: &[u16], c: Cluster) -> bool
+// The CT entry of cluster c, of region r, is none or names such a segment.
+fn cluster_ok(p: Params, chip: &[u8], ct: &[u16], bt: &[u16], r: usize, c: Cluster) -> bool
     requires { ⌜ Lent p (now chip) (now bt) ⌝ }
+    requires { ⌜ r < p .mu ⌝ }
     requires { ⌜ c .0 < length (now ct) ⌝ }
-    ensures { λ ok. ⌜ ok ≡ clusterOk p (now (chip .entry)) (now (ct .entry)) (now (bt .entry)) (c .0) ⌝ }
+    ensures { λ ok. ⌜ ok ≡ clusterOk p (now (chip .entry)) (now (ct .entry)) (now (bt .entry)) r (c .0) ⌝ }
 {
     let sg = tables::ct_at(ct, c);
     if sg.0 == 65535 {
         return true;
     }
-    segment_ok(p, chip, bt, c, sg)
+    segment_ok(p, chip, bt, r, c, sg)
 }
 
-// The same of every cluster.
-fn clusters_ok(p: Params, chip: &[u8], ct: &[u16], bt: &[u16]) -> bool
+// The same of every cluster of region r: each μ-th from r on.
+fn clusters_ok(p: Params, chip: &[u8], ct: &[u16], bt: &[u16], r: usize) -> bool
     requires { ⌜ Lent p (now chip) (now bt) ⌝ }
     requires { ⌜ length (now ct) ≡ p .C ⌝ }
-    ensures { λ ok. ⌜ ok ≡ allBelow (p .C) (clusterOk p (now (chip .entry)) (now (ct .entry)) (now (bt .entry))) ⌝ }
+    requires { ⌜ r < p .mu ⌝ }
+    ensures { λ ok. ⌜ ok ≡ clustersOk p (now (chip .entry)) (now (ct .entry)) (now (bt .entry)) r ⌝ }
 {
-    let m = p.C;
-    let mut c = 0;
-    while c < m {
-        if !cluster_ok(p, chip, ct, bt, Cluster(c)) {
+    let n = p.C;
+    let m = p.mu;
+    let mut c = r;
+    while c < n {
+        if !cluster_ok(p, chip, ct, bt, r, Cluster(c)) {
             return false;
         }
-        c += 1;
+        c += m;
     }
     true
 }
 
 // The rules of region r.
-fn region_ok(p: Params, chip: &[u8], bt: &[u16], fst: &[u16], bst: &[u8], r: usize) -> bool
+fn region_ok(
+    p: Params,
+    chip: &[u8],
+    ct: &[u16],
+    bt: &[u16],
+    fst: &[u16],
+    bst: &[u8],
+    r: usize,
+) -> bool
+    requires { ⌜ Lengths p (now chip) (now ct) (now bt) (now fst) (now bst) ⌝ }
     requires { ⌜ Lent p (now chip) (now bt) ⌝ }
-    requires { ⌜ length (now fst) ≡ p .mu ⌝ }
-    requires { ⌜ length (now bst) ≡ p .N ⌝ }
     requires { ⌜ r < p .mu ⌝ }
-    ensures { λ ok. ⌜ ok ≡ regionOk p (now (chip .entry)) (now (bt .entry)) (now (fst .entry)) (now (bst .entry)) r ⌝ }
+    ensures { λ ok. ⌜ ok ≡ regionOk p (now (chip .entry)) (now (ct .entry)) (now (bt .entry)) (now (fst .entry)) (now (bst .entry)) r ⌝ }
 {
     if !vblocks_ok(p, chip, bt, bst, r) {
         return false;
     }
-    fst_ok(p, chip, bt, fst, r)
+    if !fst_ok(p, chip, bt, fst, r) {
+        return false;
+    }
+    clusters_ok(p, chip, ct, bt, r)
 }
 
 // The rules of every region.
-fn regions_ok(p: Params, chip: &[u8], bt: &[u16], fst: &[u16], bst: &[u8]) -> bool
+fn regions_ok(p: Params, chip: &[u8], ct: &[u16], bt: &[u16], fst: &[u16], bst: &[u8]) -> bool
+    requires { ⌜ Lengths p (now chip) (now ct) (now bt) (now fst) (now bst) ⌝ }
     requires { ⌜ Lent p (now chip) (now bt) ⌝ }
-    requires { ⌜ length (now fst) ≡ p .mu ⌝ }
-    requires { ⌜ length (now bst) ≡ p .N ⌝ }
-    ensures { λ ok. ⌜ ok ≡ allBelow (p .mu) (regionOk p (now (chip .entry)) (now (bt .entry)) (now (fst .entry)) (now (bst .entry))) ⌝ }
+    ensures { λ ok. ⌜ ok ≡ allBelow (p .mu) (regionOk p (now (chip .entry)) (now (ct .entry)) (now (bt .entry)) (now (fst .entry)) (now (bst .entry))) ⌝ }
 {
     let m = p.mu;
     let mut r = 0;
     while r < m {
-        if !region_ok(p, chip, bt, fst, bst, r) {
+        if !region_ok(p, chip, ct, bt, fst, bst, r) {
             return false;
         }
         r += 1;
@@ -279,10 +291,7 @@ fn chip_ok(p: Params, chip: &[u8], ct: &[u16], bt: &[u16], fst: &[u16], bst: &[u
     if !frees_ok(p, chip, bst) {
         return false;
     }
-    if !regions_ok(p, chip, bt, fst, bst) {
-        return false;
-    }
-    clusters_ok(p, chip, ct, bt)
+    regions_ok(p, chip, ct, bt, fst, bst)
 }
 
 // Is the state orderly? Reply 7 if not. No rule looks at the wear.

@@ -1,4 +1,4 @@
--- `state::chip_ok`: the free blocks, the regions, the clusters.
+-- `state::chip_ok`: the free blocks, then the regions.
 -- Assumes nothing.
 use borrow.Author.Tests.{not-false, not-true}
 use Rattle.agree.specs.Check.{chipOk}
@@ -13,26 +13,11 @@ unfolding chipOk
 returns c = rw (← (c .before .frees-ok .ensures), not-true (c .before .frees-ok .result) (c .if1 .taken))
 
 regions-ok-requires : tie.Need-regions-ok-requires
-regions-ok-requires c κs = (c .before .before .before .before .before .before .before .pre .1, (c .before .before .before .before .before .before .before .pre .0 .fstLength, c .before .before .before .before .before .before .before .pre .0 .bstLength))
+regions-ok-requires c κs = c .before .before .before .before .before .before .before .pre
 
 returns-2 : tie.Need-returns-2
 unfolding chipOk
-returns-2 c = rw (← (c .before .before .before .frees-ok .ensures), not-false (c .before .before .before .frees-ok .result) (c .before .before .if1 .left), ← (c .before .regions-ok .ensures), not-true (c .before .regions-ok .result) (c .if2 .taken))
-
-clusters-ok-requires : tie.Need-clusters-ok-requires
-clusters-ok-requires c κs = (c .before .before .before .before .before .before .before .before .before .pre .1, c .before .before .before .before .before .before .before .before .before .pre .0 .ctLength)
-
-returns-3 : tie.Need-returns-3
-unfolding chipOk
-returns-3 c = rw (← (c .before .before .before .before .frees-ok .ensures), not-false (c .before .before .before .before .frees-ok .result) (c .before .before .before .if1 .left), ← (c .before .before .regions-ok .ensures), not-false (c .before .before .regions-ok .result) (c .before .if2 .left)) (c .clusters-ok .ensures)
+returns-2 c = rw (← (c .before .before .frees-ok .ensures), not-false (c .before .before .frees-ok .result) (c .before .if1 .left)) (c .regions-ok .ensures)
 
 pub chip-ok-spec : {M : Type 1} → statement M
-chip-ok-spec =
-    tie.close
-    (tie.spec
-    frees-ok-requires
-    returns
-    regions-ok-requires
-    returns-2
-    clusters-ok-requires
-    returns-3)
+chip-ok-spec = tie.close (tie.spec frees-ok-requires returns regions-ok-requires returns-2)

@@ -7,14 +7,14 @@ use Rattle.state.proofs.cluster_ok.Statement.{statement}
 use Rattle.state.proofs.cluster_ok.Tie as tie
 
 ct-at-requires : tie.Need-ct-at-requires
-ct-at-requires c κs = c .before .before .before .pre .1
+ct-at-requires c κs = c .before .before .before .pre .1 .1
 
 returns : tie.Need-returns
 unfolding clusterOk
 returns c = rw (← (c .before .before .ct-at .ensures .0), eq-eqb _ none (c .if1 .taken))
 
 segment-ok-requires : tie.Need-segment-ok-requires
-segment-ok-requires c κs = c .before .before .before .before .before .before .pre .0
+segment-ok-requires c κs = let a = c .before .before .before .before .before .before in (a .pre .0, a .pre .1 .0)
 
 returns-2 : tie.Need-returns-2
 unfolding clusterOk

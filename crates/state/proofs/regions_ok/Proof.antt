@@ -12,16 +12,16 @@ use Rattle.state.proofs.regions_ok.Statement.{statement}
 use Rattle.state.proofs.regions_ok.Tie as tie
 
 abbrev Inv-loop : tie.InvT-loop
-Inv-loop p chip bt fst bst m r₀ r = (r ≤ m) × (allBelow r (regionOk p chip bt fst bst) ≡ true)
+Inv-loop p chip ct bt fst bst m r₀ r = (r ≤ m) × (allBelow r (regionOk p chip ct bt fst bst) ≡ true)
 
 abbrev μ-loop : tie.MeasureT-loop
-μ-loop p chip bt fst bst m r₀ r = m - r
+μ-loop p chip ct bt fst bst m r₀ r = m - r
 
 loop-holds : tie.Need-loop-holds Inv-loop μ-loop
 loop-holds c = (omega arith, all-start _)
 
 region-ok-requires : tie.Need-region-ok-requires Inv-loop μ-loop
-region-ok-requires c κs = let a = c .before .before .before .before .before .before in (a .pre .0, (a .pre .1 .0, (a .pre .1 .1, c .loop-test .taken)))
+region-ok-requires c κs = let a = c .before .before .before .before .before .before .before in (a .pre .0, (a .pre .1, c .loop-test .taken))
 
 returns : tie.Need-returns Inv-loop μ-loop
 returns c = sym (all-fails _ (c .before .before .before .loop .r) _ (c .before .before .loop-test .taken) (sym (c .before .region-ok .ensures) ∙ not-true _ (c .if1 .taken)))

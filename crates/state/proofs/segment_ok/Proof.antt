@@ -1,7 +1,7 @@
 -- `state::segment_ok`: test by test.
 -- Assumes nothing.
 use mathlib.Core.Path.{_≡_}
-use Prim.Native.Nat.{_%_, _*_, _/_, _<_, ℕ}
+use Prim.Native.Nat.{_*_, _/_, _<_, ℕ}
 use native.Mathlib.Nat.{mod-lt}
 use native.Mathlib.Omega.{arith}
 use borrow.Author.Tests.{eq-eqb, le-ltb, lt-ltb, ne-eqb}
@@ -14,57 +14,50 @@ use Rattle.state.proofs.segment_ok.Tie as tie
 
 -- the virtual block of sg is one of the region
 vlow : (a : tie.Start) (v : ℕ) → v ≡ a .args .sg .0 / a .args .p .d → a .args .sg .0 < a .args .p .gamma * a .args .p .d → v < a .args .p .gamma
-vlow a v e h = rw e (vblock-low _ _ _ ((sizes _ (a .pre .fine)) .segments) h)
-
--- the region of c is one of the board
-rlow : (a : tie.Start) (r : ℕ) → r ≡ a .args .c .0 % a .args .p .mu → r < a .args .p .mu
-rlow a r e = rw e (mod-lt _ ((sizes _ (a .pre .fine)) .regions))
+vlow a v e h = rw e (vblock-low _ _ _ ((sizes _ (a .pre .0 .fine)) .segments) h)
 
 mul-if1 : tie.Need-mul-if1
-mul-if1 c = let z = sizes _ (c .before .before .before .pre .fine) in omega (arith, z .few)
+mul-if1 c = let z = sizes _ (c .before .before .before .pre .0 .fine) in omega (arith, z .few)
 
 returns : tie.Need-returns
 unfolding segmentOk
 returns c = rw (le-ltb _ _ (c .if1 .taken))
 
-region-of-requires : tie.Need-region-of-requires
-region-of-requires c κs = (sizes _ (c .before .before .before .before .before .pre .fine)) .regions
-
 vblock-of-requires : tie.Need-vblock-of-requires
-vblock-of-requires c κs = (sizes _ (c .before .before .before .before .before .before .pre .fine)) .segments
+vblock-of-requires c κs = (sizes _ (c .before .before .before .before .before .pre .0 .fine)) .segments
 
 bt-at-requires : tie.Need-bt-at-requires
-bt-at-requires c κs = let a = c .before .before .before .before .before .before .before in (a .pre .btLength, (rlow a _ (c .before .region-of .ensures), vlow a _ (c .vblock-of .ensures) (c .before .before .if1 .left)))
+bt-at-requires c κs = let a = c .before .before .before .before .before .before in (a .pre .0 .btLength, (a .pre .1, vlow a _ (c .vblock-of .ensures) (c .before .if1 .left)))
 
 returns-2 : tie.Need-returns-2
 unfolding segmentOk
 returns-2 c =
-    rw (lt-ltb _ _ (c .before .before .before .before .before .if1 .left), ← (c .before .before .before .before .region-of .ensures), ← (c .before .before .before .vblock-of .ensures), ← (c .before .before .bt-at .ensures .0), eq-eqb _ none (c .if2 .taken))
+    rw (lt-ltb _ _ (c .before .before .before .before .if1 .left), ← (c .before .before .before .vblock-of .ensures), ← (c .before .before .bt-at .ensures .0), eq-eqb _ none (c .if2 .taken))
 
 place-of-requires : tie.Need-place-of-requires
-place-of-requires c κs = (sizes _ (c .before .before .before .before .before .before .before .before .before .before .pre .fine)) .segments
+place-of-requires c κs = (sizes _ (c .before .before .before .before .before .before .before .before .before .pre .0 .fine)) .segments
 
 frames-requires : tie.Need-frames-requires
-frames-requires c κs = c .before .before .before .before .before .before .before .before .before .before .before .pre .fine
+frames-requires c κs = c .before .before .before .before .before .before .before .before .before .before .pre .0 .fine
 
 block-of-requires : tie.Need-block-of-requires
 block-of-requires c κs =
-    let a = c .before .before .before .before .before .before .before .before .before .before .before .before in (
-      a .pre .fine,
+    let a = c .before .before .before .before .before .before .before .before .before .before .before in (
+      a .pre .0 .fine,
       (
-        a .pre .chipLength,
-        name-low (a .args .p) (a .args .chip .now) (a .args .bt .now) (a .pre) _ _ (c .before .before .before .before .bt-at .result .0) (rlow a _ (c .before .before .before .before .before .before .region-of .ensures)) (vlow a _ (c .before .before .before .before .before .vblock-of .ensures) (c .before .before .before .before .before .before .before .if1 .left)) (c .before .before .before .before .bt-at .ensures .0) (c .before .before .if2 .left),
+        a .pre .0 .chipLength,
+        name-low (a .args .p) (a .args .chip .now) (a .args .bt .now) (a .pre .0) _ _ (c .before .before .before .before .bt-at .result .0) (a .pre .1) (vlow a _ (c .before .before .before .before .before .vblock-of .ensures) (c .before .before .before .before .before .before .if1 .left)) (c .before .before .before .before .bt-at .ensures .0) (c .before .before .if2 .left),
       ),
     )
 
 last-in-requires : tie.Need-last-in-requires
-last-in-requires c κs = let a = c .before .before .before .before .before .before .before .before .before .before .before .before .before in (a .pre .fine, (c .block-of .ensures .1, rw (c .before .before .place-of .ensures) (mod-lt _ ((sizes _ (a .pre .fine)) .segments))))
+last-in-requires c κs = let a = c .before .before .before .before .before .before .before .before .before .before .before .before in (a .pre .0 .fine, (c .block-of .ensures .1, rw (c .before .before .place-of .ensures) (mod-lt _ ((sizes _ (a .pre .0 .fine)) .segments))))
 
 returns-3 : tie.Need-returns-3
 unfolding segmentOk
 returns-3 c =
     rw
-    (lt-ltb _ _ (c .before .before .before .before .before .before .before .before .before .if1 .left), ← (c .before .before .before .before .before .before .before .before .region-of .ensures), ← (c .before .before .before .before .before .before .before .vblock-of .ensures), ← (c .before .before .before .before .before .before .bt-at .ensures .0), ne-eqb (c .before .before .before .before .before .before .bt-at .result .0) none (c .before .before .before .before .if2 .left), ← (c .before .block-of .ensures .0), ← (c .before .before .before .place-of .ensures), ← (c .last-in .ensures), ← (c .before .before .frames .ensures))
+    (lt-ltb _ _ (c .before .before .before .before .before .before .before .before .if1 .left), ← (c .before .before .before .before .before .before .before .vblock-of .ensures), ← (c .before .before .before .before .before .before .bt-at .ensures .0), ne-eqb (c .before .before .before .before .before .before .bt-at .result .0) none (c .before .before .before .before .if2 .left), ← (c .before .block-of .ensures .0), ← (c .before .before .before .place-of .ensures), ← (c .last-in .ensures), ← (c .before .before .frames .ensures))
 
 pub segment-ok-spec : {M : Type 1} → statement M
 segment-ok-spec =
@@ -72,7 +65,6 @@ segment-ok-spec =
     (tie.spec
     mul-if1
     returns
-    region-of-requires
     vblock-of-requires
     bt-at-requires
     returns-2
