@@ -70,6 +70,12 @@ static size_t filled(const struct cnftl_params *p, const uint8_t *block)
     return k;
 }
 
+/* Is the last frame of a block programmed? */
+static bool is_full(const struct cnftl_params *p, const uint8_t *block)
+{
+    return block[(frames(p) - 1) * frame_bytes(p) + p->s + 6] == 0;
+}
+
 /* Are the first frames of a block good, at least one, and the rest erased? */
 static bool good_block(const struct cnftl_params *p, size_t r,
                        const uint8_t *block)
@@ -118,8 +124,7 @@ static bool good_open(const struct cnftl_board *b, size_t r)
     if (sg != o * p->d + (filled(p, block_of(b, e[o])) - 1) / p->beta)
         return false;
     for (size_t v = 0; v < p->gamma; v++)
-        if (v != o && e[v] != CNFTL_NONE
-            && filled(p, block_of(b, e[v])) != frames(p))
+        if (v != o && e[v] != CNFTL_NONE && !is_full(p, block_of(b, e[v])))
             return false;
     return true;
 }

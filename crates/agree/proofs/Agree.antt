@@ -119,7 +119,7 @@ module _ (p : Params) (b : Board) (fine : Sizes p) (len : lengthsFit p b ≡ tru
     region-ok : (r : ℕ) → r < p .mu → regionOk p (b .chip) (b .ct) (b .bt) (b .fst) (b .bst) r ≡ true
     unfolding regionOk regionOrderly
     region-ok r h =
-        and-intro (all-below-intro (p .gamma) _ (λ v k. vblock-ok r v h k)) (and-intro (sym (open-same p b nm r h) ∙ (truths _ (region r h)) .1 .0) (clusters-ok r h))
+        and-intro (all-below-intro (p .gamma) _ (λ v k. vblock-ok r v h k)) (and-intro (sym (open-same p b nm r h (λ v hv ne. rule r v h hv ne)) ∙ (truths _ (region r h)) .1 .0) (clusters-ok r h))
 
     passes : tablesOk p (b .bt) (b .bst) && chipOk p (b .chip) (b .ct) (b .bt) (b .fst) (b .bst) ≡ true
     unfolding tablesOk chipOk orderly rulesOf
@@ -263,7 +263,7 @@ module _ (p : Params) (b : Board) (fine : Sizes p) (len : lengthsFit p b ≡ tru
 
     opens : (r : ℕ) → r < p .mu → regionFst p (view p b r) ≡ true
     unfolding regionOk
-    opens r h = open-same p b ns r h ∙ and-left (fstOk p (b .chip) (b .bt) (b .fst) r) _ (and-right (allBelow (p .gamma) (vblockOk p (b .chip) (b .bt) (b .bst) r)) (l₁ r h))
+    opens r h = open-same p b ns r h (λ v hv ne. (vblock r v h hv ne) .2) ∙ and-left (fstOk p (b .chip) (b .bt) (b .fst) r) _ (and-right (allBelow (p .gamma) (vblockOk p (b .chip) (b .bt) (b .bst) r)) (l₁ r h))
 
     is-orderly : orderly p b ≡ true
     unfolding regionOrderly

@@ -1,25 +1,28 @@
 -- A region's rules, of its view and of the lent tables: the same where every entry of BT is none or names a block.
 -- Assumes nothing.
-use mathlib.Core.Path.{ap, refl, _≡_}
+use mathlib.Core.Path.{ap, refl, sym, _≡_}
 use mathlib.Core.Logic.{inl, inr, _⊎_}
 use mathlib.Core.Bool.{_&&_, Bool, and-true, cond, false, not, true, _||_}
-use mathlib.Core.List.{[]}
+use mathlib.Core.List.{List, []}
 use Prim.Native.Nat.{_*_, _-_, _<_, ℕ}
 use native.Mathlib.Decide.{ℕ-discrete}
 use native.Mathlib.Nat.{div-lt-iff-lt-mul}
+use native.Mathlib.Omega.{arith}
 use lib.Dec.{eqb, ltb}
 use lib.ListN.{length}
 use borrow.Author.Tests.{eq-eqb, lt-ltb, ltb-true, ne-eqb}
 use Rattle.lists.specs.Below.{allBelow, allTrue}
 use Rattle.lists.proofs.Parts.{next}
-use Rattle.lists.proofs.Tests.{all-cong, so}
+use Rattle.lists.proofs.Tests.{all-cong, and-right, so}
 use Rattle.rules.specs.declared.Params.{Params}
 use Rattle.rules.specs.Numbers.{placeOf, regionOf, segmentOf, vblockOf}
-use Rattle.rules.specs.Orderly.{entryRule, fullRule, openRule, regionFst}
-use Rattle.rules.specs.Pages.{block, filled, lastIn}
+use Rattle.rules.specs.Orderly.{blockRule, entryRule, fullRule, openRule, regionFst}
+use Rattle.rules.specs.Pages.{block, filled, frame, lastIn, programmed}
 use Rattle.rules.specs.Parameters.{blockBytes, frames}
 use Rattle.rules.specs.Regions.{assigned, bodyAt, view, viewOf}
 use Rattle.rules.specs.Tables.{Board, btAt, ctAt, fstAt, none}
+use Rattle.rules.proofs.Frames.{erased-not, marked-programmed}
+use Rattle.rules.proofs.RegionFacts.{UpTo, filled-le, up-to}
 use Rattle.rules.proofs.Replays.{block-size}
 use Rattle.rules.proofs.Sizes.{Sizes}
 use Rattle.rules.proofs.Views.{some-bytes}
@@ -35,6 +38,19 @@ pub record Names (p : Params) (b : Board) : Type 0 where
   pub fine : Sizes p
   pub chipLength : length (b .chip) ≡ p .N * blockBytes p
   pub low : (r v : ℕ) → r < p .mu → v < p .gamma → (btAt p (b .bt) r v ≡ none → ⊥) → btAt p (b .bt) r v < p .N
+
+-- a used block is full exactly if its last frame is programmed
+last-full : (p : Params) → Sizes p → (r : ℕ) (blk : List ℕ) → blockRule p r blk ≡ true → eqb (filled p blk) (frames p) ≡ programmed p (frame p blk (frames p - 1))
+unfolding blockRule
+last-full p z r blk h = go (up-to p r (filled p blk) blk (and-right (ltb 0 (filled p blk)) h)) (ℕ-discrete (filled p blk) (frames p))
+  where
+    go : UpTo p r (filled p blk) blk → Dec (filled p blk ≡ frames p) → eqb (filled p blk) (frames p) ≡ programmed p (frame p blk (frames p - 1))
+    go u (yes e) =
+        rw (eq-eqb (filled p blk) (frames p) e)
+        (sym (marked-programmed p (frame p blk (frames p - 1)) _ ((u .front (frames p - 1) (omega (arith, z .some)) (omega (arith, z .some))) .marks 0 (z .sectors))))
+    go u (no e) =
+        rw (ne-eqb (filled p blk) (frames p) e)
+        (sym (erased-not p (frame p blk (frames p - 1)) (u .rest (frames p - 1) (omega (arith, z .some, filled-le p blk)) (omega (arith, z .some)))))
 
 module _ (p : Params) (b : Board) (t : Names p b) (r : ℕ) (region : r < p .mu) where
   body-none : (v : ℕ) → btAt p (b .bt) r v ≡ none → v < p .gamma → (view p b r) .body v ≡ []
@@ -62,15 +78,19 @@ module _ (p : Params) (b : Board) (t : Names p b) (r : ℕ) (region : r < p .mu)
       go (yes e) = rw (assigned-no v h e, eq-eqb (btAt p (b .bt) r v) none e)
       go (no e) = rw (assigned-yes v h e, ne-eqb (btAt p (b .bt) r v) none e)
 
-  full-same : (o v : ℕ) → v < p .gamma → vblockOf p ((view p b r) .lastSeg) ≡ o → fullRule p (view p b r) v ≡ fullOk p (b .chip) (b .bt) r o v
+  -- the region's blocks pass their rule
+  abbrev pub Used : Type 0
+  Used = (v : ℕ) → v < p .gamma → (btAt p (b .bt) r v ≡ none → ⊥) → blockRule p r (block p (b .chip) (btAt p (b .bt) r v)) ≡ true
+
+  full-same : Used → (o v : ℕ) → v < p .gamma → vblockOf p ((view p b r) .lastSeg) ≡ o → fullRule p (view p b r) v ≡ fullOk p (b .chip) (b .bt) r o v
   unfolding fullRule fullOk
-  full-same o v h e = rw e (go (so (eqb v o)) (ℕ-discrete (btAt p (b .bt) r v) none))
+  full-same used o v h e = rw e (go (so (eqb v o)) (ℕ-discrete (btAt p (b .bt) r v) none))
     where
       go : (eqb v o ≡ true) ⊎ (eqb v o ≡ false) → Dec (btAt p (b .bt) r v ≡ none)
-          → eqb v o || (not (assigned (view p b r) v) || eqb (filled p ((view p b r) .body v)) (frames p)) ≡ cond (eqb v o) true (cond (eqb (btAt p (b .bt) r v) none) true (eqb (filled p (block p (b .chip) (btAt p (b .bt) r v))) (frames p)))
+          → eqb v o || (not (assigned (view p b r) v) || eqb (filled p ((view p b r) .body v)) (frames p)) ≡ cond (eqb v o) true (cond (eqb (btAt p (b .bt) r v) none) true (programmed p (frame p (block p (b .chip) (btAt p (b .bt) r v)) (frames p - 1))))
       go (inl a) d = rw a
       go (inr a) (yes d) = rw (a, assigned-no v h d, eq-eqb (btAt p (b .bt) r v) none d)
-      go (inr a) (no d) = rw (a, assigned-yes v h d, ne-eqb (btAt p (b .bt) r v) none d, body-is v h d)
+      go (inr a) (no d) = rw (a, assigned-yes v h d, ne-eqb (btAt p (b .bt) r v) none d, body-is v h d) (last-full p (t .fine) r _ (used v h d))
 
   last-rest : (sg : ℕ) → (x : Bool) → vblockOf p sg < p .gamma → (x ≡ allBelow (p .gamma) (fullOk p (b .chip) (b .bt) r (vblockOf p sg))) → Dec (btAt p (b .bt) r (vblockOf p sg) ≡ none)
       → assigned (view p b r) (vblockOf p sg) && (eqb sg (segmentOf p (vblockOf p sg) (filled p ((view p b r) .body (vblockOf p sg)) - 1)) && (x && true))
@@ -88,20 +108,20 @@ module _ (p : Params) (b : Board) (t : Names p b) (r : ℕ) (region : r < p .mu)
   last-go sg x f (inr a) = rw a
   last-go sg x f (inl a) = rw a (last-rest sg x (vblock-low sg a) (f (vblock-low sg a)) (ℕ-discrete (btAt p (b .bt) r (vblockOf p sg)) none))
 
-  last-same : openRule p (view p b r) ≡ openOk p (b .chip) (b .bt) r ((view p b r) .lastSeg)
+  last-same : Used → openRule p (view p b r) ≡ openOk p (b .chip) (b .bt) r ((view p b r) .lastSeg)
   unfolding openRule allTrue
-  last-same =
+  last-same used =
       last-go ((view p b r) .lastSeg) (allBelow (p .gamma) (fullRule p (view p b r)))
-      (λ h. all-cong (p .gamma) (fullRule p (view p b r)) (fullOk p (b .chip) (b .bt) r (vblockOf p ((view p b r) .lastSeg))) (λ v k. full-same (vblockOf p ((view p b r) .lastSeg)) v k refl))
+      (λ h. all-cong (p .gamma) (fullRule p (view p b r)) (fullOk p (b .chip) (b .bt) r (vblockOf p ((view p b r) .lastSeg))) (λ v k. full-same used (vblockOf p ((view p b r) .lastSeg)) v k refl))
       (so (ltb ((view p b r) .lastSeg) (p .gamma * p .d)))
 
   seg-of : (view p b r) .lastSeg ≡ fstAt (b .fst) r
   unfolding viewOf fstAt
   seg-of = refl
 
-  pub open-same : regionFst p (view p b r) ≡ fstOk p (b .chip) (b .bt) (b .fst) r
+  pub open-same : Used → regionFst p (view p b r) ≡ fstOk p (b .chip) (b .bt) (b .fst) r
   unfolding regionFst fstOk emptyAt
-  open-same =
+  open-same used =
       rw (all-cong (p .gamma) (λ v. not (assigned (view p b r) v)) (λ v. eqb (btAt p (b .bt) r v) none) (λ v h. rw (assigned-is v h) (not-not _)), last-same)
       (ap (λ (s : ℕ). cond (allBelow (p .gamma) (λ v. eqb (btAt p (b .bt) r v) none)) (eqb s none) (openOk p (b .chip) (b .bt) r s)) seg-of)
 

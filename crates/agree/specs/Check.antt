@@ -10,7 +10,7 @@ use Rattle.lists.specs.Below.{allBelow}
 use Rattle.rules.specs.declared.Params.{Params}
 use Rattle.rules.specs.Numbers.{placeOf, regionOf, segmentOf, vblockOf}
 use Rattle.rules.specs.Orderly.{blockRule, bstRule, btRule, freeRule, roomRule}
-use Rattle.rules.specs.Pages.{block, filled, lastIn}
+use Rattle.rules.specs.Pages.{block, filled, frame, lastIn, programmed}
 use Rattle.rules.specs.Parameters.{allowed, chipBytes, frames}
 use Rattle.rules.specs.Tables.{bstAt, btAt, ctAt, fstAt, none}
 use Rattle.tables.specs.Entries.{differs, emptyAt, usedOk}
@@ -21,10 +21,10 @@ vblockOk p chip bt bst r v =
     cond (eqb (btAt p bt r v) none) true
     (differs p bt r v && (eqb (bstAt bst (btAt p bt r v)) 1 && blockRule p r (block p chip (btAt p bt r v))))
 
--- virtual block v is the open block, or has no block, or is full
+-- virtual block v is the open block, or has no block, or is full: its frames are programmed in order, so the last one tells
 unfoldable pub fullOk : Params → List ℕ → List ℕ → ℕ → ℕ → ℕ → Bool
 fullOk p chip bt r o v =
-    cond (eqb v o) true (cond (eqb (btAt p bt r v) none) true (eqb (filled p (block p chip (btAt p bt r v))) (frames p)))
+    cond (eqb v o) true (cond (eqb (btAt p bt r v) none) true (programmed p (frame p (block p chip (btAt p bt r v)) (frames p - 1))))
 
 -- segment sg is that of the last programmed frame of one of the region's blocks, and every other block is full
 unfoldable pub openOk : Params → List ℕ → List ℕ → ℕ → ℕ → Bool

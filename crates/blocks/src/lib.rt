@@ -1,12 +1,12 @@
 // One block of the chip, read: its frames, the clusters that they hold, and whether it is as its region wants it.
 ghost use mathlib.Core.Path.{_≡_};
 ghost use mathlib.Core.Bool.{true, cond};
-ghost use Prim.Native.Nat.{_<_};
+ghost use Prim.Native.Nat.{_-_, _<_};
 ghost use lib.ListN.{length};
 ghost use lib.Dec.{ltb};
 ghost use Rattle.lists.specs.Parts.{allAre};
 ghost use Rattle.rules.specs.Parameters.{allowed, frames, frameBytes, blockBytes, chipBytes};
-ghost use Rattle.rules.specs.Pages.{block, frame, holds, filled, lastIn};
+ghost use Rattle.rules.specs.Pages.{block, frame, programmed, holds, filled, lastIn};
 ghost use Rattle.rules.specs.Orderly.{goodFrame, goodUpTo, blockRule};
 use rules::Cluster;
 use rules::PBlock;
@@ -92,6 +92,16 @@ pub fn filled(p: Params, blk: &[u8]) -> usize
         f += 1;
     }
     k
+}
+
+// Is the last frame of the block programmed? If the first k frames are and no others, the block is full exactly then.
+pub fn is_full(p: Params, blk: &[u8]) -> bool
+    requires { ⌜ allowed p ≡ true ⌝ }
+    requires { ⌜ length (now blk) ≡ blockBytes p ⌝ }
+    ensures { λ ok. ⌜ ok ≡ programmed p (frame p (now (blk .entry)) (frames p - 1)) ⌝ }
+{
+    let f = sizes::frames(p) - 1;
+    nand::is_programmed(p, frame_of(p, blk, f))
 }
 
 // Frame f is a good frame of region r where it is below k, else erased.

@@ -103,8 +103,7 @@ fn full_ok(p: Params, chip: &[u8], bt: &[u16], r: usize, o: VBlock, v: VBlock) -
     if n.0 == 65535 {
         return true;
     }
-    let f = sizes::frames(p);
-    blocks::filled(p, blocks::block_of(p, chip, n)) == f
+    blocks::is_full(p, blocks::block_of(p, chip, n))
 }
 
 // The same of every virtual block of region r.

@@ -24,19 +24,17 @@ returns-2 : tie.Need-returns-2
 unfolding fullOk
 returns-2 c = rw (ne-eqb _ _ (c .before .before .before .if1 .left), ← (c .before .before .bt-at .ensures .0), eq-eqb _ none (c .if2 .taken))
 
-frames-requires : tie.Need-frames-requires
-frames-requires c κs = c .before .before .before .before .before .before .before .before .pre .0 .fine
-
 block-of-requires : tie.Need-block-of-requires
-block-of-requires c κs = let a = c .before .before .before .before .before .before .before .before .before in (a .pre .0 .fine, (a .pre .0 .chipLength, low a (c .before .before .before .bt-at .result .0) (c .before .before .before .bt-at .ensures .0) (c .before .if2 .left)))
+block-of-requires c κs = let a = c .before .before .before .before .before .before .before .before in (a .pre .0 .fine, (a .pre .0 .chipLength, low a (c .before .before .bt-at .result .0) (c .before .before .bt-at .ensures .0) (c .if2 .left)))
 
-filled-requires : tie.Need-filled-requires
-filled-requires c κs = (c .before .before .before .before .before .before .before .before .before .before .pre .0 .fine, c .block-of .ensures .1)
+is-full-requires : tie.Need-is-full-requires
+is-full-requires c κs = (c .before .before .before .before .before .before .before .before .before .pre .0 .fine, c .block-of .ensures .1)
 
 returns-3 : tie.Need-returns-3
 unfolding fullOk
 returns-3 c =
-    rw (ne-eqb _ _ (c .before .before .before .before .before .before .if1 .left), ← (c .before .before .before .before .before .bt-at .ensures .0), ne-eqb (c .before .before .before .before .before .bt-at .result .0) none (c .before .before .before .if2 .left), ← (c .before .block-of .ensures .0), ← (c .filled .ensures), ← (c .before .before .frames .ensures))
+    rw (ne-eqb _ _ (c .before .before .before .before .before .if1 .left), ← (c .before .before .before .before .bt-at .ensures .0), ne-eqb (c .before .before .before .before .bt-at .result .0) none (c .before .before .if2 .left), ← (c .before .block-of .ensures .0))
+    (c .is-full .ensures)
 
 pub full-ok-spec : {M : Type 1} → statement M
 full-ok-spec =
@@ -45,7 +43,6 @@ full-ok-spec =
     returns
     bt-at-requires
     returns-2
-    frames-requires
     block-of-requires
-    filled-requires
+    is-full-requires
     returns-3)
