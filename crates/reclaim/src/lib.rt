@@ -96,19 +96,18 @@ fn bit(b: bool) -> u8
 }
 
 // Which frames are valid, before any of them is moved: a 1 for each.
-fn mark_valid(p: Params, blk: &[u8], ct: &[u16], r: usize, v: VBlock) -> [u8; 256]
+fn mark_valid(p: Params, blk: &[u8], ct: &[u16], r: usize, v: VBlock, marks: &mut [u8])
     requires { ⌜ OneBlock p (now blk) (now ct) (v .0) ⌝ }
-    ensures { λ marks. ⌜ ((vw : View) → Shows p r (v .0) (now (blk .entry)) (now (ct .entry)) vw → Marks p vw (v .0) marks) ⌝ }
-    ensures { λ marks. ⌜ length marks ≡ 256 ⌝ }
+    requires { ⌜ length (now marks) ≡ 256 ⌝ }
+    ensures { λ _. ⌜ ((vw : View) → Shows p r (v .0) (now (blk .entry)) (now (ct .entry)) vw → Marks p vw (v .0) (now (marks .exit))) ⌝ }
+    ensures { λ _. ⌜ length (now (marks .exit)) ≡ 256 ⌝ }
 {
     let m = sizes::frames(p);
-    let mut marks = [0u8; 256];
     let mut f: usize = 0;
     while f < m {
         marks[f] = bit(valid::is_valid(p, blk, ct, r, v, f));
         f += 1;
     }
-    marks
 }
 
 // The valid frames of block o, which virtual block v of region r has, go to block n, and block o is erased. How many were copied.
@@ -126,7 +125,8 @@ pub fn reclaim(
     ensures { λ k. ⌜ ((vw : View) → Shows p r (v .0) (block p (now (chip .entry)) (o .0)) (now (ct .entry)) vw
         → Reclaimed p (now (chip .entry)) (now (ct .entry)) (now (wear .entry)) (o .0) (n .0) (v .0) (copies p vw (reclaims (v .0))) (now (chip .exit)) (now (ct .exit)) (now (wear .exit)) k) ⌝ }
 {
-    let marks = mark_valid(p, blocks::block_of(p, chip, o), ct, r, v);
+    let mut marks = [0u8; 256];
+    mark_valid(p, blocks::block_of(p, chip, o), ct, r, v, &mut marks);
     let k = copy_marked(p, chip, ct, o, n, v, &marks);
     let w = sizes::block_bytes(p);
     nand::erase_at(chip, w, o);
