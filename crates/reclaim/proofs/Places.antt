@@ -1,12 +1,10 @@
 -- Where a frame of a block stands on the chip, and one frame moved.
 -- Assumes nothing.
 use mathlib.Core.Path.{_≡_, refl, sym, ap, _∙_}
-use mathlib.Core.Bool.{true, false}
+use mathlib.Core.Bool.{Bool, true, false}
 use mathlib.Core.List.{List}
 use Prim.Native.Nat.{ℕ, _+_, _*_, _≤_, _<_}
 use native.Mathlib.Omega.{arith}
-use lib.Dec.{eqb}
-use borrow.Author.Tests.{eq-eqb, ne-eqb}
 use lib.ListN.{length, set, replicate}
 use Rattle.lists.specs.Parts.{part, putPart}
 use Rattle.lists.proofs.Parts.{next, part-length, part-part}
@@ -80,12 +78,10 @@ module _ (p : Params) (chip ct : List ℕ) (o n v f k : ℕ) (a : MoveAsked p ch
           ctIs = y ∙ rw (ec, es);
         }
 
-pub moved-yes : (p : Params) (chip ct : List ℕ) (o n v f k m : ℕ) (l u : List ℕ) → m ≡ 1 → Moved p chip ct o n v f k l u → MovedIf p chip ct o n v f k (eqb m 1) l u 1
-moved-yes p chip ct o n v f k m l u e w =
-    let q : eqb m 1 ≡ true = eq-eqb m 1 e in
-    record { chipIs = w .chipIs ∙ rw q; ctIs = w .ctIs ∙ rw q; count = rw q }
+-- moved where the test passed
+module _ (p : Params) (chip ct : List ℕ) (o n v f k : ℕ) (t : Bool) where
+  pub moved-yes : (l u : List ℕ) → t ≡ true → Moved p chip ct o n v f k l u → MovedIf p chip ct o n v f k t l u 1
+  moved-yes l u e w = record { chipIs = w .chipIs ∙ rw e; ctIs = w .ctIs ∙ rw e; count = rw e }
 
-pub moved-no : (p : Params) (chip ct : List ℕ) (o n v f k m : ℕ) → (m ≡ 1 → ⊥) → MovedIf p chip ct o n v f k (eqb m 1) chip ct 0
-moved-no p chip ct o n v f k m e =
-    let q : eqb m 1 ≡ false = ne-eqb m 1 e in
-    record { chipIs = rw q; ctIs = rw q; count = rw q }
+  pub moved-no : t ≡ false → MovedIf p chip ct o n v f k t chip ct 0
+  moved-no e = record { chipIs = rw e; ctIs = rw e; count = rw e }

@@ -2,18 +2,15 @@
 -- Assumes nothing.
 use mathlib.Core.Path.{_≡_}
 use mathlib.Core.Bool.{Bool, true, cond}
-use mathlib.Core.List.{List, [], _∷_, _++_, map}
+use mathlib.Core.List.{List, [], _∷_, _++_}
 use Prim.Native.Nat.{ℕ, _+_, _*_, _≤_, _<_, min}
-use lib.Dec.{eqb}
-use lib.ListN.{length, getD, set}
-use Rattle.lists.specs.Below.{keepBelow}
+use lib.ListN.{length, set}
 use Rattle.lists.specs.Parts.{putPart}
 use Rattle.rules.specs.declared.Params.{Params}
 use Rattle.rules.specs.Parameters.{allowed, frames, frameBytes, blockBytes}
 use Rattle.rules.specs.Numbers.{segmentOf}
 use Rattle.rules.specs.Tables.{wearAt}
 use Rattle.rules.specs.Pages.{block, frame, held, erased}
-use Rattle.rules.specs.Regions.{View, valid}
 use Rattle.rules.specs.Traces.{erase, replayChip, framesOps}
 use Rattle.rules.specs.Write.{followCt}
 
@@ -47,10 +44,6 @@ pub record MovedIf (p : Params) (chip ct : List ℕ) (o n v f k : ℕ) (t : Bool
   pub ctIs : ct′ ≡ cond t (set ct (held p (frame p (block p chip o) f)) (segmentOf p v k)) ct
   pub count : x ≡ cond t 1 0
 
--- the marked frames among the first m of a block
-unfoldable pub keptBy : Params → List ℕ → List ℕ → ℕ → List (List ℕ)
-keptBy p blk marks m = map (frame p blk) (keepBelow m (λ f. eqb (getD marks f 0) 1))
-
 -- block o is full, and block n is another, and erased
 pub record FromTo (p : Params) (chip ct : List ℕ) (o n v : ℕ) : Type 0 where
   pub whole : Whole p chip
@@ -61,19 +54,11 @@ pub record FromTo (p : Params) (chip ct : List ℕ) (o n v : ℕ) : Type 0 where
   pub clean : (k : ℕ) → k < frames p → erased (frame p (block p chip n) k) ≡ true
   pub good : (f : ℕ) → f < frames p → held p (frame p (block p chip o) f) < length ct
 
-pub record CopyAsked (p : Params) (chip ct : List ℕ) (o n v : ℕ) (marks : List ℕ) : Type 0 where
-  pub blocks : FromTo p chip ct o n v
-  pub enough : frames p ≤ length marks
-
 -- the frames xs are copied to block n in order from frame 0, and CT follows each
 pub record Copied (p : Params) (chip ct : List ℕ) (n v : ℕ) (xs : List (List ℕ)) (chip′ ct′ : List ℕ) (k : ℕ) : Type 0 where
   pub chipIs : chip′ ≡ replayChip p chip (framesOps p n 0 xs)
   pub ctIs : ct′ ≡ followCt p v 0 xs ct
   pub count : k ≡ length xs
-
--- a 1 for each valid frame
-pub record Marks (p : Params) (vw : View) (v : ℕ) (marks : List ℕ) : Type 0 where
-  pub each : (f : ℕ) → f < frames p → eqb (getD marks f 0) 1 ≡ valid p vw v f
 
 pub record ReclaimAsked (p : Params) (chip ct wear : List ℕ) (o n v : ℕ) : Type 0 where
   pub blocks : FromTo p chip ct o n v

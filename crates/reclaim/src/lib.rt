@@ -1,15 +1,11 @@
 // Document 01, "Reclaim": the victim's valid frames are copied to the free block, CT follows each, and the victim is erased.
 ghost use mathlib.Core.Path.{_≡_};
-ghost use mathlib.Core.Bool.{true, cond};
-ghost use Prim.Native.Nat.{ℕ, _+_, _*_, _<_};
-ghost use lib.Dec.{eqb};
 ghost use lib.ListN.{length};
-ghost use Rattle.rules.specs.Parameters.{allowed, frames, blockBytes};
 ghost use Rattle.rules.specs.Pages.{block, frame, held};
-ghost use Rattle.rules.specs.Regions.{View};
+ghost use Rattle.rules.specs.Regions.{View, valid};
 ghost use Rattle.rules.specs.Write.{reclaims, copies};
-ghost use Rattle.valid.specs.Shown.{OneBlock, Shows};
-ghost use Rattle.reclaim.specs.Moves.{OnChip, MoveAsked, Moved, MovedIf, CopyAsked, Copied, Marks, ReclaimAsked, Reclaimed, keptBy};
+ghost use Rattle.valid.specs.Shown.{Shows};
+ghost use Rattle.reclaim.specs.Moves.{OnChip, MoveAsked, Moved, MovedIf, FromTo, Copied, ReclaimAsked, Reclaimed};
 use rules::Cluster;
 use rules::PBlock;
 use rules::Params;
@@ -44,70 +40,54 @@ fn move_frame(
     tables::set_ct(ct, c, rules::segment_of(p, v, k));
 }
 
-// The same where the frame is marked; how many frames that copied.
-fn move_marked(
+// The same where the frame is valid; how many frames that copied.
+fn move_valid(
     p: Params,
     chip: &mut [u8],
     ct: &mut [u16],
     o: PBlock,
     n: PBlock,
+    r: usize,
     v: VBlock,
     f: usize,
     k: usize,
-    mark: u8,
 ) -> usize
-    requires { ⌜ (eqb mark 1 ≡ true → MoveAsked p (now chip) (now ct) (o .0) (n .0) (v .0) f k) ⌝ }
-    ensures { λ x. ⌜ MovedIf p (now (chip .entry)) (now (ct .entry)) (o .0) (n .0) (v .0) f k (eqb mark 1) (now (chip .exit)) (now (ct .exit)) x ⌝ }
+    requires { ⌜ MoveAsked p (now chip) (now ct) (o .0) (n .0) (v .0) f k ⌝ }
+    requires { ⌜ length (now ct) ≡ p .C ⌝ }
+    ensures { λ x. ⌜ ((vw : View) → Shows p r (v .0) (block p (now (chip .entry)) (o .0)) (now (ct .entry)) vw
+        → MovedIf p (now (chip .entry)) (now (ct .entry)) (o .0) (n .0) (v .0) f k (valid p vw (v .0) f) (now (chip .exit)) (now (ct .exit)) x) ⌝ }
 {
-    if mark == 1 {
+    if valid::is_valid(p, blocks::block_of(p, chip, o), ct, r, v, f) {
         move_frame(p, chip, ct, o, n, v, f, k);
         return 1;
     }
     0
 }
 
-// The marked frames of block o are copied to block n, in order from frame 0, and CT follows each.
-fn copy_marked(
+// The valid frames of block o are copied to block n, in order from frame 0, and CT follows each. A frame whose cluster CT already has in
+// block n is as little valid as it was before.
+fn copy_valid(
     p: Params,
     chip: &mut [u8],
     ct: &mut [u16],
     o: PBlock,
     n: PBlock,
+    r: usize,
     v: VBlock,
-    marks: &[u8],
 ) -> usize
-    requires { ⌜ CopyAsked p (now chip) (now ct) (o .0) (n .0) (v .0) (now marks) ⌝ }
-    ensures { λ k. ⌜ Copied p (now (chip .entry)) (now (ct .entry)) (n .0) (v .0) (keptBy p (block p (now (chip .entry)) (o .0)) (now (marks .entry)) (frames p)) (now (chip .exit)) (now (ct .exit)) k ⌝ }
+    requires { ⌜ FromTo p (now chip) (now ct) (o .0) (n .0) (v .0) ⌝ }
+    requires { ⌜ length (now ct) ≡ p .C ⌝ }
+    ensures { λ k. ⌜ ((vw : View) → Shows p r (v .0) (block p (now (chip .entry)) (o .0)) (now (ct .entry)) vw
+        → Copied p (now (chip .entry)) (now (ct .entry)) (n .0) (v .0) (copies p vw (reclaims (v .0))) (now (chip .exit)) (now (ct .exit)) k) ⌝ }
 {
     let m = sizes::frames(p);
     let mut k: usize = 0;
     let mut f: usize = 0;
     while f < m {
-        k += move_marked(p, chip, ct, o, n, v, f, k, marks[f]);
+        k += move_valid(p, chip, ct, o, n, r, v, f, k);
         f += 1;
     }
     k
-}
-
-fn bit(b: bool) -> u8
-    ensures { λ x. ⌜ x ≡ cond b 1 0 ⌝ }
-{
-    if b { 1 } else { 0 }
-}
-
-// Which frames are valid, before any of them is moved: a 1 for each.
-fn mark_valid(p: Params, blk: &[u8], ct: &[u16], r: usize, v: VBlock, marks: &mut [u8])
-    requires { ⌜ OneBlock p (now blk) (now ct) (v .0) ⌝ }
-    requires { ⌜ length (now marks) ≡ 256 ⌝ }
-    ensures { λ _. ⌜ ((vw : View) → Shows p r (v .0) (now (blk .entry)) (now (ct .entry)) vw → Marks p vw (v .0) (now (marks .exit))) ⌝ }
-    ensures { λ _. ⌜ length (now (marks .exit)) ≡ 256 ⌝ }
-{
-    let m = sizes::frames(p);
-    let mut f: usize = 0;
-    while f < m {
-        marks[f] = bit(valid::is_valid(p, blk, ct, r, v, f));
-        f += 1;
-    }
 }
 
 // The valid frames of block o, which virtual block v of region r has, go to block n, and block o is erased. How many were copied.
@@ -125,9 +105,7 @@ pub fn reclaim(
     ensures { λ k. ⌜ ((vw : View) → Shows p r (v .0) (block p (now (chip .entry)) (o .0)) (now (ct .entry)) vw
         → Reclaimed p (now (chip .entry)) (now (ct .entry)) (now (wear .entry)) (o .0) (n .0) (v .0) (copies p vw (reclaims (v .0))) (now (chip .exit)) (now (ct .exit)) (now (wear .exit)) k) ⌝ }
 {
-    let mut marks = [0u8; 256];
-    mark_valid(p, blocks::block_of(p, chip, o), ct, r, v, &mut marks);
-    let k = copy_marked(p, chip, ct, o, n, v, &marks);
+    let k = copy_valid(p, chip, ct, o, n, r, v);
     let w = sizes::block_bytes(p);
     nand::erase_at(chip, w, o);
     tables::count_erase(wear, o);
