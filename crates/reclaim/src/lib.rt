@@ -1,5 +1,6 @@
 // Document 01, "Reclaim": the victim's valid frames are copied to the free block, CT follows each, and the victim is erased.
 ghost use mathlib.Core.Path.{_≡_};
+ghost use Prim.Native.Nat.{_/_};
 ghost use lib.ListN.{length};
 ghost use Rattle.rules.specs.Pages.{block, frame, held};
 ghost use Rattle.rules.specs.Regions.{View, valid};
@@ -40,7 +41,7 @@ fn move_frame(
     tables::set_ct(ct, c, rules::segment_of(p, v, k));
 }
 
-// The same where the frame is valid; how many frames that copied.
+// The same where the frame, whose segment has this place in its block, is valid; how many frames that copied.
 fn move_valid(
     p: Params,
     chip: &mut [u8],
@@ -49,15 +50,17 @@ fn move_valid(
     n: PBlock,
     r: usize,
     v: VBlock,
+    place: usize,
     f: usize,
     k: usize,
 ) -> usize
     requires { ⌜ MoveAsked p (now chip) (now ct) (o .0) (n .0) (v .0) f k ⌝ }
     requires { ⌜ length (now ct) ≡ p .C ⌝ }
+    requires { ⌜ place ≡ f / p .beta ⌝ }
     ensures { λ x. ⌜ ((vw : View) → Shows p r (v .0) (block p (now (chip .entry)) (o .0)) (now (ct .entry)) vw
         → MovedIf p (now (chip .entry)) (now (ct .entry)) (o .0) (n .0) (v .0) f k (valid p vw (v .0) f) (now (chip .exit)) (now (ct .exit)) x) ⌝ }
 {
-    if valid::is_valid(p, blocks::block_of(p, chip, o), ct, r, v, f) {
+    if valid::is_valid(p, blocks::block_of(p, chip, o), ct, r, v, place, f) {
         move_frame(p, chip, ct, o, n, v, f, k);
         return 1;
     }
@@ -82,9 +85,11 @@ fn copy_valid(
 {
     let m = sizes::frames(p);
     let mut k: usize = 0;
+    let mut place: usize = 0;
     let mut f: usize = 0;
     while f < m {
-        k += move_valid(p, chip, ct, o, n, r, v, f, k);
+        k += move_valid(p, chip, ct, o, n, r, v, place, f, k);
+        place = valid::next_place(p, f, place);
         f += 1;
     }
     k

@@ -3,9 +3,9 @@
 use mathlib.Core.Path.{_≡_, refl, sym, _∙_}
 use mathlib.Core.Bool.{Bool, true, false, _&&_, cond}
 use mathlib.Core.List.{List}
-use Prim.Native.Nat.{ℕ, _*_, _/_, _≤_, _<_}
+use Prim.Native.Nat.{ℕ, _+_, _*_, _/_, _≤_, _<_}
 use native.Mathlib.Omega.{arith}
-use native.Mathlib.Nat.{div-lt-iff-lt-mul}
+use native.Mathlib.Nat.{add-mul, div-eq-of-lt-le, div-le-self, div-lt-iff-lt-mul, div-mul-le-self}
 use lib.Dec.{eqb}
 use borrow.Author.Tests.{eq-eqb, ne-eqb}
 use lib.ListN.{length, List·getD-eq-default}
@@ -24,12 +24,12 @@ module _ (p : Params) (blk ct : List ℕ) (v f : ℕ) (a : OneFrame p blk ct v f
   z = sizes p (a .block .fine)
 
   -- the place of the frame's segment is one of the block's
-  pub place-low : f / p .beta < p .d
+  place-low : f / p .beta < p .d
   unfolding frames
   place-low = div-lt-iff-lt-mul (z .perSegment) .1 (omega (arith, a .low))
 
-  pub frame-few : f < 256
-  frame-few = omega (arith, a .low, z .short)
+  pub place-is-low : (k : ℕ) → k ≡ f / p .beta → k < p .d
+  place-is-low k e = rw e place-low
 
   module _ (r : ℕ) (vw : View) (s : Shows p r v blk ct vw) (fr : List ℕ) (is : fr ≡ frame p blk f) where
     pub unprogrammed : programmed p fr ≡ false → false ≡ valid p vw v f
@@ -57,14 +57,43 @@ module _ (p : Params) (blk ct : List ℕ) (v f : ℕ) (a : OneFrame p blk ct v f
       pub high : p .C ≤ c → false ≡ valid p vw v f
       high l = not-here none (seg-none (unfold ctAt in List·getD-eq-default ct none (rw (a .block .ctLength) l))) none-ne
 
+      pub stale : (k sg g : ℕ) → k ≡ f / p .beta → sg ≡ ctAt ct c → g ≡ v * p .d + k → (sg ≡ g → ⊥) → false ≡ valid p vw v f
+      stale k sg g at w q ne = not-here _ (s .segs c) (go (eqb (regionOf p c) r))
+        where
+          go : (t : Bool) → cond t (ctAt ct c) none ≡ segmentOf p v f → ⊥
+          go true x = ne (w ∙ x ∙ rw (q, at))
+          go false x = none-ne x
+
       pub elsewhere : (r′ : ℕ) → r′ ≡ regionOf p c → (r′ ≡ r → ⊥) → false ≡ valid p vw v f
       elsewhere r′ x ne = not-here none (s .segs c ∙ rw (ne-eqb (regionOf p c) r (λ y. ne (x ∙ y)))) none-ne
 
       here : (r′ : ℕ) → r′ ≡ regionOf p c → r′ ≡ r → vw .segOf c ≡ ctAt ct c
       here r′ x y = s .segs c ∙ rw (eq-eqb (regionOf p c) r (sym x ∙ y))
 
-      pub stale : (r′ sg g : ℕ) → r′ ≡ regionOf p c → r′ ≡ r → sg ≡ ctAt ct c → g ≡ segmentOf p v f → (sg ≡ g → ⊥) → false ≡ valid p vw v f
-      stale r′ sg g x y w q ne = not-here sg (here r′ x y ∙ sym w) (λ k. ne (k ∙ sym q))
+      pub last : (k r′ sg g l : ℕ) → k ≡ f / p .beta → r′ ≡ regionOf p c → r′ ≡ r → sg ≡ ctAt ct c → g ≡ v * p .d + k → sg ≡ g → l ≡ lastIn p blk k c → eqb l f ≡ valid p vw v f
+      last k r′ sg g l at x y w q e i =
+          let named : sg ≡ segmentOf p v f = e ∙ q ∙ rw at in
+          let found : l ≡ lastIn p blk (f / p .beta) c = i ∙ rw at in
+          rw (valid-is, here r′ x y, ← w, eq-eqb sg (segmentOf p v f) named, ← found)
 
-      pub last : (r′ sg g l : ℕ) → r′ ≡ regionOf p c → r′ ≡ r → sg ≡ ctAt ct c → g ≡ segmentOf p v f → sg ≡ g → l ≡ lastIn p blk (f / p .beta) c → eqb l f ≡ valid p vw v f
-      last r′ sg g l x y w q k i = rw (valid-is, here r′ x y, ← w, eq-eqb sg (segmentOf p v f) (k ∙ q), ← i)
+-- ---- places
+
+-- there are few
+pub place-few : (p : Params) → Sizes p → (f k : ℕ) → k ≡ f / p .beta → f < frames p → k < 256
+place-few p z f k e h = omega (arith, e, div-le-self f (p .beta), z .short)
+
+-- the place after that of frame f
+module _ (b f k : ℕ) (pos : 0 < b) (is : k ≡ f / b) where
+  starts : k * b ≤ f
+  starts = rw is (div-mul-le-self f b)
+
+  ends : f < (k + 1) * b
+  ends = div-lt-iff-lt-mul pos .0 (omega (arith, is))
+
+  pub place-more : (k + 1) * b ≡ f + 1 → k + 1 ≡ (f + 1) / b
+  place-more e =
+      let high : f + 1 < (k + 1 + 1) * b = rw (add-mul (k + 1) 1 b) (omega (arith, e, pos)) in
+      sym (div-eq-of-lt-le b (omega (arith, e)) high)
+
+  pub place-same : ((k + 1) * b ≡ f + 1 → ⊥) → k ≡ (f + 1) / b
+  place-same ne = sym (div-eq-of-lt-le b (omega (arith, starts)) (omega (arith, ends, ne)))
