@@ -1,6 +1,7 @@
 -- `reclaim::move_valid`: moved where the test passed, of any view that shows the lent bytes.
 -- Assumes nothing.
-use mathlib.Core.Path.{sym, _∙_}
+use mathlib.Core.Path.{_≡_, sym, _∙_}
+use mathlib.Core.Bool.{true}
 use borrow.Author.Needs.{needs}
 use Rattle.reclaim.proofs.Places.{chip-length, moved-yes, moved-no}
 use Rattle.reclaim.proofs.move_valid.Statement.{statement}
@@ -10,7 +11,7 @@ block-of-requires : tie.Need-block-of-requires
 block-of-requires c κs = let a = c .before .before .before .pre .0 .from in (a .whole .fine, (chip-length _ _ (a .whole), a .block))
 
 is-valid-requires : tie.Need-is-valid-requires
-is-valid-requires c κs = search needs
+is-valid-requires c κs = (search needs, c .before .before .before .before .before .pre .1 .1)
 
 move-frame-requires : tie.Need-move-frame-requires
 move-frame-requires c κs = search needs
@@ -23,7 +24,8 @@ same-length-2 c = search needs
 
 returns : tie.Need-returns
 returns c =
-    λ vw s. moved-yes _ _ _ _ _ _ _ _ _ _ _ (sym (c .before .before .before .before .before .before .before .before .is-valid .ensures vw (rw (c .before .before .before .before .before .before .before .before .before .before .block-of .ensures .0) s)) ∙ c .before .before .before .before .before .before .before .if1 .taken) (c .before .before .before .before .move-frame .ensures)
+    let passed : c .before .before .before .before .before .before .before .before .is-valid .result ≡ true = c .before .before .before .before .before .before .before .if1 .taken in
+    λ vw s. moved-yes _ _ _ _ _ _ _ _ _ _ _ (sym (c .before .before .before .before .before .before .before .before .is-valid .ensures vw (rw (c .before .before .before .before .before .before .before .before .before .before .block-of .ensures .0) s)) ∙ passed) (c .before .before .before .before .move-frame .ensures)
 
 same-length-3 : tie.Need-same-length-3
 same-length-3 c = search needs
