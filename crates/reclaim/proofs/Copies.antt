@@ -28,7 +28,7 @@ use Rattle.rules.proofs.Following.{follow-length}
 use Rattle.valid.specs.Shown.{Shows}
 use Rattle.reclaim.specs.Moves.{Whole, OnChip, MoveAsked, MovedIf, FromTo, Copied, ReclaimAsked, Reclaimed}
 use Rattle.reclaim.proofs.Places.{block-fits, frame-fits, frame-whole}
-use Rattle.reclaim.proofs.Follows.{seen, shown, same-valid, ok, Follows, still, follows-more}
+use Rattle.reclaim.proofs.Follows.{seen, same-valid, ok, Follows, still, follows-more}
 
 -- ---- one frame more
 

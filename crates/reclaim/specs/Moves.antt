@@ -3,7 +3,7 @@
 use mathlib.Core.Path.{_≡_}
 use mathlib.Core.Bool.{Bool, true, cond}
 use mathlib.Core.List.{List, [], _∷_, _++_}
-use Prim.Native.Nat.{ℕ, _+_, _*_, _≤_, _<_, min}
+use Prim.Native.Nat.{ℕ, _+_, _*_, _<_, min}
 use lib.ListN.{length, set}
 use Rattle.lists.specs.Parts.{putPart}
 use Rattle.rules.specs.declared.Params.{Params}

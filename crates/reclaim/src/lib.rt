@@ -67,8 +67,8 @@ fn move_valid(
     0
 }
 
-// The valid frames of block o are copied to block n, in order from frame 0, and CT follows each. A frame whose cluster CT already has in
-// block n is as little valid as it was before.
+// The valid frames of block o are copied to block n, in order from frame 0, and CT follows each. A later frame of a cluster that was copied is
+// valid neither by CT as it was nor as it follows.
 fn copy_valid(
     p: Params,
     chip: &mut [u8],

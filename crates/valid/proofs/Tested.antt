@@ -8,7 +8,7 @@ use native.Mathlib.Omega.{arith}
 use native.Mathlib.Nat.{add-mul, div-eq-of-lt-le, div-le-self, div-lt-iff-lt-mul, div-mul-le-self}
 use lib.Dec.{eqb}
 use borrow.Author.Tests.{eq-eqb, ne-eqb}
-use lib.ListN.{length, List·getD-eq-default}
+use lib.ListN.{List·getD-eq-default}
 use Rattle.rules.specs.declared.Params.{Params}
 use Rattle.rules.specs.Parameters.{frames}
 use Rattle.rules.specs.Numbers.{regionOf, segmentOf}

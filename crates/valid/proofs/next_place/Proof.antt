@@ -1,6 +1,6 @@
 -- `valid::next_place`: k·β ≤ f < (k + 1)·β, so frame f + 1 begins the next place or is in the same.
 -- Assumes nothing.
-use Prim.Native.Nat.{_+_, _*_, _≤_}
+use Prim.Native.Nat.{_+_, _≤_}
 use native.Mathlib.Nat.{mul-le-mul, lt-of-le-of-lt}
 use native.Mathlib.Omega.{arith}
 use Rattle.rules.proofs.Sizes.{sizes}
