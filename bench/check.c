@@ -104,14 +104,7 @@ static uint64_t product_read(struct cnftl_board *b)
 
 static uint64_t c_read(struct cnftl_board *b)
 {
-    const struct cnftl_params *p = &b->params;
-
-    return fast_read(p->s, p->alpha, p->beta, p->d, p->mu, p->gamma, p->c,
-                     p->n, b->chip, cnftl_chip_bytes(p),
-                     b->ct, cnftl_ct_entries(p), b->bt, cnftl_bt_entries(p),
-                     b->fst, cnftl_fst_entries(p),
-                     b->bst, cnftl_bst_entries(p),
-                     b->wear, cnftl_wear_entries(p), 0, 1, sector, p->s);
+    return fast_read(CNFTL_BOARD(b), 0, 1, sector, b->params.s);
 }
 
 static uint64_t c_check(struct cnftl_board *b)

@@ -79,47 +79,6 @@ static struct cnftl_board product, plain;
 static struct times of_product[2], of_plain[2];
 static uint8_t data[2][16 * 512];
 
-/* fast_format with a board. */
-static uint64_t plain_format(const struct cnftl_board *b)
-{
-    const struct cnftl_params *p = &b->params;
-
-    return fast_format(p->s, p->alpha, p->beta, p->d, p->mu, p->gamma, p->c,
-                       p->n, b->chip, cnftl_chip_bytes(p),
-                       b->ct, cnftl_ct_entries(p), b->bt, cnftl_bt_entries(p),
-                       b->fst, cnftl_fst_entries(p),
-                       b->bst, cnftl_bst_entries(p),
-                       b->wear, cnftl_wear_entries(p));
-}
-
-/* fast_read with a board. */
-static uint64_t plain_read(const struct cnftl_board *b, uint32_t lba,
-                           uint32_t count, uint8_t *to, size_t len)
-{
-    const struct cnftl_params *p = &b->params;
-
-    return fast_read(p->s, p->alpha, p->beta, p->d, p->mu, p->gamma, p->c,
-                     p->n, b->chip, cnftl_chip_bytes(p),
-                     b->ct, cnftl_ct_entries(p), b->bt, cnftl_bt_entries(p),
-                     b->fst, cnftl_fst_entries(p), b->bst,
-                     cnftl_bst_entries(p), b->wear, cnftl_wear_entries(p),
-                     lba, count, to, len);
-}
-
-/* fast_write with a board. */
-static uint64_t plain_write(const struct cnftl_board *b, uint32_t lba,
-                            uint32_t count, const uint8_t *from, size_t len)
-{
-    const struct cnftl_params *p = &b->params;
-
-    return fast_write(p->s, p->alpha, p->beta, p->d, p->mu, p->gamma, p->c,
-                      p->n, b->chip, cnftl_chip_bytes(p),
-                      b->ct, cnftl_ct_entries(p), b->bt, cnftl_bt_entries(p),
-                      b->fst, cnftl_fst_entries(p), b->bst,
-                      cnftl_bst_entries(p), b->wear, cnftl_wear_entries(p),
-                      lba, count, from, len);
-}
-
 /* One call on both sides, timed; writes with a reclaim are kept apart. */
 static void time_call(char kind, uint32_t lba)
 {
@@ -131,9 +90,9 @@ static void time_call(char kind, uint32_t lba)
       : kind == 'R' ? cnftl_board_read(&product, lba, 1, data[0], len)
                     : cnftl_board_write(&product, lba, 1, data[0], len);
     middle = now();
-    b = kind == 'F' ? plain_format(&plain)
-      : kind == 'R' ? plain_read(&plain, lba, 1, data[1], len)
-                    : plain_write(&plain, lba, 1, data[1], len);
+    b = kind == 'F' ? fast_format(CNFTL_BOARD(&plain))
+      : kind == 'R' ? fast_read(CNFTL_BOARD(&plain), lba, 1, data[1], len)
+                    : fast_write(CNFTL_BOARD(&plain), lba, 1, data[1], len);
     end = now();
     assert(a == b && cnftl_reply_of(a) == CNFTL_ACCEPTED);
     assert(memcmp(data[0], data[1], len) == 0);
@@ -229,8 +188,8 @@ static void fill_region(const struct cnftl_board *b, uint32_t region,
    block. */
 static void fill_boards(uint32_t last)
 {
-    plain_format(&product);
-    plain_format(&plain);
+    fast_format(CNFTL_BOARD(&product));
+    fast_format(CNFTL_BOARD(&plain));
     for (uint32_t r = 0; r < product.params.mu; r++) {
         fill_region(&product, r, last);
         fill_region(&plain, r, last);

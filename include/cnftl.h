@@ -6,9 +6,10 @@
  * BST and wear) in memory that the caller owns and lends for the length of
  * one call.  To keep a board, keep these six arrays and its parameters.
  *
- * There are three calls: cnftl_format, cnftl_read and cnftl_write.  Each one
- * returns for every request and for every content of the lent memory.  What
- * cannot be done is refused by number, and a refusal changes no lent byte.
+ * There are four calls: cnftl_format, cnftl_read, cnftl_write and
+ * cnftl_release.  Each one returns for every request and for every content of
+ * the lent memory.  What cannot be done is refused by number, and a refusal
+ * changes no lent byte.
  *
  * A slice passes as a pointer and then a length in ELEMENTS (bytes for chip,
  * bst and data; 16-bit entries for ct, bt and fst; 32-bit entries for wear).
@@ -19,9 +20,9 @@
  *   - Each slice is really as long as its length says.
  *   - No two slices of one call overlap: not two tables, not a table and the
  *     chip, and not the data and any of them.
- *   - During a call nobody else writes the lent memory, and during a format
- *     or a write nobody else reads it.  Calls on different boards may run at
- *     the same time.
+ *   - During a call nobody else writes the lent memory, and during a format,
+ *     a write or a release nobody else reads it.  Calls on different boards
+ *     may run at the same time.
  *   - A board is used with the same parameters in every call.
  *
  * Example (link with libcnftl.a):
@@ -86,7 +87,7 @@ enum cnftl_reply {
     CNFTL_BAD_PARAMETER = 1,  /* a parameter breaks the rules above         */
     CNFTL_WRONG_LENGTH = 2,   /* chip or a table has the wrong length       */
     CNFTL_BAD_COUNT = 3,      /* count 0, or past the end of the cluster    */
-    CNFTL_BAD_ADDRESS = 4,    /* lba is c*alpha or more                     */
+    CNFTL_BAD_ADDRESS = 4,    /* lba is c*alpha or more, a cluster c or more*/
     CNFTL_WRONG_DATA = 5,     /* data length is not count*s                 */
     CNFTL_TOO_FEW_BLOCKS = 6, /* fewer than mu*gamma+1 blocks are not bad   */
     CNFTL_NOT_ORDERLY = 7     /* chip and tables do not fit together        */
@@ -150,6 +151,23 @@ uint64_t cnftl_write(uint32_t s, uint32_t alpha, uint32_t beta, uint32_t d,
                      uint32_t *wear, size_t wear_len,
                      uint32_t lba, uint32_t count,
                      const uint8_t *data, size_t data_len);
+
+/*
+ * Release one cluster: its CT entry becomes none, so that its sectors read as
+ * 255 throughout until they are written again, and no reclaim copies it.
+ * Where it is none already nothing changes.
+ * Replies 1, 2, 4 (cluster is c or more), 7, 0.  Counts: 0 and 0.  Writes ct
+ * only.
+ */
+uint64_t cnftl_release(uint32_t s, uint32_t alpha, uint32_t beta, uint32_t d,
+                       uint32_t mu, uint32_t gamma, uint32_t c, uint32_t n,
+                       const uint8_t *chip, size_t chip_len,
+                       uint16_t *ct, size_t ct_len,
+                       const uint16_t *bt, size_t bt_len,
+                       const uint16_t *fst, size_t fst_len,
+                       const uint8_t *bst, size_t bst_len,
+                       const uint32_t *wear, size_t wear_len,
+                       uint32_t cluster);
 
 /*
  * An answer is reply + 65,536 * programs + 4,294,967,296 * erases.
@@ -239,7 +257,7 @@ static inline uint32_t cnftl_sectors(const struct cnftl_params *p)
 }
 
 /*
- * A board for the three shorter calls below, which pass the parameters and
+ * A board for the shorter calls below, which pass the parameters and
  * the right lengths.  The arrays must have the sizes given above.
  */
 struct cnftl_board {
@@ -252,52 +270,40 @@ struct cnftl_board {
     uint32_t *wear;
 };
 
+/* The parameters and the slices of a board, as each call takes them first. */
+#define CNFTL_BOARD(b)                                                         \
+    (b)->params.s, (b)->params.alpha, (b)->params.beta, (b)->params.d,         \
+    (b)->params.mu, (b)->params.gamma, (b)->params.c, (b)->params.n,           \
+    (b)->chip, cnftl_chip_bytes(&(b)->params),                                 \
+    (b)->ct, cnftl_ct_entries(&(b)->params),                                   \
+    (b)->bt, cnftl_bt_entries(&(b)->params),                                   \
+    (b)->fst, cnftl_fst_entries(&(b)->params),                                 \
+    (b)->bst, cnftl_bst_entries(&(b)->params),                                 \
+    (b)->wear, cnftl_wear_entries(&(b)->params)
+
 static inline uint64_t cnftl_board_format(const struct cnftl_board *b)
 {
-    const struct cnftl_params *p = &b->params;
-
-    return cnftl_format(p->s, p->alpha, p->beta, p->d,
-                        p->mu, p->gamma, p->c, p->n,
-                        b->chip, cnftl_chip_bytes(p),
-                        b->ct, cnftl_ct_entries(p),
-                        b->bt, cnftl_bt_entries(p),
-                        b->fst, cnftl_fst_entries(p),
-                        b->bst, cnftl_bst_entries(p),
-                        b->wear, cnftl_wear_entries(p));
+    return cnftl_format(CNFTL_BOARD(b));
 }
 
 static inline uint64_t cnftl_board_read(const struct cnftl_board *b,
                                         uint32_t lba, uint32_t count,
                                         uint8_t *data, size_t data_len)
 {
-    const struct cnftl_params *p = &b->params;
-
-    return cnftl_read(p->s, p->alpha, p->beta, p->d,
-                      p->mu, p->gamma, p->c, p->n,
-                      b->chip, cnftl_chip_bytes(p),
-                      b->ct, cnftl_ct_entries(p),
-                      b->bt, cnftl_bt_entries(p),
-                      b->fst, cnftl_fst_entries(p),
-                      b->bst, cnftl_bst_entries(p),
-                      b->wear, cnftl_wear_entries(p),
-                      lba, count, data, data_len);
+    return cnftl_read(CNFTL_BOARD(b), lba, count, data, data_len);
 }
 
 static inline uint64_t cnftl_board_write(const struct cnftl_board *b,
                                          uint32_t lba, uint32_t count,
                                          const uint8_t *data, size_t data_len)
 {
-    const struct cnftl_params *p = &b->params;
+    return cnftl_write(CNFTL_BOARD(b), lba, count, data, data_len);
+}
 
-    return cnftl_write(p->s, p->alpha, p->beta, p->d,
-                       p->mu, p->gamma, p->c, p->n,
-                       b->chip, cnftl_chip_bytes(p),
-                       b->ct, cnftl_ct_entries(p),
-                       b->bt, cnftl_bt_entries(p),
-                       b->fst, cnftl_fst_entries(p),
-                       b->bst, cnftl_bst_entries(p),
-                       b->wear, cnftl_wear_entries(p),
-                       lba, count, data, data_len);
+static inline uint64_t cnftl_board_release(const struct cnftl_board *b,
+                                           uint32_t cluster)
+{
+    return cnftl_release(CNFTL_BOARD(b), cluster);
 }
 
 #ifdef __cplusplus

@@ -1,6 +1,6 @@
 #!/usr/bin/env bash
-# Compiles include/cnftl.h as C99 and as C++ without a warning, links the archive, and runs Board T's cases through all three calls.
-# It also looks that the archive offers these three functions and asks for no other than the C library's memory functions.
+# Compiles include/cnftl.h as C99 and as C++ without a warning, links the archive, and runs Board T's cases through all calls.
+# It also looks that the archive offers these functions and asks for no other than the C library's memory functions.
 set -u
 cd "$(dirname "$0")/.."
 . tests/c/common.sh
@@ -14,6 +14,6 @@ check "the header as C99" "$cc" -std=c99 -O2 "${strict[@]}" ${link[@]+"${link[@]
 check "its cases" run "$room/c99"
 check "the header as C++" "$cxx" -std=c++17 -O2 "${strict[@]}" ${link[@]+"${link[@]}"} -o "$room/cxx" tests/c/header.cc "$archive"
 check "its cases" run "$room/cxx"
-check "the archive's functions: $(offers)" [ "$(offers)" = "cnftl_format cnftl_read cnftl_write " ]
+check "the archive's functions: $(offers)" [ "$(offers)" = "$exported " ]
 check "what the archive asks for: $(asks)" [ -z "$(asks)" ]
 counted

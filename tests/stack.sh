@@ -1,12 +1,12 @@
 #!/usr/bin/env bash
 # The stack that the calls use, read off the archive's instructions: each function's return address, pushes and local room, and
-# the deepest chain of calls from each of the three. Under 4 KiB.
+# the deepest chain of calls from each that the archive offers. Under 4 KiB.
 set -u
 cd "$(dirname "$0")/.."
 . tests/c/common.sh
 
 "$objdump" -dr --no-show-raw-insn "$archive" >"$room/code"
-awk '
+awk -v exported="$exported" '
 function hex(s,    n, i) { n = 0; s = tolower(s); sub(/^0x/, "", s); for (i = 1; i <= length(s); i++) n = n * 16 + index("0123456789abcdef", substr(s, i, 1)) - 1; return n }
 /^[0-9a-f]+ <.*>:$/ { name = $2; gsub(/^<|>:$/, "", name); own[name] = 8; next }
 /[ \t]push / { own[name] += 8 }
@@ -23,8 +23,8 @@ function depth(f, seen,    parts, n, i, best, d) {
     return own[f] + best
 }
 END {
-    k = split("cnftl_format cnftl_read cnftl_write", three, " ")
-    for (i = 1; i <= k; i++) { d = depth(three[i], ""); print three[i], d; if (d > most) most = d; if (!(three[i] in own)) odd = 1 }
+    k = split(exported, named, " ")
+    for (i = 1; i <= k; i++) { d = depth(named[i], ""); print named[i], d; if (d > most) most = d; if (!(named[i] in own)) odd = 1 }
     print "most", (odd || looped) ? "unknown" : most
 }' "$room/code" >"$room/stack"
 sed -n 's/^\(cnftl_[a-z]*\) \(.*\)/\1: \2 bytes of stack/p' "$room/stack"

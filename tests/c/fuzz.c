@@ -196,14 +196,15 @@ static void close_board(void)
 /* ==== One call on both sides =========================================== */
 
 struct call {
-    char kind; /* 'F', 'R' or 'W' */
+    char kind; /* 'F', 'R', 'W' or, for a release, 'L' */
     struct cnftl_params p;
     size_t len[SLICES];
-    uint32_t lba, count;
+    uint32_t lba, count; /* lba is a release's cluster */
 };
 
+static const char call_kinds[] = "FRWL";
 static uint64_t calls, limit = 1000000, seed = 1;
-static uint64_t seen[REPLIES], kinds[3], reclaims, shadow_reads;
+static uint64_t seen[REPLIES], kinds[4], reclaims, shadow_reads;
 
 #define PARAMETERS(k)                                                          \
     (k)->p.s, (k)->p.alpha, (k)->p.beta, (k)->p.d, (k)->p.mu, (k)->p.gamma,    \
@@ -224,6 +225,8 @@ static uint64_t call_product(const struct call *k)
         return cnftl_format(LENT(k, &product));
     case 'R':
         return cnftl_read(LENT(k, &product), REQUEST(k, &product));
+    case 'L':
+        return cnftl_release(LENT(k, &product), k->lba);
     default:
         return cnftl_write(LENT(k, &product), REQUEST(k, &product));
     }
@@ -237,6 +240,8 @@ static uint64_t call_model(const struct call *k)
         return model_format(LENT(k, &model));
     case 'R':
         return model_read(LENT(k, &model), REQUEST(k, &model));
+    case 'L':
+        return model_release(LENT(k, &model), k->lba);
     default:
         return model_write(LENT(k, &model), REQUEST(k, &model));
     }
@@ -300,6 +305,9 @@ static void follow_shadow(const struct call *k, uint64_t a)
     } else if (k->kind == 'F') {
         memset(shadow, 255, (size_t)cnftl_sectors(&par) * par.s);
         shadow_holds = true;
+    } else if (shadow_holds && k->kind == 'L') {
+        memset(shadow + (size_t)k->lba * par.alpha * par.s, 255,
+               (size_t)par.alpha * par.s);
     } else if (shadow_holds && k->kind == 'W') {
         memcpy(sectors, bytes_of(&product, DATA), k->len[DATA]);
     } else if (shadow_holds) {
@@ -313,7 +321,7 @@ static void follow_shadow(const struct call *k, uint64_t a)
 static void count_call(const struct call *k, uint64_t a)
 {
     calls++;
-    kinds[k->kind == 'F' ? 0 : k->kind == 'R' ? 1 : 2]++;
+    kinds[strchr(call_kinds, k->kind) - call_kinds]++;
     seen[cnftl_reply_of(a)]++;
     reclaims += k->kind == 'W' && cnftl_erases_of(a) == 1;
     if (calls % 100000 == 0)
@@ -350,9 +358,9 @@ static struct call right_call(char kind)
     uint32_t place = below(par.alpha);
 
     memcpy(k.len, right_len, sizeof right_len);
-    k.lba = cluster * par.alpha + place;
+    k.lba = kind == 'L' ? cluster : cluster * par.alpha + place;
     k.count = between(1, par.alpha - place);
-    k.len[DATA] = (size_t)k.count * par.s;
+    k.len[DATA] = kind == 'L' ? 0 : (size_t)k.count * par.s;
     return k;
 }
 
@@ -441,10 +449,10 @@ static void fault_count(struct call *k)
         k->len[DATA] = data_for(k->count);
 }
 
-/* An address at or past the board's end, or just before it. */
+/* An address or a cluster at or past the board's end, or just before it. */
 static void fault_address(struct call *k)
 {
-    uint32_t end = cnftl_sectors(&par);
+    uint32_t end = k->kind == 'L' ? par.c : cnftl_sectors(&par);
     const uint32_t values[] = {
         end, end + 1, end + par.alpha, end - 1, UINT32_MAX, end + 65536,
         UINT32_MAX / par.alpha * par.alpha
@@ -861,7 +869,7 @@ static void changed_requests(void)
     change_state();
     shadow_holds = false;
     do {
-        struct call k = right_call(once_in(2) ? 'R' : 'W');
+        struct call k = right_call("RRRWWWL"[below(7)]);
 
         if (once_in(8))
             add_faults(&k);
@@ -877,7 +885,7 @@ static void changed_requests(void)
 /* One call of any kind with faults. */
 static void faulty_request(void)
 {
-    struct call k = right_call("FRRWW"[below(5)]);
+    struct call k = right_call("FRRWWL"[below(6)]);
 
     add_faults(&k);
     make_call(&k);
@@ -892,11 +900,11 @@ static void format_request(void)
         rest_of_episode = 8;
 }
 
-/* A right read or write.  It is accepted if the board was changed by calls
+/* A right read, write or release.  It is accepted if the board was changed by calls
    alone since a format; a board that is not orderly is formatted soon. */
 static void right_request(void)
 {
-    struct call k = right_call(once_in(3) ? 'R' : 'W');
+    struct call k = right_call("RRRRWWWWWWWL"[below(12)]);
     bool sound = shadow_holds;
     uint32_t reply = make_call(&k);
 
@@ -1104,7 +1112,7 @@ static void run_all(void)
 /* Prints what was seen; false if something never was. */
 static bool report(void)
 {
-    bool all = reclaims > 0 && shadow_reads > 0;
+    bool all = reclaims > 0 && shadow_reads > 0 && kinds[3] > 0;
 
     for (int r = 0; r < REPLIES; r++) {
         printf("fuzz: reply %d: %" PRIu64 " calls\n", r, seen[r]);
@@ -1112,8 +1120,8 @@ static bool report(void)
     }
     printf("fuzz: %" PRIu64 " formats, %" PRIu64 " reads (%" PRIu64
            " compared with the bytes last accepted), %" PRIu64 " writes, %"
-           PRIu64 " reclaims\n", kinds[0], kinds[1], shadow_reads, kinds[2],
-           reclaims);
+           PRIu64 " reclaims, %" PRIu64 " releases\n", kinds[0], kinds[1],
+           shadow_reads, kinds[2], reclaims, kinds[3]);
     return all;
 }
 

@@ -129,6 +129,31 @@ static void check_cases(void)
               0, 0));
 }
 
+/* A release: the cluster reads as 255, and the others as before. */
+static void check_release(void)
+{
+    new_board();
+    assert(is(cnftl_board_format(&board), CNFTL_ACCEPTED, 0, 5));
+    memset(data, 7, sizeof data);
+    assert(is(cnftl_board_write(&board, 4, 2, data, 32), CNFTL_ACCEPTED,
+              2, 0));
+    assert(is(cnftl_board_write(&board, 6, 1, data, 16), CNFTL_ACCEPTED,
+              2, 0));
+    assert(is(cnftl_board_release(&board, 2), CNFTL_ACCEPTED, 0, 0));
+    assert(is(cnftl_board_release(&board, 2), CNFTL_ACCEPTED, 0, 0));
+    assert(ct[2] == CNFTL_NONE);
+    assert(is(cnftl_board_read(&board, 4, 2, data, 32), CNFTL_ACCEPTED,
+              0, 0));
+    assert(sector_is(0, 255) && sector_is(1, 255));
+    assert(is(cnftl_board_read(&board, 6, 1, data, 16), CNFTL_ACCEPTED,
+              0, 0));
+    assert(sector_is(0, 7));
+    assert(is(cnftl_board_release(&board, 6), CNFTL_BAD_ADDRESS, 0, 0));
+    fst[0] = 1;
+    assert(is(cnftl_board_release(&board, 6), CNFTL_BAD_ADDRESS, 0, 0));
+    assert(is(cnftl_board_release(&board, 5), CNFTL_NOT_ORDERLY, 0, 0));
+}
+
 /* The replies that the cases above do not give, through the long calls. */
 static void check_replies(void)
 {
@@ -170,6 +195,7 @@ int main(void)
     check_sizes();
     check_session();
     check_cases();
+    check_release();
     check_replies();
     printf("header: Board T answers as printed\n");
     return 0;

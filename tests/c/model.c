@@ -1087,3 +1087,47 @@ uint64_t model_write(uint32_t s, uint32_t alpha, uint32_t beta, uint32_t d,
         work.erases = 0;
     return answer(ACCEPTED, alpha * (work.copied + 1), work.erases);
 }
+
+/* T-03: "Refusals: 1, 2, then 4 for a cluster not below C, then 7." */
+static uint32_t refuse_release(const struct view *v, uint32_t cluster)
+{
+    bool bad_cluster = cluster >= v->p.c - MUTANT(RELEASE_LAST);
+
+    if (MUTANT(RELEASE_ORDER_FIRST) && !orderly(v))
+        return NOT_ORDERLY;
+    if (bad_cluster)
+        return BAD_ADDRESS;
+    return orderly(v) ? ACCEPTED : NOT_ORDERLY;
+}
+
+/* T-03: "its CT entry becomes none .. It reports 0 and 0." */
+uint64_t model_release(uint32_t s, uint32_t alpha, uint32_t beta, uint32_t d,
+                       uint32_t mu, uint32_t gamma, uint32_t c, uint32_t n,
+                       const uint8_t *chip, size_t chip_len,
+                       uint16_t *ct, size_t ct_len,
+                       const uint16_t *bt, size_t bt_len,
+                       const uint16_t *fst, size_t fst_len,
+                       const uint8_t *bst, size_t bst_len,
+                       const uint32_t *wear, size_t wear_len,
+                       uint32_t cluster)
+{
+    struct params p = make_params(s, alpha, beta, d, mu, gamma, c, n);
+    struct lengths len = {
+        chip_len, ct_len, bt_len, fst_len, bst_len, wear_len
+    };
+    struct view v = { p, chip, ct, bt, fst, bst, wear };
+    uint32_t reply = refuse_board(&p, &len);
+
+    if (reply == ACCEPTED)
+        reply = refuse_release(&v, cluster);
+    if (reply != ACCEPTED)
+        return answer(reply, 0, 0);
+    if (MUTANT(RELEASE_NEXT))
+        cluster = (cluster + 1) % c;
+    if (MUTANT(RELEASE_REGION))
+        for (uint32_t x = cluster % mu; x < c; x += mu)
+            ct[x] = NONE;
+    if (!MUTANT(RELEASE_NOTHING))
+        ct[cluster] = NONE;
+    return answer(ACCEPTED, 0, MUTANT(RELEASE_COUNTS));
+}

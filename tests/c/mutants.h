@@ -90,6 +90,13 @@
     X(VICTIM_NOT_ERASED, "reclaim: the victim's pages stay")                   \
     X(VICTIM_NOT_FREED, "reclaim: the victim stays used")                      \
     X(WEAR_WRAPS, "wear: goes back to 0 after 4,294,967,295")                  \
-    X(RECLAIM_NO_WEAR, "wear: a reclaim's erase is not counted")
+    X(RECLAIM_NO_WEAR, "wear: a reclaim's erase is not counted")               \
+    /* release */                                                              \
+    X(RELEASE_NOTHING, "release: the CT entry stays")                          \
+    X(RELEASE_NEXT, "release: the CT entry of the next cluster")               \
+    X(RELEASE_REGION, "release: the CT entries of the whole region")           \
+    X(RELEASE_LAST, "release: the last cluster is refused")                    \
+    X(RELEASE_ORDER_FIRST, "release: 7 tested before 4")                       \
+    X(RELEASE_COUNTS, "release: an erase counted")
 
 #endif

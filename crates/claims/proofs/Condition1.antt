@@ -1,4 +1,4 @@
--- Condition 1: the reply is the table's, a refusal changes nothing, and an accepted write finds room and stores.
+-- Condition 1: the reply is the table's, a refusal changes nothing, an accepted write finds room and stores, and a release frees.
 -- Assumes nothing.
 use mathlib.Core.Path.{_≡_, refl, sym, _∙_}
 use Prim.Native.Nat.{ℕ, _<_}
@@ -12,8 +12,8 @@ use Rattle.rules.specs.Regions.{view}
 use Rattle.rules.specs.Traces.{erasesIn, programsIn}
 use Rattle.rules.specs.Write.{Plan, Request, continues, opens, planBlock, planOf, reclaims, requestCluster, requestRegion}
 use Rattle.rules.specs.Replies.{accessReply, isAccepted}
-use Rattle.rules.specs.Calls.{Call, answerOf, outcomeOf, refuses, write}
-use Rattle.rules.proofs.Admitted.{admitted}
+use Rattle.rules.specs.Calls.{Call, accepts, answerOf, outcomeOf, refuses, release, write}
+use Rattle.rules.proofs.Admitted.{admitted, release-admitted}
 use Rattle.rules.proofs.Continues.{Makes}
 use Rattle.rules.proofs.RegionFacts.{neat}
 use Rattle.rules.proofs.Sizes.{Sizes, sizes}
@@ -22,10 +22,11 @@ use Rattle.rules.proofs.Totals.{blocks-total, used-total}
 use Rattle.rules.proofs.Views.{free-block}
 use Rattle.rules.proofs.WritePromise.{makes}
 use Rattle.claims.specs.Runs.{leaves, replyTo}
-use Rattle.claims.specs.Conditions.{Condition1, HasRoom, InOrder, OrderlyBoard, Stores, Unchanged, assignedBlocks, blocksOf, lent, takesBlock}
-use Rattle.claims.proofs.Outcomes.{call-refused, is-refused, write-leaves, write-reply}
+use Rattle.claims.specs.Conditions.{Condition1, Frees, HasRoom, InOrder, OrderlyBoard, Stores, Unchanged, assignedBlocks, blocksOf, lent, takesBlock}
+use Rattle.claims.proofs.Outcomes.{call-refused, is-refused, release-accepted, release-reply, write-leaves, write-reply}
 use Rattle.claims.proofs.Kept.{accepted-orderly}
-use Rattle.claims.proofs.Memory.{stored}
+use Rattle.claims.proofs.Memory.{freed, stored}
+use Rattle.claims.proofs.Freed.{none-copied}
 use Rattle.claims.proofs.ReplyTable.{reply-by-table}
 
 -- ---- a refusal
@@ -64,6 +65,13 @@ write-stores p b q e =
     let k = sym (write-reply p b q) ∙ e in
     rw (write-leaves p b q k) (record { room = has-room p b q k; stored = stored p b q k })
 
+release-frees : (p : Params) (b : Board) (c : ℕ) → replyTo p b (release c) ≡ Accepted → Frees p b c (outcomeOf p b (release c))
+unfolding accepts answerOf programsIn erasesIn
+release-frees p b c e =
+    let k = sym (release-reply p b c) ∙ e in
+    rw (release-accepted p b c k)
+    (record { reads = freed p b c; room = λ v. none-copied p b c (sizes p ((release-admitted p b c k) .fine)) (regionOf p c) v; counts = (refl, refl) })
+
 pub condition-1 : Condition1
 condition-1 p b c =
     record {
@@ -71,4 +79,5 @@ condition-1 p b c =
       refused = λ ne. refused-unchanged p b c (is-refused (replyTo p b c) ne);
       accepted = λ e. in-order p (leaves p b c) (accepted-orderly p b c e);
       stores = λ q is e. rw is (write-stores p b q (rw is at e));
+      frees = λ n is e. rw is (release-frees p b n (rw is at e));
     }

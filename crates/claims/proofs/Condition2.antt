@@ -1,7 +1,7 @@
 -- Condition 2: reads return what was last accepted; the trace is clean, no page is programmed twice, and the counts are the steps'.
 -- Assumes nothing.
 use mathlib.Core.Path.{_≡_, refl, sym, ap, _∙_}
-use Prim.Native.Nat.{_+_}
+use Prim.Native.Nat.{ℕ, _+_}
 use mathlib.Core.Bool.{false}
 use mathlib.Core.List.{List, _∷_}
 use Rattle.lists.specs.Below.{joinBelow}
@@ -10,14 +10,14 @@ use Rattle.rules.specs.declared.Reply.the-variants.{Accepted}
 use Rattle.rules.specs.Tables.{Board}
 use Rattle.rules.specs.Regions.{view}
 use Rattle.rules.specs.Write.{Plan, Request, continues, opens, reclaims, requestRegion}
-use Rattle.rules.specs.Replies.{accessReply, badAddress, badCount, firstRow, formatReply, isAccepted, wrongData}
-use Rattle.rules.specs.Calls.{Call, Outcome, accepts, answerOf, format, outcomeOf, read, write}
+use Rattle.rules.specs.Replies.{accessReply, badAddress, badCount, badCluster, firstRow, formatReply, isAccepted, wrongData}
+use Rattle.rules.specs.Calls.{Call, Outcome, accepts, answerOf, format, outcomeOf, read, release, write}
 use Rattle.rules.proofs.Admitted.{format-admitted}
 use Rattle.rules.proofs.WritePromise.{erasesOf, write-promise}
 use Rattle.claims.specs.Runs.{Memory, blank, boardAfter, leaves, memoryAfter, outcomes, remember, replyTo}
 use Rattle.claims.specs.Conditions.{Condition2, Counts, OrderlyBoard, erasesBy}
-use Rattle.claims.proofs.Outcomes.{format-leaves, format-reply, read-accepted, read-reply, write-accepted, write-reply}
-use Rattle.claims.proofs.Kept.{accepted-orderly, after-orderly, orderly-reply, requestReply, trace-chip, trace-clean, trace-once, trace-wear}
+use Rattle.claims.proofs.Outcomes.{format-leaves, format-reply, read-accepted, read-reply, release-reply, write-accepted, write-reply}
+use Rattle.claims.proofs.Kept.{accepted-orderly, after-orderly, clusterReply, orderly-release, orderly-reply, requestReply, trace-chip, trace-clean, trace-once, trace-wear}
 use Rattle.claims.proofs.FormatCounts.{format-counts}
 use Rattle.claims.proofs.Memory.{Agrees, format-agrees, read-agrees, run-agrees}
 
@@ -53,6 +53,9 @@ right-accepted p b q h c a d =
     let k : accessReply p b q ≡ Accepted = orderly-reply p b q h ∙ unfold requestReply firstRow in rw (c, a, d) in
     (read-reply p b q ∙ k, write-reply p b q ∙ k)
 
+release-right : (p : Params) (b : Board) (c : ℕ) → OrderlyBoard p b → badCluster p c ≡ false → replyTo p b (release c) ≡ Accepted
+release-right p b c h e = release-reply p b c ∙ orderly-release p b c h ∙ unfold clusterReply firstRow in rw e
+
 erases-same : (pl : Plan) → erasesOf pl ≡ erasesBy pl
 unfolding erasesOf erasesBy
 erases-same (continues v f) = refl
@@ -74,6 +77,7 @@ condition-2 p b e cs =
     record {
       reads = λ m q a. read-is p (boardAfter p b run) (memoryAfter p m run (outcomes p b run)) q a (after-format p b m e cs);
       accepts = λ q. right-accepted p (boardAfter p b run) q ordered;
+      releases = λ c. release-right p (boardAfter p b run) c ordered;
       chip = trace-chip p b run;
       wear = trace-wear p b run;
       erased = trace-clean p b run;

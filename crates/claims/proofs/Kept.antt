@@ -18,16 +18,19 @@ use Rattle.rules.specs.Tables.{Board, none}
 use Rattle.rules.specs.Traces.{Op, clean, erase, onWear, replayChip, replayWear}
 use Rattle.rules.specs.Format.{bad, formatOps, formatted}
 use Rattle.rules.specs.Write.{Request, writeOps, written, writtenBy}
-use Rattle.rules.specs.Replies.{accessReply, badAddress, badCount, badParameter, firstRow, formatReply, isAccepted, lengthsFit, notOrderly, row, wrongData, wrongLength}
-use Rattle.rules.specs.Calls.{Call, format, read, write}
-use Rattle.rules.proofs.Admitted.{access-checks, format-admitted}
+use Rattle.rules.specs.Release.{released}
+use Rattle.rules.specs.Replies.{accessReply, badAddress, badCluster, badCount, badParameter, firstRow, formatReply, isAccepted, lengthsFit, notOrderly, releaseReply, row, wrongData, wrongLength}
+use Rattle.rules.specs.Calls.{Call, format, read, release, write}
+use Rattle.rules.proofs.Admitted.{access-checks, format-admitted, release-admitted}
 use Rattle.rules.proofs.Chip.{clean-append, replay-append}
 use Rattle.rules.proofs.FormatPromise.{format-orderly}
+use Rattle.rules.proofs.Releases.{release-lengths, release-orderly}
+use Rattle.rules.proofs.Sizes.{sizes}
 use Rattle.rules.proofs.WritePromise.{write-promise}
 use Rattle.rules.proofs.Writes.{wear-length}
 use Rattle.claims.specs.Runs.{boardAfter, leaves, noPageTwice, opsOf, replyTo, traceOf}
 use Rattle.claims.specs.Conditions.{OrderlyBoard}
-use Rattle.claims.proofs.Outcomes.{format-leaves, format-ops, format-reply, read-leaves, read-reply, refused-leaves, refused-ops, reply-cases, write-leaves, write-ops, write-reply}
+use Rattle.claims.proofs.Outcomes.{format-leaves, format-ops, format-reply, read-leaves, read-reply, refused-leaves, refused-ops, release-leaves, release-reply, reply-cases, write-leaves, write-ops, write-reply}
 use Rattle.claims.proofs.Once.{AllFit, clean-once, fit-append, replay-length}
 use Rattle.claims.proofs.Programs.{format-fits, write-fits}
 
@@ -58,7 +61,7 @@ format-lengths p b h =
       ),
     )
 
--- what an accepted format, write and read leave
+-- what an accepted format, write, read and release leave
 pub format-leaves-orderly : (p : Params) (b : Board) → formatReply p b ≡ Accepted → OrderlyBoard p (formatted p b)
 format-leaves-orderly p b e = let a = format-admitted p b e in record { fine = a .fine; lengths = format-lengths p b (a .lengths); tidy = format-orderly p b e }
 
@@ -68,10 +71,16 @@ write-leaves-orderly p b q e = let w = write-promise p b q e in record { fine = 
 pub read-leaves-orderly : (p : Params) (b : Board) (q : Request) → accessReply p b q ≡ Accepted → OrderlyBoard p b
 read-leaves-orderly p b q e = let a = access-checks p b q e in record { fine = a .fine; lengths = a .lengths; tidy = a .tidy }
 
+pub release-leaves-orderly : (p : Params) (b : Board) (c : ℕ) → releaseReply p b c ≡ Accepted → OrderlyBoard p (released b c)
+release-leaves-orderly p b c e =
+    let a = release-admitted p b c e in
+    record { fine = a .fine; lengths = release-lengths p b c (a .lengths); tidy = release-orderly p b c (sizes p (a .fine)) (a .lengths) (a .tidy) }
+
 -- an accepted call leaves such a board
 pub accepted-orderly : (p : Params) (b : Board) (c : Call) → replyTo p b c ≡ Accepted → OrderlyBoard p (leaves p b c)
 accepted-orderly p b format e = let k = sym (format-reply p b) ∙ e in rw (format-leaves p b k) (format-leaves-orderly p b k)
 accepted-orderly p b (read q) e = rw (read-leaves p b q) (read-leaves-orderly p b q (sym (read-reply p b q) ∙ e))
+accepted-orderly p b (release c) e = let k = sym (release-reply p b c) ∙ e in rw (release-leaves p b c k) (release-leaves-orderly p b c k)
 accepted-orderly p b (write q) e = let k = sym (write-reply p b q) ∙ e in rw (write-leaves p b q k) (write-leaves-orderly p b q k)
 
 -- and a refused one keeps it
@@ -92,6 +101,14 @@ pub orderly-reply : (p : Params) (b : Board) (q : Request) → OrderlyBoard p b 
 unfolding accessReply requestReply firstRow badParameter wrongLength notOrderly
 orderly-reply p b q h = rw (h .fine, h .lengths, h .tidy)
 
+-- and of a release, its cluster's
+unfoldable pub clusterReply : Params → ℕ → Reply
+clusterReply p c = firstRow (row (badCluster p c) BadAddress ∷ [])
+
+pub orderly-release : (p : Params) (b : Board) (c : ℕ) → OrderlyBoard p b → releaseReply p b c ≡ clusterReply p c
+unfolding releaseReply clusterReply firstRow badParameter wrongLength notOrderly
+orderly-release p b c h = rw (h .fine, h .lengths, h .tidy)
+
 -- ---- the operations of a call
 
 -- they fit the chip
@@ -101,6 +118,7 @@ ops-fit p b c = go (reply-cases (replyTo p b c))
     yes′ : (c : Call) → replyTo p b c ≡ Accepted → AllFit p (opsOf p b c)
     yes′ format e = rw (format-ops p b (sym (format-reply p b) ∙ e)) (format-fits p (b .chip))
     yes′ (read q) e = unfold opsOf in tt
+    yes′ (release c) e = unfold opsOf in tt
     yes′ (write q) e = let k = sym (write-reply p b q) ∙ e in rw (write-ops p b q k) (write-fits p b q k)
 
     go : (replyTo p b c ≡ Accepted) ⊎ (isAccepted (replyTo p b c) ≡ false) → AllFit p (opsOf p b c)
@@ -114,6 +132,7 @@ ops-chip p b c = go (reply-cases (replyTo p b c))
     yes′ : (c : Call) → replyTo p b c ≡ Accepted → (leaves p b c) .chip ≡ replayChip p (b .chip) (opsOf p b c)
     yes′ format e = let k = sym (format-reply p b) ∙ e in rw (format-leaves p b k, format-ops p b k) (unfold formatted in refl)
     yes′ (read q) e = rw (read-leaves p b q) (unfold opsOf replayChip in refl)
+    yes′ (release c) e = rw (release-leaves p b c (sym (release-reply p b c) ∙ e)) (unfold opsOf replayChip released in refl)
     yes′ (write q) e = let k = sym (write-reply p b q) ∙ e in rw (write-leaves p b q k, write-ops p b q k) (unfold written writeOps writtenBy in refl)
 
     go : (replyTo p b c ≡ Accepted) ⊎ (isAccepted (replyTo p b c) ≡ false) → (leaves p b c) .chip ≡ replayChip p (b .chip) (opsOf p b c)
@@ -126,6 +145,7 @@ ops-wear p b c = go (reply-cases (replyTo p b c))
     yes′ : (c : Call) → replyTo p b c ≡ Accepted → (leaves p b c) .wear ≡ replayWear (b .wear) (opsOf p b c)
     yes′ format e = let k = sym (format-reply p b) ∙ e in rw (format-leaves p b k, format-ops p b k) (unfold formatted in refl)
     yes′ (read q) e = rw (read-leaves p b q) (unfold opsOf replayWear in refl)
+    yes′ (release c) e = rw (release-leaves p b c (sym (release-reply p b c) ∙ e)) (unfold opsOf replayWear released in refl)
     yes′ (write q) e = let k = sym (write-reply p b q) ∙ e in rw (write-leaves p b q k, write-ops p b q k) (unfold written writeOps writtenBy in refl)
 
     go : (replyTo p b c ≡ Accepted) ⊎ (isAccepted (replyTo p b c) ≡ false) → (leaves p b c) .wear ≡ replayWear (b .wear) (opsOf p b c)
@@ -148,6 +168,7 @@ ops-clean p b c = go (reply-cases (replyTo p b c))
     yes′ : (c : Call) → replyTo p b c ≡ Accepted → clean p (b .chip) (opsOf p b c) ≡ true
     yes′ format e = rw (format-ops p b (sym (format-reply p b) ∙ e)) (unfold formatOps in erases-clean p (b .chip) (b .chip) (p .N))
     yes′ (read q) e = unfold opsOf clean in refl
+    yes′ (release c) e = unfold opsOf clean in refl
     yes′ (write q) e = let k = sym (write-reply p b q) ∙ e in rw (write-ops p b q k) ((write-promise p b q k) .erased)
 
     go : (replyTo p b c ≡ Accepted) ⊎ (isAccepted (replyTo p b c) ≡ false) → clean p (b .chip) (opsOf p b c) ≡ true

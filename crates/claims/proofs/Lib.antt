@@ -4,6 +4,7 @@ pub mod Programs
 pub mod Kept
 pub mod Memory
 pub mod ReplyTable
+pub mod Freed
 pub mod Condition1
 pub mod FormatCounts
 pub mod Condition2

@@ -1,4 +1,5 @@
--- What the board reads as is what the memory holds: a format blanks both, a write gives both the same bytes, and nothing else changes either.
+-- What the board reads as is what the memory holds: a format blanks both, a write gives both the same bytes, a release blanks a cluster of both, and
+-- nothing else changes either.
 -- Assumes nothing.
 use mathlib.Core.Path.{_≡_, refl, sym, ap, ap₂, _∙_}
 use mathlib.Core.Logic.{_⊎_, inl, inr}
@@ -9,7 +10,7 @@ use native.Mathlib.Decide.{ℕ-discrete, decLe, decLt}
 use mathlib.Core.Bool.{Bool, true, false, _&&_, cond}
 use mathlib.Core.List.{List, [], _∷_, _++_}
 use lib.Dec.{leb}
-use borrow.Author.Tests.{le-leb, le-ltb, lt-leb, lt-ltb}
+use borrow.Author.Tests.{eq-eqb, le-leb, le-ltb, lt-leb, lt-ltb, ne-eqb}
 use Rattle.lists.proofs.Joins.{join-cong}
 use Rattle.lists.specs.Below.{joinBelow}
 use Rattle.lists.specs.Parts.{part}
@@ -20,14 +21,16 @@ use Rattle.rules.specs.Tables.{Board}
 use Rattle.rules.specs.Regions.{sector}
 use Rattle.rules.specs.Format.{formatted}
 use Rattle.rules.specs.Write.{Request, requestCluster, written}
+use Rattle.rules.specs.Release.{released}
 use Rattle.rules.specs.Replies.{accessReply, formatReply, isAccepted}
-use Rattle.rules.specs.Calls.{Call, format, read, readBytes, write}
+use Rattle.rules.specs.Calls.{Call, format, read, readBytes, release, write}
 use Rattle.rules.proofs.Admitted.{Admitted, admitted}
 use Rattle.rules.proofs.FormatPromise.{format-reads}
 use Rattle.rules.proofs.Isolation.{index-inj}
+use Rattle.rules.proofs.Releases.{release-others, release-reads}
 use Rattle.rules.proofs.WritePromise.{Promise, write-promise}
-use Rattle.claims.specs.Runs.{Memory, blank, boardAfter, given, leaves, memoryAfter, outcomes, remember, replyTo, sectorAt}
-use Rattle.claims.proofs.Outcomes.{format-leaves, format-reply, read-leaves, refused-leaves, reply-cases, write-leaves, write-reply}
+use Rattle.claims.specs.Runs.{Memory, blank, boardAfter, cleared, given, leaves, memoryAfter, outcomes, remember, replyTo, sectorAt}
+use Rattle.claims.proofs.Outcomes.{format-leaves, format-reply, read-leaves, refused-leaves, release-leaves, release-reply, reply-cases, write-leaves, write-reply}
 
 -- ---- the memory's write
 
@@ -99,6 +102,16 @@ module _ (p : Params) (b : Board) (q : Request) (e : accessReply p b q ≡ Accep
       go (yes same) = rw same (here same (decLe (q .lba) a) (decLt a (q .lba + q .count)))
       go (no ne) = promise .others (a / p .alpha) (div-lt-iff-lt-mul sectors .1 low) ne (a % p .alpha) ∙ sym (given-out p q (sectorAt p b) a (apart ne))
 
+-- ---- the board's release
+
+pub freed : (p : Params) (b : Board) (c a : ℕ) → sectorAt p (released b c) a ≡ cleared p c (sectorAt p b) a
+unfolding sectorAt cleared blank
+freed p b c a = go (ℕ-discrete (clusterOf p a) c)
+  where
+    go : Dec (clusterOf p a ≡ c) → sectorAt p (released b c) a ≡ cleared p c (sectorAt p b) a
+    go (yes e) = rw (e, eq-eqb c c refl) (release-reads p b c (sectorOf p a))
+    go (no e) = rw (ne-eqb (clusterOf p a) c e) (release-others p b c (clusterOf p a) (sectorOf p a) e)
+
 -- ---- the two together
 
 -- each LBA of the board reads as the memory has it
@@ -109,6 +122,10 @@ given-same : (p : Params) (q : Request) (m m′ : Memory) (a : ℕ) → m a ≡ 
 unfolding given
 given-same p q m m′ a e = rw e
 
+cleared-same : (p : Params) (c : ℕ) (m m′ : Memory) (a : ℕ) → m a ≡ m′ a → cleared p c m a ≡ cleared p c m′ a
+unfolding cleared
+cleared-same p c m m′ a e = rw e
+
 pub format-agrees : (p : Params) (b : Board) → formatReply p b ≡ Accepted → Agrees p (formatted p b) (blank p)
 unfolding sectorAt blank
 format-agrees p b e a h = format-reads p b e (clusterOf p a) (sectorOf p a)
@@ -118,6 +135,8 @@ accepted-agrees : (p : Params) (b : Board) (m : Memory) (c : Call) → replyTo p
 unfolding remember
 accepted-agrees p b m format e h a low = let k = sym (format-reply p b) ∙ e in rw (format-leaves p b k) (format-agrees p b k a low)
 accepted-agrees p b m (read q) e h a low = rw (read-leaves p b q) (h a low)
+accepted-agrees p b m (release c) e h a low =
+    rw (release-leaves p b c (sym (release-reply p b c) ∙ e)) (freed p b c a ∙ cleared-same p c (sectorAt p b) m a (h a low))
 accepted-agrees p b m (write q) e h a low =
     let k = sym (write-reply p b q) ∙ e in
     rw (write-leaves p b q k) (stored p b q k a low ∙ given-same p q (sectorAt p b) m a (h a low))

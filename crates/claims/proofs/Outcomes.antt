@@ -1,4 +1,4 @@
--- What a call leaves, by its reply: an accepted format, read or write, and a refusal.
+-- What a call leaves, by its reply: an accepted format, read, write or release, and a refusal.
 -- Assumes nothing.
 use mathlib.Core.Path.{_≡_, refl, ap}
 use mathlib.Core.Logic.{_⊎_, inl, inr}
@@ -12,8 +12,9 @@ use Rattle.rules.specs.Tables.{Board}
 use Rattle.rules.specs.Traces.{Op}
 use Rattle.rules.specs.Format.{formatOps, formatted}
 use Rattle.rules.specs.Write.{Request, writeOps, written}
-use Rattle.rules.specs.Replies.{isAccepted, formatReply, accessReply}
-use Rattle.rules.specs.Calls.{Call, format, read, write, Outcome, accepts, answerOf, formatCall, outcomeOf, readBytes, readCall, refuses, writeCall}
+use Rattle.rules.specs.Release.{released}
+use Rattle.rules.specs.Replies.{isAccepted, formatReply, accessReply, releaseReply}
+use Rattle.rules.specs.Calls.{Call, format, read, write, release, Outcome, accepts, answerOf, formatCall, outcomeOf, readBytes, readCall, refuses, releaseCall, writeCall}
 use Rattle.claims.specs.Runs.{leaves, opsOf, replyTo}
 use Rattle.claims.specs.Conditions.{lent}
 
@@ -57,6 +58,10 @@ pub write-reply : (p : Params) (b : Board) (q : Request) → replyTo p b (write 
 unfolding replyTo outcomeOf writeCall
 write-reply p b q = either-reply (isAccepted (accessReply p b q)) (accessReply p b q) _ _ _ _ _
 
+pub release-reply : (p : Params) (b : Board) (c : ℕ) → replyTo p b (release c) ≡ releaseReply p b c
+unfolding replyTo outcomeOf releaseCall
+release-reply p b c = either-reply (isAccepted (releaseReply p b c)) (releaseReply p b c) _ _ _ _ _
+
 -- ---- outcomes
 
 -- the whole outcome of an accepted call, and of a refused one
@@ -72,15 +77,20 @@ pub write-accepted : (p : Params) (b : Board) (q : Request) → accessReply p b 
 unfolding outcomeOf writeCall isAccepted
 write-accepted p b q e = rw e
 
+pub release-accepted : (p : Params) (b : Board) (c : ℕ) → releaseReply p b c ≡ Accepted → outcomeOf p b (release c) ≡ accepts Accepted [] [] (released b c)
+unfolding outcomeOf releaseCall isAccepted
+release-accepted p b c e = rw e
+
 pub call-refused : (p : Params) (b : Board) (c : Call) → isAccepted (replyTo p b c) ≡ false → outcomeOf p b c ≡ refuses (replyTo p b c) (lent c) b
-unfolding outcomeOf formatCall readCall writeCall lent
+unfolding outcomeOf formatCall readCall writeCall releaseCall lent
 call-refused p b format e = rw (format-reply p b) (let k : isAccepted (formatReply p b) ≡ false = rw (format-reply p b) at e in rw k)
 call-refused p b (read q) e = rw (read-reply p b q) (let k : isAccepted (accessReply p b q) ≡ false = rw (read-reply p b q) at e in rw k)
+call-refused p b (release c) e = rw (release-reply p b c) (let k : isAccepted (releaseReply p b c) ≡ false = rw (release-reply p b c) at e in rw k)
 call-refused p b (write q) e = rw (write-reply p b q) (let k : isAccepted (accessReply p b q) ≡ false = rw (write-reply p b q) at e in rw k)
 
 -- ---- what a call leaves and does
 
--- the board and the operations of a refused call, of a format, of a read and of a write
+-- the board and the operations of a refused call, of a format, of a read, of a write and of a release
 pub refused-leaves : (p : Params) (b : Board) (c : Call) → isAccepted (replyTo p b c) ≡ false → leaves p b c ≡ b
 unfolding leaves refuses
 refused-leaves p b c e = ap (λ (o : Outcome). o .board) (call-refused p b c e)
@@ -89,6 +99,7 @@ pub refused-ops : (p : Params) (b : Board) (c : Call) → isAccepted (replyTo p 
 unfolding opsOf
 refused-ops p b format e = rw e
 refused-ops p b (read q) e = refl
+refused-ops p b (release c) e = refl
 refused-ops p b (write q) e = rw e
 
 pub format-leaves : (p : Params) (b : Board) → formatReply p b ≡ Accepted → leaves p b format ≡ formatted p b
@@ -114,3 +125,7 @@ write-leaves p b q e = ap (λ (o : Outcome). o .board) (write-accepted p b q e)
 pub write-ops : (p : Params) (b : Board) (q : Request) → accessReply p b q ≡ Accepted → opsOf p b (write q) ≡ writeOps p b q
 unfolding opsOf isAccepted
 write-ops p b q e = rw (write-reply p b q, e)
+
+pub release-leaves : (p : Params) (b : Board) (c : ℕ) → releaseReply p b c ≡ Accepted → leaves p b (release c) ≡ released b c
+unfolding leaves accepts
+release-leaves p b c e = ap (λ (o : Outcome). o .board) (release-accepted p b c e)

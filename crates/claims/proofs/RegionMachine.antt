@@ -14,18 +14,20 @@ use Rattle.lists.proofs.Tests.{so}
 use Rattle.rules.specs.declared.Params.{Params}
 use Rattle.rules.specs.declared.Reply.{Reply}
 use Rattle.rules.specs.declared.Reply.the-variants.{Accepted}
-use Rattle.rules.specs.Numbers.{sectorOf}
+use Rattle.rules.specs.Numbers.{regionOf, sectorOf}
 use Rattle.rules.specs.Tables.{Board}
 use Rattle.rules.specs.Regions.{View, sector, sectorIn, view}
 use Rattle.rules.specs.Traces.{erasesIn, programsIn}
 use Rattle.rules.specs.Write.{Request, copies, planOf, requestCluster, requestRegion, viewAfter}
-use Rattle.rules.specs.Replies.{accessReply, isAccepted}
-use Rattle.rules.specs.Calls.{Call, accepts, answerOf, format, outcomeOf, read, readBytes, refuses, write}
+use Rattle.rules.specs.Release.{without}
+use Rattle.rules.specs.Replies.{accessReply, isAccepted, releaseReply}
+use Rattle.rules.specs.Calls.{Call, accepts, answerOf, format, outcomeOf, read, readBytes, refuses, release, write}
+use Rattle.rules.proofs.Releases.{released-else, released-view}
 use Rattle.rules.proofs.WritePromise.{erasesOf, write-promise}
 use Rattle.claims.specs.Runs.{Told, answersTo, boardAfter, leaves, noFormat, replyTo, requestsTo, toRegion, told}
 use Rattle.claims.specs.Conditions.{OrderlyBoard, lent}
-use Rattle.claims.proofs.Outcomes.{call-refused, read-accepted, read-leaves, read-reply, refused-leaves, reply-cases, write-accepted, write-leaves, write-reply}
-use Rattle.claims.proofs.Kept.{orderly-kept, orderly-reply, requestReply}
+use Rattle.claims.proofs.Outcomes.{call-refused, read-accepted, read-leaves, read-reply, refused-leaves, release-accepted, release-leaves, release-reply, reply-cases, write-accepted, write-leaves, write-reply}
+use Rattle.claims.proofs.Kept.{clusterReply, orderly-kept, orderly-release, orderly-reply, requestReply}
 
 -- ---- the machine
 
@@ -43,11 +45,13 @@ answerBy p vw (write q) =
     cond (isAccepted (requestReply p q))
     (tells Accepted (p .alpha * (length (copies p vw (planOf p vw)) + 1)) (erasesOf (planOf p vw)) (q .bytes))
     (tells (requestReply p q) 0 0 (q .bytes))
+answerBy p vw (release c) = tells (clusterReply p c) 0 0 []
 
 -- its next state
 viewBy : Params → View → Call → View
 viewBy p vw format = vw
 viewBy p vw (read q) = vw
+viewBy p vw (release c) = cond (isAccepted (clusterReply p c)) (without vw c) vw
 viewBy p vw (write q) = cond (isAccepted (requestReply p q)) (viewAfter p vw q) vw
 
 -- over a list of requests
@@ -116,6 +120,38 @@ module _ (p : Params) (b : Board) (ordered : OrderlyBoard p b) where
       go (inl e) = rw (write-leaves p b q (reply ∙ e)) ((write-promise p b q (reply ∙ e)) .isolated r low (λ i. ne (sym i)))
       go (inr e) = rw (refused-leaves p b (write q) (rw (write-reply p b q, reply) e))
 
+  release-told : (c : ℕ) (vw : View) → told (outcomeOf p b (release c)) ≡ answerBy p vw (release c)
+  unfolding answerBy
+  release-told c vw = go (reply-cases (clusterReply p c))
+    where
+      reply : releaseReply p b c ≡ clusterReply p c
+      reply = orderly-release p b c ordered
+
+      go : (clusterReply p c ≡ Accepted) ⊎ (isAccepted (clusterReply p c) ≡ false) → told (outcomeOf p b (release c)) ≡ answerBy p vw (release c)
+      go (inl e) = rw (e, release-accepted p b c (reply ∙ e)) (unfold told accepts answerOf programsIn erasesIn tells in refl)
+      go (inr e) = refused-told (release c) (clusterReply p c) e (release-reply p b c ∙ reply) ∙ unfold lent in refl
+
+  release-own : (r c : ℕ) → view p (leaves p b (release c)) r ≡ viewBy p (view p b r) (release c)
+  unfolding viewBy
+  release-own r c = go (reply-cases (clusterReply p c))
+    where
+      reply : releaseReply p b c ≡ clusterReply p c
+      reply = orderly-release p b c ordered
+
+      go : (clusterReply p c ≡ Accepted) ⊎ (isAccepted (clusterReply p c) ≡ false) → view p (leaves p b (release c)) r ≡ viewBy p (view p b r) (release c)
+      go (inl e) = rw (e, release-leaves p b c (reply ∙ e)) (unfold isAccepted in released-view p b c r)
+      go (inr e) = rw (e, refused-leaves p b (release c) (rw (release-reply p b c, reply) e))
+
+  release-else : (r c : ℕ) → (regionOf p c ≡ r → ⊥) → view p (leaves p b (release c)) r ≡ view p b r
+  release-else r c ne = go (reply-cases (clusterReply p c))
+    where
+      reply : releaseReply p b c ≡ clusterReply p c
+      reply = orderly-release p b c ordered
+
+      go : (clusterReply p c ≡ Accepted) ⊎ (isAccepted (clusterReply p c) ≡ false) → view p (leaves p b (release c)) r ≡ view p b r
+      go (inl e) = rw (release-leaves p b c (reply ∙ e)) (released-else p b c r ne)
+      go (inr e) = rw (refused-leaves p b (release c) (rw (release-reply p b c, reply) e))
+
 -- ---- a run
 
 module _ (p : Params) (r : ℕ) (low : r < p .mu) where
@@ -135,6 +171,12 @@ module _ (p : Params) (r : ℕ) (low : r < p .mu) where
           → viewRun p (view p (leaves p b (write q)) r) (requestsTo p r cs) ≡ viewRun p (view p b r) (cond (eqb (requestRegion p q) r) (write q ∷ requestsTo p r cs) (requestsTo p r cs))
       go (inl e) = rw (e, write-own p b h r q (eqb-true _ _ e))
       go (inr e) = rw (e, write-else p b h r q low (eqb-false _ _ e))
+  run-view b (release c ∷ cs) h n = run-view (leaves p b (release c)) cs (orderly-kept p b (release c) h) n ∙ go (so (eqb (regionOf p c) r))
+    where
+      go : (eqb (regionOf p c) r ≡ true) ⊎ (eqb (regionOf p c) r ≡ false)
+          → viewRun p (view p (leaves p b (release c)) r) (requestsTo p r cs) ≡ viewRun p (view p b r) (cond (eqb (regionOf p c) r) (release c ∷ requestsTo p r cs) (requestsTo p r cs))
+      go (inl e) = rw (e, release-own p b h r c)
+      go (inr e) = rw (e, release-else p b h r c (eqb-false _ _ e))
 
   pub run-answers : (b : Board) (cs : List Call) → OrderlyBoard p b → noFormat cs ≡ true → answersTo p r b cs ≡ viewAnswers p (view p b r) (requestsTo p r cs)
   unfolding answersTo requestsTo viewAnswers noFormat toRegion
@@ -154,3 +196,10 @@ module _ (p : Params) (r : ℕ) (low : r < p .mu) where
           ≡ viewAnswers p (view p b r) (cond (eqb (requestRegion p q) r) (write q ∷ requestsTo p r cs) (requestsTo p r cs))
       go (inl e) below = rw (e, below, write-own p b h r q (eqb-true _ _ e), write-told p b h r q (eqb-true _ _ e))
       go (inr e) below = rw (e, below, write-else p b h r q low (eqb-false _ _ e))
+  run-answers b (release c ∷ cs) h n = go (so (eqb (regionOf p c) r)) (run-answers (leaves p b (release c)) cs (orderly-kept p b (release c) h) n)
+    where
+      go : (eqb (regionOf p c) r ≡ true) ⊎ (eqb (regionOf p c) r ≡ false) → answersTo p r (leaves p b (release c)) cs ≡ viewAnswers p (view p (leaves p b (release c)) r) (requestsTo p r cs)
+          → cond (eqb (regionOf p c) r) (told (outcomeOf p b (release c)) ∷ answersTo p r (leaves p b (release c)) cs) (answersTo p r (leaves p b (release c)) cs)
+          ≡ viewAnswers p (view p b r) (cond (eqb (regionOf p c) r) (release c ∷ requestsTo p r cs) (requestsTo p r cs))
+      go (inl e) below = rw (e, below, release-own p b h r c, release-told p b h c (view p b r))
+      go (inr e) below = rw (e, below, release-else p b h r c (eqb-false _ _ e))

@@ -9,11 +9,11 @@ use mathlib.Core.List.{List, [], _∷_, _++_}
 use Rattle.rules.specs.declared.Params.{Params}
 use Rattle.rules.specs.declared.Reply.the-variants.{Accepted}
 use Rattle.rules.specs.Tables.{Board}
-use Rattle.rules.specs.Replies.{Row, accessReply, firstRow, formatReply, numberOf}
-use Rattle.rules.specs.Calls.{Call, format, read, write}
+use Rattle.rules.specs.Replies.{Row, accessReply, firstRow, formatReply, numberOf, releaseReply}
+use Rattle.rules.specs.Calls.{Call, format, read, write, release}
 use Rattle.claims.specs.Runs.{replyTo}
 use Rattle.claims.specs.Conditions.{ByTable, accessRows, noneApplies, rowsOf}
-use Rattle.claims.proofs.Outcomes.{format-reply, read-reply, write-reply}
+use Rattle.claims.proofs.Outcomes.{format-reply, read-reply, write-reply, release-reply}
 
 -- the rows' numbers rise, from above k on
 abbrev Rising : ℕ → List Row → Type 0
@@ -89,19 +89,21 @@ by-table rows h =
       otherwise = (accepted-when 0 rows h, when-accepted rows);
     }
 
--- ---- the three calls
+-- ---- the calls
 
 rows-rise : (p : Params) (b : Board) (c : Call) → Rising 0 (rowsOf p b c)
 unfolding rowsOf accessRows
 rows-rise p b format = omega arith
 rows-rise p b (read q) = omega arith
 rows-rise p b (write q) = omega arith
+rows-rise p b (release c) = omega arith
 
 reply-first : (p : Params) (b : Board) (c : Call) → replyTo p b c ≡ firstRow (rowsOf p b c)
 unfolding rowsOf accessRows
 reply-first p b format = format-reply p b ∙ unfold formatReply in refl
 reply-first p b (read q) = read-reply p b q ∙ unfold accessReply in refl
 reply-first p b (write q) = write-reply p b q ∙ unfold accessReply in refl
+reply-first p b (release c) = release-reply p b c ∙ unfold releaseReply in refl
 
 pub reply-by-table : (p : Params) (b : Board) (c : Call) → ByTable (rowsOf p b c) (replyTo p b c)
 reply-by-table p b c = rw (reply-first p b c) (by-table (rowsOf p b c) (rows-rise p b c))

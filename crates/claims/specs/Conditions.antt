@@ -13,15 +13,17 @@ use Rattle.rules.specs.declared.Reply.{Reply}
 use Rattle.rules.specs.declared.Answer.{Answer}
 use Rattle.rules.specs.declared.Reply.the-variants.{Accepted, BadParameter, WrongLength, BadCount, BadAddress, WrongData, TooFewBlocks, NotOrderly}
 use Rattle.rules.specs.Parameters.{allowed, frames, pages}
+use Rattle.rules.specs.Numbers.{regionOf}
+use Rattle.rules.specs.Pages.{held}
 use Rattle.rules.specs.Tables.{Board, none, btEntry, bstAt}
 use Rattle.rules.specs.Regions.{View, view}
 use Rattle.rules.specs.Orderly.{orderly}
 use Rattle.rules.specs.Traces.{replayChip, replayWear, clean}
 use Rattle.rules.specs.Format.{goodBlocks}
 use Rattle.rules.specs.Write.{Request, Plan, continues, opens, reclaims, requestRegion, planOf, planFrame, planBlock, copies}
-use Rattle.rules.specs.Replies.{Row, row, lengthsFit, badParameter, wrongLength, badCount, badAddress, wrongData, tooFewBlocks, notOrderly}
-use Rattle.rules.specs.Calls.{Call, format, read, write, Outcome, outcomeOf}
-use Rattle.claims.specs.Runs.{leaves, replyTo, boardAfter, outcomes, traceOf, noPageTwice, Memory, given, memoryAfter, sectorAt, requestsTo, answersTo, noFormat}
+use Rattle.rules.specs.Replies.{Row, row, lengthsFit, badParameter, wrongLength, badCount, badAddress, badCluster, wrongData, tooFewBlocks, notOrderly}
+use Rattle.rules.specs.Calls.{Call, format, read, write, release, Outcome, outcomeOf}
+use Rattle.claims.specs.Runs.{leaves, replyTo, boardAfter, outcomes, traceOf, noPageTwice, Memory, cleared, given, memoryAfter, sectorAt, requestsTo, answersTo, noFormat}
 
 -- the parameters are allowed, the lengths fit, and the state is orderly
 pub record OrderlyBoard (p : Params) (b : Board) : Type 0 where
@@ -46,6 +48,8 @@ unfoldable pub rowsOf : Params → Board → Call → List Row
 rowsOf p b format = row (badParameter p) BadParameter ∷ row (wrongLength p b) WrongLength ∷ row (tooFewBlocks p b) TooFewBlocks ∷ []
 rowsOf p b (read q) = accessRows p b q
 rowsOf p b (write q) = accessRows p b q
+rowsOf p b (release c) =
+    row (badParameter p) BadParameter ∷ row (wrongLength p b) WrongLength ∷ row (badCluster p c) BadAddress ∷ row (notOrderly p b) NotOrderly ∷ []
 
 -- no row of a list applies
 unfoldable pub noneApplies : List Row → Bool
@@ -62,6 +66,7 @@ unfoldable pub lent : Call → List ℕ
 lent format = []
 lent (read q) = q .bytes
 lent (write q) = q .bytes
+lent (release c) = []
 
 -- "a refusal changes nothing": no byte of the board or of the lent data, and both counts are 0
 pub record Unchanged (b : Board) (was : List ℕ) (o : Outcome) : Type 0 where
@@ -101,12 +106,25 @@ pub record Stores (p : Params) (b : Board) (q : Request) (b′ : Board) : Type 0
   pub room : HasRoom p b (requestRegion p q) (planOf p (view p b (requestRegion p q)))
   pub stored : (a : ℕ) → a < p .C * p .alpha → sectorAt p b′ a ≡ given p q (sectorAt p b) a
 
--- a call on any content: its reply is the table's, refused it changes nothing, accepted it leaves order, and a write stores
+-- none of these frames holds cluster c
+unfoldable pub noneHolds : Params → ℕ → List (List ℕ) → Bool
+noneHolds p c [] = true
+noneHolds p c (x ∷ xs) = not (eqb (held p x) c) && noneHolds p c xs
+
+-- T-03: "its sectors read as 255", and every other as before; "the room comes back at reclaim": whichever virtual block is reclaimed next, no frame of
+-- the cluster is copied. "It reports 0 and 0"
+pub record Frees (p : Params) (b : Board) (c : ℕ) (o : Outcome) : Type 0 where
+  pub reads : (a : ℕ) → sectorAt p (o .board) a ≡ cleared p c (sectorAt p b) a
+  pub room : (v : ℕ) → v < p .gamma → noneHolds p c (copies p (view p (o .board) (regionOf p c)) (reclaims v)) ≡ true
+  pub counts : (o .answer .programs ≡ 0) × (o .answer .erases ≡ 0)
+
+-- a call on any content: its reply is the table's, refused it changes nothing, accepted it leaves order, a write stores, and a release frees
 pub record OfCall (p : Params) (b : Board) (c : Call) : Type 0 where
   pub reply : ByTable (rowsOf p b c) (replyTo p b c)
   pub refused : (replyTo p b c ≡ Accepted → ⊥) → Unchanged b (lent c) (outcomeOf p b c)
   pub accepted : replyTo p b c ≡ Accepted → InOrder p (leaves p b c)
   pub stores : (q : Request) → c ≡ write q → replyTo p b c ≡ Accepted → Stores p b q (leaves p b c)
+  pub frees : (n : ℕ) → c ≡ release n → replyTo p b c ≡ Accepted → Frees p b n (outcomeOf p b c)
 
 -- for every call on every content
 abbrev pub Condition1 : Type 0
@@ -129,12 +147,13 @@ pub record Counts (p : Params) (vw : View) (a : Answer) : Type 0 where
 -- a run from board b on, which leaves board b′
 pub record OfRun (p : Params) (b : Board) (run : List Call) (b′ : Board) : Type 0 where
   -- "an accepted read returns for each sector the bytes last accepted for it since the last accepted format, and all ones if there are none",
-  -- whatever the memory had before the first format
+  -- with T-03 "since the format or the last release", whatever the memory had before the first format
   pub reads : (m : Memory) (q : Request) → replyTo p b′ (read q) ≡ Accepted
       → (outcomeOf p b′ (read q)) .bytes ≡ joinBelow (q .count) (λ i. memoryAfter p m run (outcomes p b run) (q .lba + i))
-  -- and a read or write of right count, address and data length is accepted
+  -- and a read or write of right count, address and data length is accepted, as is a release of a cluster of the board
   pub accepts : (q : Request) → badCount p q ≡ false → badAddress p q ≡ false → wrongData p q ≡ false
       → (replyTo p b′ (read q) ≡ Accepted) × (replyTo p b′ (write q) ≡ Accepted)
+  pub releases : (c : ℕ) → badCluster p c ≡ false → replyTo p b′ (release c) ≡ Accepted
   -- the chip and the wear are what the run's operations make of them
   pub chip : b′ .chip ≡ replayChip p (b .chip) (traceOf p b run)
   pub wear : b′ .wear ≡ replayWear (b .wear) (traceOf p b run)

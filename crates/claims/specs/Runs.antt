@@ -11,14 +11,14 @@ use Rattle.lists.specs.Parts.{part}
 use Rattle.rules.specs.declared.Params.{Params}
 use Rattle.rules.specs.declared.Reply.{Reply}
 use Rattle.rules.specs.declared.Answer.{Answer}
-use Rattle.rules.specs.Numbers.{clusterOf, sectorOf}
+use Rattle.rules.specs.Numbers.{clusterOf, regionOf, sectorOf}
 use Rattle.rules.specs.Tables.{Board}
 use Rattle.rules.specs.Regions.{sector}
 use Rattle.rules.specs.Traces.{Op, program, erase}
 use Rattle.rules.specs.Format.{formatOps}
 use Rattle.rules.specs.Write.{Request, requestRegion, writeOps}
 use Rattle.rules.specs.Replies.{isAccepted}
-use Rattle.rules.specs.Calls.{Call, format, read, write, Outcome, outcomeOf}
+use Rattle.rules.specs.Calls.{Call, format, read, write, release, Outcome, outcomeOf}
 
 -- ---- a run
 
@@ -44,6 +44,7 @@ outcomes p b (c ∷ cs) = outcomeOf p b c ∷ outcomes p (leaves p b c) cs
 unfoldable pub opsOf : Params → Board → Call → List Op
 opsOf p b format = cond (isAccepted (replyTo p b format)) (formatOps p (b .chip)) []
 opsOf p b (read q) = []
+opsOf p b (release c) = []
 opsOf p b (write q) = cond (isAccepted (replyTo p b (write q))) (writeOps p b q) []
 
 -- those of the whole run, in order
@@ -75,13 +76,18 @@ blank p a = replicate (p .s) 255
 unfoldable pub given : Params → Request → Memory → Memory
 given p q m a = cond (leb (q .lba) a && ltb a (q .lba + q .count)) (part (p .s) (a - q .lba) (q .bytes)) (m a)
 
+-- the LBAs of a cluster have nothing
+unfoldable pub cleared : Params → ℕ → Memory → Memory
+cleared p c m a = cond (eqb (clusterOf p a) c) (blank p a) (m a)
+
 -- what an accepted call makes of it
 unfoldable pub remember : Params → Call → Memory → Memory
 remember p format m = blank p
 remember p (read q) m = m
 remember p (write q) m = given p q m
+remember p (release c) m = cleared p c m
 
--- "the bytes last accepted for it since the last accepted format", by the calls of a run and its outcomes' replies alone
+-- "the bytes last accepted for it since the last accepted format", with T-03 "since the format or the last release", by the calls of a run and its outcomes' replies alone
 unfoldable pub memoryAfter : Params → Memory → List Call → List Outcome → Memory
 memoryAfter p m [] os = m
 memoryAfter p m (c ∷ cs) [] = m
@@ -93,11 +99,12 @@ sectorAt p b a = sector p b (clusterOf p a) (sectorOf p a)
 
 -- ---- one region of a run
 
--- a read or a write counts to the region of its LBA, also where it is refused
+-- a read or a write counts to the region of its LBA, a release to that of its cluster, also where it is refused
 unfoldable pub toRegion : Params → ℕ → Call → Bool
 toRegion p r format = false
 toRegion p r (read q) = eqb (requestRegion p q) r
 toRegion p r (write q) = eqb (requestRegion p q) r
+toRegion p r (release c) = eqb (regionOf p c) r
 
 -- the requests to a region, in order
 unfoldable pub requestsTo : Params → ℕ → List Call → List Call
@@ -124,3 +131,4 @@ noFormat [] = true
 noFormat (format ∷ cs) = false
 noFormat (read q ∷ cs) = noFormat cs
 noFormat (write q ∷ cs) = noFormat cs
+noFormat (release c ∷ cs) = noFormat cs

@@ -11,18 +11,19 @@ use Rattle.rules.specs.Tables.{Board}
 use Rattle.rules.specs.Traces.{programsIn}
 use Rattle.rules.specs.Write.{Request}
 use Rattle.rules.specs.Replies.{isAccepted}
-use Rattle.rules.specs.Calls.{Call, format, read, write, answerOf, accepts, refuses, outcomeOf}
+use Rattle.rules.specs.Calls.{Call, format, read, write, release, answerOf, accepts, refuses, outcomeOf}
 use Rattle.rules.proofs.Sizes.{sizes}
 use Rattle.rules.proofs.Admitted.{admitted}
 use Rattle.rules.proofs.WritePromise.{write-promise}
 use Rattle.claims.specs.Runs.{replyTo}
-use Rattle.claims.proofs.Outcomes.{reply-cases, format-reply, read-reply, write-reply, format-accepted, read-accepted, write-accepted, call-refused}
+use Rattle.claims.proofs.Outcomes.{reply-cases, format-reply, read-reply, write-reply, release-reply, format-accepted, read-accepted, write-accepted, release-accepted, call-refused}
 use Rattle.claims.proofs.FormatCounts.{format-programs}
 
 accepted-few : (p : Params) (b : Board) (c : Call) → replyTo p b c ≡ Accepted → (outcomeOf p b c) .answer .programs < 65536
 unfolding accepts answerOf programsIn
 accepted-few p b format e = rw (format-accepted p b (sym (format-reply p b) ∙ e), format-programs p (b .chip)) (omega arith)
 accepted-few p b (read q) e = rw (read-accepted p b q (sym (read-reply p b q) ∙ e)) (omega arith)
+accepted-few p b (release c) e = rw (release-accepted p b c (sym (release-reply p b c) ∙ e)) (omega arith)
 accepted-few p b (write q) e =
     let is = sym (write-reply p b q) ∙ e in
     rw (write-accepted p b q is) (omega (arith, (write-promise p b q is) .bounded .0, (sizes p ((admitted p b q is) .fine)) .pagesHigh))

@@ -11,7 +11,7 @@ use Rattle.rules.specs.declared.Answer.{Answer}
 use Rattle.rules.specs.Tables.{Board}
 use Rattle.rules.specs.Write.{Request}
 use Rattle.rules.specs.Replies.{numberOf}
-use Rattle.rules.specs.Calls.{Outcome, format, read, write, formatCall, readCall, writeCall, outcomeOf}
+use Rattle.rules.specs.Calls.{Outcome, format, read, write, formatCall, readCall, writeCall, outcomeOf, release, releaseCall}
 use Rattle.layer.specs.Claims.{outcome}
 use Rattle.cnftl.specs.Packed.{packed, Given}
 use Rattle.cnftl.proofs.Counts.{few-programs}
@@ -68,6 +68,14 @@ module _ (p p′ : Params) (same : p ≡ p′) (a : Answer) (bytes : List ℕ) (
 
     pub write-given : outcome a bytes b′ ≡ writeCall p b q → (w : ℕ) → w ≡ packed a → Given (writeCall p′ b q) w bytes b′
     write-given e = given-in (writeCall p′ b q) a bytes b′ (e ∙ ap (λ (x : Params). writeCall x b q) same)
+
+  module _ (c : ℕ) where
+    pub release-few : outcome a bytes b′ ≡ releaseCall p b c → a .programs < 65536
+    unfolding outcomeOf
+    release-few e = few-in (outcome a bytes b′) _ e (few-programs p b (release c))
+
+    pub release-given : outcome a bytes b′ ≡ releaseCall p b c → (w : ℕ) → w ≡ packed a → Given (releaseCall p′ b c) w bytes b′
+    release-given e = given-in (releaseCall p′ b c) a bytes b′ (e ∙ ap (λ (x : Params). releaseCall x b c) same)
 
 -- what is given is given once
 pub given-once : (o : Outcome) (w w′ : ℕ) (x x′ : List ℕ) (b b′ : Board) → Given o w x b → Given o w′ x′ b′ → (w ≡ w′) × (x ≡ x′) × (b ≡ b′)

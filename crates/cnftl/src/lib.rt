@@ -1,9 +1,9 @@
-// The C interface: document 01's calls with the parameters one by one, and the answer as one number.
+// The C interface: the calls of documents 01 and 02 with the parameters one by one, and the answer as one number.
 ghost use mathlib.Core.Path.{_≡_};
 ghost use mathlib.Core.List.{List, []};
 ghost use Prim.Native.Nat.{_<_};
 ghost use Rattle.rules.specs.Tables.{boardOf};
-ghost use Rattle.rules.specs.Calls.{formatCall, readCall, writeCall};
+ghost use Rattle.rules.specs.Calls.{formatCall, readCall, writeCall, releaseCall};
 ghost use Rattle.reading.specs.Sectors.{requestOf};
 ghost use Rattle.cnftl.specs.Packed.{paramsOf, packed, Given};
 use rules::Answer;
@@ -110,4 +110,29 @@ pub extern "C" fn cnftl_write(
 {
     let p = params(s, alpha, beta, d, mu, gamma, c, n);
     pack(layer::write(p, chip, ct, bt, fst, bst, wear, lba, count, bytes))
+}
+
+// Document 02's release of one cluster.
+#[no_mangle]
+pub extern "C" fn cnftl_release(
+    s: u32,
+    alpha: u32,
+    beta: u32,
+    d: u32,
+    mu: u32,
+    gamma: u32,
+    c: u32,
+    n: u32,
+    chip: &[u8],
+    ct: &mut [u16],
+    bt: &[u16],
+    fst: &[u16],
+    bst: &[u8],
+    wear: &[u32],
+    cluster: u32,
+) -> u64
+    ensures { λ word. ⌜ Given (releaseCall (paramsOf s alpha beta d mu gamma c n) (boardOf (now (chip .entry)) (now (ct .entry)) (now (bt .entry)) (now (fst .entry)) (now (bst .entry)) (now (wear .entry))) cluster) word [] (boardOf (now (chip .entry)) (now (ct .exit)) (now (bt .entry)) (now (fst .entry)) (now (bst .entry)) (now (wear .entry))) ⌝ }
+{
+    let p = params(s, alpha, beta, d, mu, gamma, c, n);
+    pack(layer::release(p, chip, ct, bt, fst, bst, wear, cluster))
 }

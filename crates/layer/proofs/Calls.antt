@@ -5,7 +5,7 @@ use mathlib.Core.Bool.{Bool, true, false, cond}
 use mathlib.Core.List.{List, []}
 use Prim.Native.Nat.{ℕ, _*_, _≤_, _<_}
 use native.Mathlib.Omega.{arith}
-use lib.ListN.{length, replicate}
+use lib.ListN.{length, replicate, set}
 use borrow.Author.Tests.{eqb-true}
 use Rattle.lists.proofs.Tests.{truths}
 use Rattle.rules.specs.declared.Params.{Params}
@@ -16,14 +16,15 @@ use Rattle.rules.specs.Parameters.{blockBytes}
 use Rattle.rules.specs.Tables.{Board, boardOf, none}
 use Rattle.rules.specs.Format.{formatted}
 use Rattle.rules.specs.Write.{Request, writeOps, written}
-use Rattle.rules.specs.Replies.{numberOf, isAccepted, lengthsFit, formatReply, accessReply}
-use Rattle.rules.specs.Calls.{Outcome, Call, format, read, write, answerOf, accepts, refuses, formatCall, readBytes, readCall, writeCall, outcomeOf}
+use Rattle.rules.specs.Release.{released}
+use Rattle.rules.specs.Replies.{numberOf, isAccepted, lengthsFit, formatReply, accessReply, releaseReply}
+use Rattle.rules.specs.Calls.{Outcome, Call, format, read, write, release, answerOf, accepts, refuses, formatCall, readBytes, readCall, writeCall, releaseCall, outcomeOf}
 use Rattle.rules.proofs.Sizes.{sizes}
 use Rattle.rules.proofs.TableFacts.{chip-size}
-use Rattle.rules.proofs.Admitted.{FormatAdmitted, format-admitted, admitted}
+use Rattle.rules.proofs.Admitted.{FormatAdmitted, format-admitted, admitted, release-admitted}
 use Rattle.claims.specs.Runs.{replyTo}
 use Rattle.claims.specs.Conditions.{lent}
-use Rattle.claims.proofs.Outcomes.{is-refused, format-reply, read-reply, write-reply, format-accepted, read-accepted, call-refused}
+use Rattle.claims.proofs.Outcomes.{is-refused, format-reply, read-reply, write-reply, release-reply, format-accepted, read-accepted, release-accepted, call-refused}
 use Rattle.claims.proofs.FormatCounts.{format-programs}
 use Rattle.formatting.specs.Blocks.{BlocksAsked, BlocksDone}
 use Rattle.reading.specs.Sectors.{ReadAsked, requestOf}
@@ -130,6 +131,28 @@ module _ (p : Params) (b : Board) (q : Request) (r : Reply) (e : r ≡ accessRep
     unfolding accepts outcomeOf
     read-done bytes d a is =
         (λ i. record { answer = (is ∙ ap (λ (x : Reply). answerOf x []) (accepted-by r n m z)) i; bytes = d i; board = b }) ∙ sym (read-accepted p b q access-is)
+
+-- ---- release
+
+module _ (p : Params) (b : Board) (c : ℕ) (r : Reply) (e : r ≡ releaseReply p b c) (n : ℕ) (m : n ≡ numberOf r) where
+  pub release-refused : (n ≡ 0 → ⊥) → (a : Answer) → a ≡ answerOf r [] → outcome a [] b ≡ releaseCall p b c
+  unfolding outcomeOf lent
+  release-refused ne a is = refused-by p b (release c) r (e ∙ sym (release-reply p b c)) n m ne a is
+
+  module _ (z : n ≡ 0) where
+    release-is : releaseReply p b c ≡ Accepted
+    release-is = sym e ∙ accepted-by r n m z
+
+    pub entry-there : c < length (b .ct)
+    entry-there =
+        let a = release-admitted p b c release-is in
+        rw ((whole p b (a .lengths)) .ctLength) (a .cluster)
+
+    pub release-done : (ct : List ℕ) → ct ≡ set (b .ct) c none → (a : Answer) → a ≡ answerOf r [] → outcome a [] (boardOf (b .chip) ct (b .bt) (b .fst) (b .bst) (b .wear)) ≡ releaseCall p b c
+    unfolding accepts released outcomeOf
+    release-done ct is a ans =
+        (λ i. record { answer = (ans ∙ ap (λ (x : Reply). answerOf x []) (accepted-by r n m z)) i; bytes = []; board = record { chip = b .chip; ct = is i; bt = b .bt; fst = b .fst; bst = b .bst; wear = b .wear } })
+        ∙ sym (release-accepted p b c release-is)
 
 -- a write leaves the lent data as it was
 data-kept : (p : Params) (b : Board) (q : Request) → (writeCall p b q) .bytes ≡ q .bytes

@@ -1,13 +1,14 @@
-// Document 01's three calls on the lent chip and tables. None has a `requires`: each contract says that the whole outcome is the rules', for every input.
+// The calls on the lent chip and tables: document 01's three, and document 02's release. None has a `requires`: each contract says that the whole outcome is the rules', for every input.
 ghost use mathlib.Core.Path.{_≡_};
 ghost use mathlib.Core.List.{List, []};
 ghost use Rattle.rules.specs.Tables.{boardOf};
-ghost use Rattle.rules.specs.Calls.{formatCall, readCall, writeCall};
+ghost use Rattle.rules.specs.Calls.{formatCall, readCall, writeCall, releaseCall};
 ghost use Rattle.reading.specs.Sectors.{requestOf};
 ghost use Rattle.layer.specs.Claims.{outcome};
 use rules::Answer;
+use rules::Cluster;
 use rules::Params;
-use rules::Reply;
+use rules::Segment;
 
 // The bad blocks become reserved, all others are erased and free, and every table entry becomes none.
 pub fn format(
@@ -90,4 +91,25 @@ pub fn write(
         count as usize,
         bytes,
     )
+}
+
+// The cluster's CT entry becomes none: its sectors read as 255 from now on, and no reclaim copies its frames.
+pub fn release(
+    p: Params,
+    chip: &[u8],
+    ct: &mut [u16],
+    bt: &[u16],
+    fst: &[u16],
+    bst: &[u8],
+    wear: &[u32],
+    cluster: u32,
+) -> Answer
+    ensures { λ a. ⌜ outcome a [] (boardOf (now (chip .entry)) (now (ct .exit)) (now (bt .entry)) (now (fst .entry)) (now (bst .entry)) (now (wear .entry))) ≡ releaseCall p (boardOf (now (chip .entry)) (now (ct .entry)) (now (bt .entry)) (now (fst .entry)) (now (bst .entry)) (now (wear .entry))) cluster ⌝ }
+{
+    let reply = replies::release_reply(p, chip, ct, bt, fst, bst, wear, cluster);
+    if rules::number(reply) != 0 {
+        return replies::idle(reply);
+    }
+    tables::set_ct(ct, Cluster(cluster as usize), Segment(65535));
+    replies::idle(reply)
 }

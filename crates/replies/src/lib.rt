@@ -1,13 +1,16 @@
-// Document 01, "Reply numbers": the rows of a format, and those of a read and of a write, checked in the table's order.
+// Document 01, "Reply numbers": the rows of each call, checked in the table's order.
 ghost use mathlib.Core.Path.{_≡_};
 ghost use mathlib.Core.Bool.{true};
-ghost use mathlib.Core.List.{[]};
+ghost use mathlib.Core.List.{List, []};
+ghost use Prim.Native.Nat.{ℕ};
 ghost use lib.ListN.{length};
 ghost use Rattle.rules.specs.Parameters.{allowed};
 ghost use Rattle.rules.specs.Tables.{boardOf};
 ghost use Rattle.rules.specs.Write.{Request};
-ghost use Rattle.rules.specs.Replies.{badCount, badAddress, wrongData, formatReply, accessReply};
+ghost use Rattle.rules.specs.Replies.{badCount, badAddress, badCluster, wrongData, formatReply, accessReply, releaseReply};
 ghost use Rattle.rules.specs.Calls.{answerOf};
+ghost use Rattle.agree.specs.Check.{Lengths};
+ghost use Rattle.replies.specs.Rows.{boardReply, stateReply};
 use rules::Answer;
 use rules::Params;
 use rules::Reply;
@@ -39,6 +42,53 @@ fn wrong_data(p: Params, count: u32, len: usize) -> bool
     len != count as usize * p.s
 }
 
+// Is a cluster not below C? Reply 4 of a release if so.
+fn bad_cluster(p: Params, c: u32) -> bool
+    ensures { λ bad. ⌜ bad ≡ badCluster p c ⌝ }
+{
+    p.C <= c as usize
+}
+
+// The reply by the parameters and the lengths: 1 or 2, else 0.
+fn board_reply(
+    p: Params,
+    chip: &[u8],
+    ct: &[u16],
+    bt: &[u16],
+    fst: &[u16],
+    bst: &[u8],
+    wear: &[u32],
+) -> Reply
+    ensures { λ r. ⌜ r ≡ boardReply p (boardOf (now (chip .entry)) (now (ct .entry)) (now (bt .entry)) (now (fst .entry)) (now (bst .entry)) (now (wear .entry))) ⌝ }
+{
+    if !sizes::parameters_allowed(p) {
+        return Reply::BadParameter;
+    }
+    if !sizes::lengths_fit(
+        p,
+        chip.len(),
+        ct.len(),
+        bt.len(),
+        fst.len(),
+        bst.len(),
+        wear.len(),
+    ) {
+        return Reply::WrongLength;
+    }
+    Reply::Accepted
+}
+
+// The reply by the state: 7, else 0.
+fn state_reply(p: Params, chip: &[u8], ct: &[u16], bt: &[u16], fst: &[u16], bst: &[u8]) -> Reply
+    requires { ⌜ Lengths p (now chip) (now ct) (now bt) (now fst) (now bst) ⌝ }
+    ensures { λ r. ⌜ ((wear : List ℕ) → r ≡ stateReply p (boardOf (now (chip .entry)) (now (ct .entry)) (now (bt .entry)) (now (fst .entry)) (now (bst .entry)) wear)) ⌝ }
+{
+    if !state::is_orderly(p, chip, ct, bt, fst, bst) {
+        return Reply::NotOrderly;
+    }
+    Reply::Accepted
+}
+
 // The reply to a read or a write of `count` sectors from LBA on, with `len` bytes of data.
 pub fn access_reply(
     p: Params,
@@ -54,19 +104,9 @@ pub fn access_reply(
 ) -> Reply
     ensures { λ r. ⌜ ((q : Request) → q .lba ≡ lba → q .count ≡ count → length (q .bytes) ≡ len → r ≡ accessReply p (boardOf (now (chip .entry)) (now (ct .entry)) (now (bt .entry)) (now (fst .entry)) (now (bst .entry)) (now (wear .entry))) q) ⌝ }
 {
-    if !sizes::parameters_allowed(p) {
-        return Reply::BadParameter;
-    }
-    if !sizes::lengths_fit(
-        p,
-        chip.len(),
-        ct.len(),
-        bt.len(),
-        fst.len(),
-        bst.len(),
-        wear.len(),
-    ) {
-        return Reply::WrongLength;
+    let head = board_reply(p, chip, ct, bt, fst, bst, wear);
+    if rules::number(head) != 0 {
+        return head;
     }
     if bad_count(p, lba, count) {
         return Reply::BadCount;
@@ -77,10 +117,30 @@ pub fn access_reply(
     if wrong_data(p, count, len) {
         return Reply::WrongData;
     }
-    if !state::is_orderly(p, chip, ct, bt, fst, bst) {
-        return Reply::NotOrderly;
+    state_reply(p, chip, ct, bt, fst, bst)
+}
+
+// The reply to a release of cluster c.
+pub fn release_reply(
+    p: Params,
+    chip: &[u8],
+    ct: &[u16],
+    bt: &[u16],
+    fst: &[u16],
+    bst: &[u8],
+    wear: &[u32],
+    c: u32,
+) -> Reply
+    ensures { λ r. ⌜ r ≡ releaseReply p (boardOf (now (chip .entry)) (now (ct .entry)) (now (bt .entry)) (now (fst .entry)) (now (bst .entry)) (now (wear .entry))) c ⌝ }
+{
+    let head = board_reply(p, chip, ct, bt, fst, bst, wear);
+    if rules::number(head) != 0 {
+        return head;
     }
-    Reply::Accepted
+    if bad_cluster(p, c) {
+        return Reply::BadAddress;
+    }
+    state_reply(p, chip, ct, bt, fst, bst)
 }
 
 // The reply to a format.
@@ -95,19 +155,9 @@ pub fn format_reply(
 ) -> Reply
     ensures { λ r. ⌜ r ≡ formatReply p (boardOf (now (chip .entry)) (now (ct .entry)) (now (bt .entry)) (now (fst .entry)) (now (bst .entry)) (now (wear .entry))) ⌝ }
 {
-    if !sizes::parameters_allowed(p) {
-        return Reply::BadParameter;
-    }
-    if !sizes::lengths_fit(
-        p,
-        chip.len(),
-        ct.len(),
-        bt.len(),
-        fst.len(),
-        bst.len(),
-        wear.len(),
-    ) {
-        return Reply::WrongLength;
+    let head = board_reply(p, chip, ct, bt, fst, bst, wear);
+    if rules::number(head) != 0 {
+        return head;
     }
     if formatting::count_good(p, chip) < p.mu * p.gamma + 1 {
         return Reply::TooFewBlocks;

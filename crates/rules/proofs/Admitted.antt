@@ -20,7 +20,7 @@ use Rattle.rules.specs.Regions.{view, viewOf}
 use Rattle.rules.specs.Orderly.{blocksRule, clusterRule, ctRule, fstRule, orderly, regionBlocks, regionFst, rulesOf}
 use Rattle.rules.specs.Format.{goodBlocks}
 use Rattle.rules.specs.Write.{Request, requestCluster}
-use Rattle.rules.specs.Replies.{accessReply, badAddress, badCount, badParameter, firstRow, formatReply, lengthsFit, notOrderly, numberOf, tooFewBlocks, wrongData, wrongLength}
+use Rattle.rules.specs.Replies.{accessReply, badAddress, badCluster, badCount, badParameter, firstRow, formatReply, lengthsFit, notOrderly, numberOf, releaseReply, tooFewBlocks, wrongData, wrongLength}
 use Rattle.rules.proofs.RegionFacts.{regionOrderly}
 use Rattle.rules.proofs.Sizes.{Sizes, sizes}
 use Rattle.rules.proofs.TableFacts.{Tables, orderly-out, tables-in}
@@ -131,3 +131,19 @@ format-admitted p b e =
     let l = passed (wrongLength p b) _ _ (λ x. omega arith) (a .1) in
     let g = passed (tooFewBlocks p b) _ _ (λ x. omega arith) (l .1) in
     record { fine = not-false _ (a .0); lengths = not-false _ (l .0); enough = ltb-false _ _ (g .0) }
+
+-- what an accepted release has
+pub record ReleaseAdmitted (p : Params) (b : Board) (c : ℕ) : Type 0 where
+  pub fine : allowed p ≡ true
+  pub lengths : lengthsFit p b ≡ true
+  pub cluster : c < p .C
+  pub tidy : orderly p b ≡ true
+
+pub release-admitted : (p : Params) (b : Board) (c : ℕ) → releaseReply p b c ≡ Accepted → ReleaseAdmitted p b c
+unfolding releaseReply firstRow badParameter wrongLength badCluster notOrderly
+release-admitted p b c e =
+    let a = passed (badParameter p) _ _ (λ x. omega arith) e in
+    let l = passed (wrongLength p b) _ _ (λ x. omega arith) (a .1) in
+    let i = passed (badCluster p c) _ _ (λ x. omega arith) (l .1) in
+    let o = passed (notOrderly p b) _ _ (λ x. omega arith) (i .1) in
+    record { fine = not-false _ (a .0); lengths = not-false _ (l .0); cluster = leb-false _ _ (i .0); tidy = not-false _ (o .0) }

@@ -22,4 +22,5 @@ pub mod Reclaims
 pub mod Writes
 pub mod WritePromise
 pub mod FormatPromise
+pub mod Releases
 pub mod Totals

@@ -14,7 +14,7 @@ use Rattle.rules.specs.Tables.{Board, ctAt, btAt, bstAt, wearAt}
 use Rattle.rules.specs.Regions.{view}
 use Rattle.rules.specs.Write.{Request, requestRegion, Plan, continues, opens, reclaims, planOf}
 use Rattle.rules.specs.Replies.{numberOf, isAccepted, formatReply, accessReply}
-use Rattle.rules.specs.Calls.{Outcome, Call, format, read, write, outcomeOf}
+use Rattle.rules.specs.Calls.{Outcome, Call, format, read, write, release, outcomeOf}
 
 -- "s=16, α=2, β=1, d=2, μ=2, γ=2, C=6, N=5", with C and N open
 unfoldable pub paramsT : ℕ → ℕ → Params
@@ -56,6 +56,7 @@ inputT =
 unfoldable pub printed : Call → Outcome → List ℕ
 printed format o = numberOf (o .answer .reply) ∷ o .answer .programs ∷ o .answer .erases ∷ []
 printed (write q) o = numberOf (o .answer .reply) ∷ o .answer .programs ∷ o .answer .erases ∷ []
+printed (release c) o = numberOf (o .answer .reply) ∷ o .answer .programs ∷ o .answer .erases ∷ []
 printed (read q) o = numberOf (o .answer .reply) ∷ cond (isAccepted (o .answer .reply)) (o .bytes) []
 
 unfoldable pub sessionFrom : Board → List Call → List (List ℕ)

@@ -1,4 +1,4 @@
--- The three calls, each by its whole outcome: the answer, the lent data, the chip and the tables, refusals included.
+-- The calls, each by its whole outcome: the answer, the lent data, the chip and the tables, refusals included.
 -- Assumes nothing.
 use Prim.Native.Nat.{ℕ, _+_}
 use mathlib.Core.Bool.{cond}
@@ -13,7 +13,8 @@ use Rattle.rules.specs.Regions.{sector}
 use Rattle.rules.specs.Traces.{Op, programsIn, erasesIn}
 use Rattle.rules.specs.Format.{formatOps, formatted}
 use Rattle.rules.specs.Write.{Request, requestCluster, writeOps, written}
-use Rattle.rules.specs.Replies.{isAccepted, formatReply, accessReply}
+use Rattle.rules.specs.Release.{released}
+use Rattle.rules.specs.Replies.{isAccepted, formatReply, accessReply, releaseReply}
 
 -- "An answer is one record that holds the reply, with its number, and both counts"
 unfoldable pub answerOf : Reply → List Op → Answer
@@ -54,18 +55,26 @@ writeCall p b q =
     let r = accessReply p b q in
     cond (isAccepted r) (accepts r (writeOps p b q) (q .bytes) (written p b q)) (refuses r (q .bytes) b)
 
+-- T-03: "It reports 0 and 0"
+unfoldable pub releaseCall : Params → Board → ℕ → Outcome
+releaseCall p b c =
+    let r = releaseReply p b c in
+    cond (isAccepted r) (accepts r [] [] (released b c)) (refuses r [] b)
+
 -- the calls as one type, of which a run is a list
 pub data Call : Type 0 where
   format : Call
   read : Request → Call
   write : Request → Call
+  release : ℕ → Call
 
 unfoldable pub outcomeOf : Params → Board → Call → Outcome
 outcomeOf p b format = formatCall p b
 outcomeOf p b (read q) = readCall p b q
 outcomeOf p b (write q) = writeCall p b q
+outcomeOf p b (release c) = releaseCall p b c
 
 -- every definition of this file, for an `unfolding` line
 unfoldable pub all-calls : Unit {0}
-unfolding answerOf accepts refuses formatCall readBytes readCall writeCall outcomeOf
+unfolding answerOf accepts refuses formatCall readBytes readCall writeCall releaseCall outcomeOf
 all-calls = tt

@@ -7,6 +7,7 @@ pub mod Orderly
 pub mod Traces
 pub mod Format
 pub mod Write
+pub mod Release
 pub mod Replies
 pub mod Calls
 pub mod BoardT

@@ -1,4 +1,4 @@
--- Document 01, "Reply numbers": the table, row by row, and its order.
+-- Document 01, "Reply numbers": the table, row by row, and its order; and the rows that document 02's calls have.
 -- Assumes nothing.
 use Prim.Native.Nat.{ℕ, _+_, _*_}
 use mathlib.Core.Bool.{Bool, not, _||_, cond}
@@ -58,6 +58,10 @@ badCount p q = eqb (q .count) 0 || ltb (p .alpha) (sectorOf p (q .lba) + q .coun
 unfoldable pub badAddress : Params → Request → Bool
 badAddress p q = leb (p .C * p .alpha) (q .lba)
 
+-- T-03: "4 for a cluster not below C"
+unfoldable pub badCluster : Params → ℕ → Bool
+badCluster p c = leb (p .C) c
+
 -- 5: "data length is not count × s"
 unfoldable pub wrongData : Params → Request → Bool
 wrongData p q = not (eqb (length (q .bytes)) (q .count * p .s))
@@ -99,7 +103,12 @@ accessReply p b q =
     ∷ row (notOrderly p b) NotOrderly
     ∷ [])
 
+-- T-03: "Refusals: 1, 2, then 4 for a cluster not below C, then 7"
+unfoldable pub releaseReply : Params → Board → ℕ → Reply
+releaseReply p b c =
+    firstRow (row (badParameter p) BadParameter ∷ row (wrongLength p b) WrongLength ∷ row (badCluster p c) BadAddress ∷ row (notOrderly p b) NotOrderly ∷ [])
+
 -- every definition of this file, for an `unfolding` line
 unfoldable pub all-replies : Unit {0}
-unfolding isAccepted lengthsFit badParameter wrongLength badCount badAddress wrongData tooFewBlocks notOrderly firstRow formatReply accessReply
+unfolding isAccepted lengthsFit badParameter wrongLength badCount badAddress badCluster wrongData tooFewBlocks notOrderly firstRow formatReply accessReply releaseReply
 all-replies = tt

@@ -1,0 +1,28 @@
+-- `cnftl::cnftl_release`: the layer's release, its answer packed.
+-- Assumes nothing.
+use borrow.Author.Needs.{needs}
+use Rattle.rules.specs.Tables.{Board, boardOf}
+use Rattle.cnftl.proofs.Words.{release-few, release-given}
+use Rattle.cnftl.proofs.cnftl_release.Statement.{statement}
+use Rattle.cnftl.proofs.cnftl_release.Tie as tie
+
+abbrev board : tie.Start → Board
+board a = boardOf (a .args .chip .now) (a .args .ct .now) (a .args .bt .now) (a .args .fst .now) (a .args .bst .now) (a .args .wear .now)
+
+params-requires : tie.Need-params-requires
+params-requires c κs = search needs
+
+release-requires : tie.Need-release-requires
+release-requires c κs = search needs
+
+pack-requires : tie.Need-pack-requires
+pack-requires c κs = release-few _ _ (c .before .before .before .before .params .ensures) _ _ (board (c .before .before .before .before .before .before .before .before .before .before .before)) _ _ (c .before .before .release .ensures)
+
+same-length : tie.Need-same-length
+same-length c = search needs
+
+returns : tie.Need-returns
+returns c = release-given _ _ (c .before .before .before .before .before .params .ensures) _ _ (board (c .before .before .before .before .before .before .before .before .before .before .before .before)) _ _ (c .before .before .before .release .ensures) _ (c .pack .ensures)
+
+pub cnftl-release-spec : {M : Type 1} → statement M
+cnftl-release-spec = tie.close (tie.spec params-requires release-requires pack-requires same-length returns)
