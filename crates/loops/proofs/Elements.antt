@@ -1,4 +1,4 @@
--- A loop over the elements of a list: what one turn adds to the test that all are 255, to the comparison of two lists and to a copy.
+-- A loop over the elements of a list: what one turn adds to the test that all are 255 and to a copy.
 -- Assumes nothing.
 use mathlib.Core.Path.{ap, refl, sym, _∙_, _≡_}
 use mathlib.Core.Logic.{⊎-elim}
@@ -10,10 +10,10 @@ use native.Mathlib.Numerals.{add-one}
 use native.Mathlib.Omega.{arith}
 use lib.Bits.{and-le-l, and-le-r, bitAnd}
 use lib.Dec.{eqb}
-use lib.ListN.{drop, getD, length, length-take, set, take, take-append-drop}
+use lib.ListN.{drop, getD, length, set, take, take-append-drop}
 use lib.Seq.{append-snoc, drop-cons, drop-drop, length-take-le, set-at, take-add, take-all, take-suc, take-suc-set}
-use borrow.Author.Tests.{eq-eqb, ne-eqb}
-use Rattle.lists.specs.Parts.{allAre, part, sameList}
+use borrow.Author.Tests.{ne-eqb}
+use Rattle.lists.specs.Parts.{allAre, part}
 
 -- ---- every element is x
 
@@ -103,31 +103,6 @@ unfolding part
 part-from w h i s =
     let e : (h + i) * w ≡ h * w + i * w = add-mul h i w in
     rw (e, drop-drop (i * w) (h * w) s)
-
--- ---- two lists are the same
-
-same-append : (a b : List ℕ) (x y : ℕ) → length a ≡ length b → sameList (a ++ (x ∷ [])) (b ++ (y ∷ [])) ≡ sameList a b && eqb x y
-unfolding sameList
-same-append [] [] x y h = and-true (eqb x y)
-same-append [] (w ∷ b) x y h = absurd (omega arith)
-same-append (v ∷ a) [] x y h = absurd (omega arith)
-same-append (v ∷ a) (w ∷ b) x y h = rw (same-append a b x y (omega arith)) (sym (and-assoc (eqb v w) (sameList a b) (eqb x y)))
-
-same-step : (a b : List ℕ) (i : ℕ) → i < length a → i < length b → sameList (take (i + 1) a) (take (i + 1) b) ≡ sameList (take i a) (take i b) && eqb (getD a i 0) (getD b i 0)
-same-step a b i h k = rw (add-one, take-suc a i 0, take-suc b i 0) (same-append (take i a) (take i b) (getD a i 0) (getD b i 0) (simp length-take (omega arith)))
-
-pub same-none : (a b : List ℕ) → true ≡ sameList (take 0 a) (take 0 b)
-unfolding sameList
-same-none a b = refl
-
-pub same-no : (a b : List ℕ) (i : ℕ) → i < length a → i < length b → (getD a i 0 ≡ getD b i 0 → ⊥) → false ≡ sameList (take (i + 1) a) (take (i + 1) b)
-same-no a b i h k n = rw (same-step a b i h k, ne-eqb (getD a i 0) (getD b i 0) n, and-false)
-
-pub same-yes : (a b : List ℕ) (i : ℕ) (ok : Bool) → i < length a → i < length b → ok ≡ sameList (take i a) (take i b) → getD a i 0 ≡ getD b i 0 → ok ≡ sameList (take (i + 1) a) (take (i + 1) b)
-same-yes a b i ok h k e n = rw (same-step a b i h k, eq-eqb (getD a i 0) (getD b i 0) n, and-true) e
-
-pub same-done : (a b : List ℕ) (i : ℕ) (ok : Bool) → length a ≤ i → length b ≤ i → ok ≡ sameList (take i a) (take i b) → ok ≡ sameList a b
-same-done a b i ok h k e = rw (take-all i a h, take-all i b k) at e
 
 -- ---- a copy and a fill
 

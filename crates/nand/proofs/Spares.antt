@@ -28,10 +28,15 @@ spare-is p fr j = drop-take (p .s) 16 (drop (j * (p .s + 16)) fr)
 pub spare-at : (p : Params) (fr : List ℕ) (k z : ℕ) → k < 16 → getD (spare p fr 0) k z ≡ getD fr (p .s + k) z
 spare-at p fr k z h = rw (spare-is, getD-take 16 _ k z h, getD-drop, zero-mul)
 
+-- four bytes from a on, low byte first
+pub four-bytes : (a : ℕ) (l : List ℕ) → le32 (drop a l) ≡ getD l a 0 + 256 * getD l (a + 1) 0 + 65536 * getD l (a + 2) 0 + 16777216 * getD l (a + 3) 0
+unfolding le32
+four-bytes a l = rw (getD-drop a l 0 0, getD-drop a l 1 0, getD-drop a l 2 0, getD-drop a l 3 0, add-zero)
+
 -- the cluster, from the first four bytes of the first spare area
-pub held-is : (p : Params) (fr : List ℕ) → held p fr ≡ getD fr (p .s) 0 + 256 * getD fr (p .s + 1) 0 + 65536 * getD fr (p .s + 2) 0 + 16777216 * getD fr (p .s + 3) 0
+pub held-is : (p : Params) (fr : List ℕ) → held p fr ≡ le32 (drop (p .s) fr)
 unfolding held le32
-held-is p fr = rw (spare-at p fr 0 0 (omega arith), spare-at p fr 1 0 (omega arith), spare-at p fr 2 0 (omega arith), spare-at p fr 3 0 (omega arith), add-zero)
+held-is p fr = rw (four-bytes (p .s) fr, spare-at p fr 0 0 (omega arith), spare-at p fr 1 0 (omega arith), spare-at p fr 2 0 (omega arith), spare-at p fr 3 0 (omega arith), add-zero)
 
 -- whether it is programmed, from byte 6
 pub programmed-is : (p : Params) (fr : List ℕ) → p .s + 6 < length fr → programmed p fr ≡ eqb (getD fr (p .s + 6) 0) 0

@@ -6,8 +6,9 @@ ghost use Prim.Native.Nat.{_+_, _*_, _<_, _≤_};
 ghost use lib.ListN.{length, take, drop, replicate};
 ghost use Rattle.lists.specs.Parts.{part, putPart, allAre, sameList};
 ghost use Rattle.rules.specs.Parameters.{allowed, frameBytes};
-ghost use Rattle.rules.specs.Pages.{spare, spareBytes, held, programmed};
+ghost use Rattle.rules.specs.Pages.{le32, spare, spareBytes, held, programmed};
 ghost use Rattle.nand.specs.Asked.{Blank, CopyAsked};
+ghost use Rattle.nand.specs.Words.{le};
 use rules::Cluster;
 use rules::PBlock;
 use rules::Params;
@@ -60,22 +61,6 @@ pub fn are_erased(pages: &[u8], w: usize, k: usize) -> bool
     is_erased(&pages[z..])
 }
 
-// Are two lists of one length the same?
-fn same(a: &[u8], b: &[u8]) -> bool
-    requires { ⌜ length (now a) ≡ length (now b) ⌝ }
-    ensures { λ ok. ⌜ ok ≡ sameList (now (a .entry)) (now (b .entry)) ⌝ }
-{
-    let mut ok = true;
-    let mut i = 0;
-    while i < a.len() {
-        if a[i] != b[i] {
-            ok = false;
-        }
-        i += 1;
-    }
-    ok
-}
-
 // The spare bytes of a programmed page: its cluster, low byte first, and the sector's place in it; byte 5 stays 255, byte 6 is zero.
 fn spare_bytes(c: Cluster, place: u8) -> [u8; 16]
     ensures { λ b. ⌜ b ≡ spareBytes (c .0) place ⌝ }
@@ -107,6 +92,35 @@ fn wide(x: u8) -> usize
     x as usize
 }
 
+// The four bytes of a lent part from byte a on, as a number, low byte first: one load.
+fn half(part: &[u8], a: usize) -> usize
+    requires { ⌜ a + 4 ≤ length (now part) ⌝ }
+    ensures { λ n. ⌜ n ≡ le32 (drop a (now (part .entry))) ⌝ }
+    ensures { λ n. ⌜ n < 4294967296 ⌝ }
+{
+    wide(part[a])
+        + 256 * wide(part[a + 1])
+        + 65536 * wide(part[a + 2])
+        + 16777216 * wide(part[a + 3])
+}
+
+// Eight bytes as a number, low byte first: one load, so that eight bytes are compared at once.
+fn word(part: &[u8]) -> usize
+    requires { ⌜ length (now part) ≡ 8 ⌝ }
+    ensures { λ n. ⌜ n ≡ le (now (part .entry)) ⌝ }
+{
+    half(part, 0) + 4294967296 * half(part, 4)
+}
+
+// Are these 16 bytes and those the same? Two words each.
+fn same(a: &[u8], b: &[u8]) -> bool
+    requires { ⌜ length (now a) ≡ 16 ⌝ }
+    requires { ⌜ length (now b) ≡ 16 ⌝ }
+    ensures { λ ok. ⌜ ok ≡ sameList (now (a .entry)) (now (b .entry)) ⌝ }
+{
+    (word(&a[..8]) == word(&b[..8])) & (word(&a[8..]) == word(&b[8..]))
+}
+
 // The cluster that a frame's first page names.
 pub fn cluster_in(p: Params, frame: &[u8]) -> Cluster
     requires { ⌜ allowed p ≡ true ⌝ }
@@ -114,11 +128,7 @@ pub fn cluster_in(p: Params, frame: &[u8]) -> Cluster
     ensures { λ c. ⌜ c .0 ≡ held p (now (frame .entry)) ⌝ }
     ensures { λ c. ⌜ c .0 < 4294967296 ⌝ }
 {
-    let a = p.s;
-    let n = wide(frame[a])
-        + 256 * wide(frame[a + 1])
-        + 65536 * wide(frame[a + 2])
-        + 16777216 * wide(frame[a + 3]);
+    let n = half(frame, p.s);
     Cluster(n)
 }
 

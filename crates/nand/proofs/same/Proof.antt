@@ -1,57 +1,69 @@
--- `nand::same`: the flag is what the elements passed so far say.
+-- `nand::same`: two words each.
 -- Assumes nothing.
-use mathlib.Core.Path.{_≡_}
-use mathlib.Core.Logic.{⊎-elim}
-use Prim.Native.Nat.{_-_, _<_, _≤_}
+use mathlib.Core.Path.{sym}
 use native.Mathlib.Omega.{arith}
-use lib.ListN.{length, take}
+use lib.Seq.{length-take-le}
 use borrow.Author.Needs.{needs}
-use Rattle.lists.specs.Parts.{sameList}
-use Rattle.loops.proofs.Elements.{same-done, same-no, same-none, same-yes}
+use Rattle.nand.proofs.Words.{same-words}
 use Rattle.nand.proofs.same.Statement.{statement}
 use Rattle.nand.proofs.same.Tie as tie
 
-abbrev Inv-loop : tie.InvT-loop
-Inv-loop a b ok₀ i₀ ok i = (i ≤ length a) × (ok ≡ sameList (take i a) (take i b))
+slice-aggregate-word : tie.Need-slice-aggregate-word
+slice-aggregate-word c = sym (length-take-le 8 (c .before .before .before .args .a .now) (omega (arith, c .before .before .before .pre .0)))
 
-abbrev μ-loop : tie.MeasureT-loop
-μ-loop a b ok₀ i₀ ok i = length a - i
+word-requires : tie.Need-word-requires
+word-requires c κs = length-take-le 8 (c .before .before .before .args .a .now) (omega (arith, c .before .before .before .pre .0))
 
-loop-holds : tie.Need-loop-holds Inv-loop μ-loop
-loop-holds c = (omega arith, same-none (c .args .a .now) (c .args .b .now))
+slice-aggregate-word-2 : tie.Need-slice-aggregate-word-2
+slice-aggregate-word-2 c = sym (length-take-le 8 (c .before .before .before .before .before .args .b .now) (omega (arith, c .before .before .before .before .before .pre .1)))
 
-shared-slice-read-if1 : tie.Need-shared-slice-read-if1 Inv-loop μ-loop
-shared-slice-read-if1 c = search needs
+word-requires-2 : tie.Need-word-requires-2
+word-requires-2 c κs = length-take-le 8 (c .before .before .before .before .before .args .b .now) (omega (arith, c .before .before .before .before .before .pre .1))
 
-shared-slice-read-if1-2 : tie.Need-shared-slice-read-if1-2 Inv-loop μ-loop
-shared-slice-read-if1-2 c = search needs
+sub-word : tie.Need-sub-word
+sub-word c = search needs
 
-add-i : tie.Need-add-i Inv-loop μ-loop
-add-i c = search needs
+part-word-start : tie.Need-part-word-start
+part-word-start c = search needs
 
-loop-less : tie.Need-loop-less Inv-loop μ-loop
-loop-less c = search needs
+part-word-end : tie.Need-part-word-end
+part-word-end c = search needs
 
-loop-again : tie.Need-loop-again Inv-loop μ-loop
-loop-again c =
-    let at = c .before .before .before .before in
-    let h : at .loop .i < length (at .before .args .a .now) = c .before .before .before .loop-test .taken in
-    let k : at .loop .i < length (at .before .args .b .now) = omega (arith, at .before .pre) in
-    (omega arith, ⊎-elim (λ w. rw (w .1) (same-no _ _ _ h k (w .0 .taken))) (λ w. rw (w .1) (same-yes _ _ _ _ h k (at .loop .inv .1) (w .0 .left))) (c .if1 .came))
+word-requires-3 : tie.Need-word-requires-3
+word-requires-3 c κs = search needs
 
-returns : tie.Need-returns Inv-loop μ-loop
-returns c = same-done _ _ _ _ (c .loop-test .left) (omega (arith, c .before .before .pre)) (c .before .loop .inv .1)
+sub-word-2 : tie.Need-sub-word-2
+sub-word-2 c = search needs
+
+part-word-start-2 : tie.Need-part-word-start-2
+part-word-start-2 c = search needs
+
+part-word-end-2 : tie.Need-part-word-end-2
+part-word-end-2 c = search needs
+
+word-requires-4 : tie.Need-word-requires-4
+word-requires-4 c κs = search needs
+
+returns : tie.Need-returns
+returns c =
+    let at = c .before .before .before .before .before .before .before .before .before .before in
+    same-words (at .args .a .now) (at .args .b .now) _ _ _ _ (at .pre .0) (at .pre .1) (λ i. omega (arith, c .before .before .before .before .before .before .before .before .before .shared-slice-known .given i)) (λ i. omega (arith, c .before .before .before .before .before .before .before .before .shared-slice-known2 .given i))
+    (c .before .before .before .before .before .before .word .ensures) (c .before .before .before .before .word2 .ensures) (c .before .before .word3 .ensures) (c .word4 .ensures)
 
 pub same-spec : {M : Type 1} → statement M
 same-spec =
     tie.close
     (tie.spec
-    Inv-loop
-    μ-loop
-    loop-holds
-    shared-slice-read-if1
-    shared-slice-read-if1-2
-    add-i
-    loop-less
-    loop-again
+    slice-aggregate-word
+    word-requires
+    slice-aggregate-word-2
+    word-requires-2
+    sub-word
+    part-word-start
+    part-word-end
+    word-requires-3
+    sub-word-2
+    part-word-start-2
+    part-word-end-2
+    word-requires-4
     returns)
