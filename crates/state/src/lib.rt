@@ -142,7 +142,7 @@ fn open_ok(p: Params, chip: &[u8], bt: &[u16], r: usize, sg: Segment) -> bool
     if sg.0 >= p.gamma * p.d {
         return false;
     }
-    let o = rules::vblock_of(p, sg);
+    let o = sizes::vblock_of(p, sg);
     let n = tables::bt_at(p, bt, r, o);
     if n.0 == 65535 {
         return false;
@@ -178,12 +178,12 @@ fn segment_ok(p: Params, chip: &[u8], bt: &[u16], r: usize, c: Cluster, sg: Segm
     if sg.0 >= p.gamma * p.d {
         return false;
     }
-    let v = rules::vblock_of(p, sg);
+    let v = sizes::vblock_of(p, sg);
     let n = tables::bt_at(p, bt, r, v);
     if n.0 == 65535 {
         return false;
     }
-    let k = rules::place_of(p, sg);
+    let k = sizes::place_of(p, sg);
     let f = sizes::frames(p);
     blocks::last_in(p, blocks::block_of(p, chip, n), k, c) < f
 }

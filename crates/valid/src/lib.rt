@@ -52,7 +52,7 @@ pub fn is_valid(p: Params, blk: &[u8], ct: &[u16], r: usize, v: VBlock, k: usize
     if tables::ct_at(ct, c).0 != segment_in(p, v, k).0 {
         return false;
     }
-    if rules::region_of(p, c) != r {
+    if sizes::region_of(p, c) != r {
         return false;
     }
     blocks::last_in(p, blk, k, c) == f

@@ -8,7 +8,6 @@ use borrow.Author.Tests.{not-false, not-true}
 use Rattle.lists.specs.Below.{allBelow}
 use Rattle.lists.specs.Parts.{sameList}
 use Rattle.rules.specs.Pages.{spare, spareBytes}
-use Rattle.rules.proofs.Sizes.{sizes}
 use Rattle.loops.proofs.Below.{all-end, all-fails, all-more, all-start}
 use Rattle.blocks.proofs.Frames.{good-high, good-is, good-other}
 use Rattle.blocks.proofs.good_frame.Statement.{statement}
@@ -27,7 +26,7 @@ returns : tie.Need-returns Inv-loop μ-loop
 returns c = good-high _ _ _ _ (c .before .before .before .cluster-in .ensures .0) (c .if1 .taken)
 
 region-of-requires : tie.Need-region-of-requires Inv-loop μ-loop
-region-of-requires c κs = (sizes _ (c .before .before .before .before .before .pre .0)) .regions
+region-of-requires c κs = (c .before .before .before .before .before .pre .0, c .before .before .before .cluster-in .ensures .1)
 
 returns-2 : tie.Need-returns-2 Inv-loop μ-loop
 returns-2 c = good-other _ _ _ _ (c .before .before .before .before .before .cluster-in .ensures .0) (c .before .before .if1 .left) (λ e. c .if2 .taken (c .before .region-of .ensures ∙ e))

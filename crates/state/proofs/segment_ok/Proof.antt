@@ -16,6 +16,10 @@ use Rattle.state.proofs.segment_ok.Tie as tie
 vlow : (a : tie.Start) (v : ℕ) → v ≡ a .args .sg .0 / a .args .p .d → a .args .sg .0 < a .args .p .gamma * a .args .p .d → v < a .args .p .gamma
 vlow a v e h = rw e (vblock-low _ _ _ ((sizes _ (a .pre .0 .fine)) .segments) h)
 
+-- and sg is small
+small : (a : tie.Start) → a .args .sg .0 < a .args .p .gamma * a .args .p .d → a .args .sg .0 < 4294967296
+small a h = let z = sizes _ (a .pre .0 .fine) in omega (arith, z .few)
+
 mul-if1 : tie.Need-mul-if1
 mul-if1 c = let z = sizes _ (c .before .before .before .pre .0 .fine) in omega (arith, z .few)
 
@@ -24,7 +28,7 @@ unfolding segmentOk
 returns c = rw (le-ltb _ _ (c .if1 .taken))
 
 vblock-of-requires : tie.Need-vblock-of-requires
-vblock-of-requires c κs = (sizes _ (c .before .before .before .before .before .pre .0 .fine)) .segments
+vblock-of-requires c κs = let a = c .before .before .before .before .before in (a .pre .0 .fine, small a (c .if1 .left))
 
 bt-at-requires : tie.Need-bt-at-requires
 bt-at-requires c κs = let a = c .before .before .before .before .before .before in (a .pre .0 .btLength, (a .pre .1, vlow a _ (c .vblock-of .ensures) (c .before .if1 .left)))
@@ -35,7 +39,7 @@ returns-2 c =
     rw (lt-ltb _ _ (c .before .before .before .before .if1 .left), ← (c .before .before .before .vblock-of .ensures), ← (c .before .before .bt-at .ensures .0), eq-eqb _ none (c .if2 .taken))
 
 place-of-requires : tie.Need-place-of-requires
-place-of-requires c κs = (sizes _ (c .before .before .before .before .before .before .before .before .before .pre .0 .fine)) .segments
+place-of-requires c κs = let a = c .before .before .before .before .before .before .before .before .before in (a .pre .0 .fine, small a (c .before .before .before .before .if1 .left))
 
 frames-requires : tie.Need-frames-requires
 frames-requires c κs = c .before .before .before .before .before .before .before .before .before .before .pre .0 .fine

@@ -3,7 +3,6 @@
 use mathlib.Core.Path.{sym, _∙_}
 use native.Mathlib.Omega.{arith}
 use borrow.Author.Tests.{not-true, not-false}
-use Rattle.rules.proofs.Sizes.{sizes}
 use Rattle.valid.proofs.Tested.{place-is-low, unprogrammed, high, elsewhere, stale, last}
 use Rattle.valid.proofs.is_valid.Statement.{statement}
 use Rattle.valid.proofs.is_valid.Tie as tie
@@ -35,7 +34,7 @@ returns-3 c =
     λ vw s. stale _ _ _ _ _ (c .before .before .before .before .before .before .before .before .before .before .before .before .before .before .pre .0) _ vw s _ (c .before .before .before .before .before .before .before .before .before .before .before .frame-of .ensures .0) (sym (c .before .before .before .before .before .before .before .before .before .before .is-programmed .ensures) ∙ not-false _ (c .before .before .before .before .before .before .before .before .before .if1 .left)) _ (c .before .before .before .before .before .before .before .before .cluster-in .ensures .0) _ _ _ (c .before .before .before .before .before .before .before .before .before .before .before .before .before .before .pre .1) (c .before .before .before .before .ct-at .ensures .0) (c .before .before .before .segment-in .ensures) (c .if3 .taken)
 
 region-of-requires : tie.Need-region-of-requires
-region-of-requires c κs = (sizes _ (c .before .before .before .before .before .before .before .before .before .before .before .before .before .before .pre .0 .block .fine)) .regions
+region-of-requires c κs = (c .before .before .before .before .before .before .before .before .before .before .before .before .before .before .pre .0 .block .fine, c .before .before .before .before .before .before .before .before .cluster-in .ensures .1)
 
 returns-4 : tie.Need-returns-4
 returns-4 c =
