@@ -13,7 +13,8 @@ use borrow.Author.Tests.{eq-eqb, ne-eqb, lt-ltb, eqb-true, eqb-false}
 use lib.ListN.{length, getD, take, drop, set, replicate}
 use Rattle.lists.proofs.Joins.{join-cong}
 use Rattle.frames.specs.Frame.{HostAsked, hostPage, hostFrame, sectorsOf}
-use Rattle.reading.specs.Lookup.{blockFor, lastFor, frameFor, Leads, Lookup, Stands}
+use Rattle.reading.specs.Lookup.{blockFor, lastFor, frameFor, Lookup, Stands}
+use Rattle.reading.proofs.Views.{lookup-of}
 use Rattle.writing.specs.Clusters.{Standing, ClusterPut}
 use Rattle.lists.specs.Below.{joinBelow}
 use Rattle.lists.specs.Parts.{allAre, part, putPart}
@@ -88,30 +89,8 @@ module _ (p : Params) (b : Board) (q : Request) (v f : ℕ) (t : Standing p b q 
   entry : (vw .segOf c ≡ none) ⊎ Entry p vw c
   entry = t .base .entries c (t .asked .cluster)
 
-  seg-low : Entry p vw c → vblockOf p (ctAt (b .ct) c) < p .gamma
-  seg-low e = rw segs (div-lt-iff-lt-mul (z .segments) .1 (e .low))
-
-  leads-to : Entry p vw c → Leads p (b .chip) (b .ct) (b .bt) c
-  unfolding blockFor lastFor
-  leads-to e =
-      let h = seg-low e in
-      let s = has-block (vblockOf p (ctAt (b .ct) c)) h (rw (← segs) at (e .has)) in
-      record { vblock = h; block = block-low (vblockOf p (ctAt (b .ct) c)) h s; held = rw (body-some (vblockOf p (ctAt (b .ct) c)) h s) at (rw (← segs) at (e .held)) }
-
   pub lookup : Lookup p (b .chip) (b .ct) (b .bt) c
-  lookup =
-      record {
-        fine = t .fine;
-        chipLength = t .chipLength;
-        ctLength = t .ctLength;
-        btLength = t .btLength;
-        low = t .asked .cluster;
-        leads = λ ne. go ne entry;
-      }
-    where
-      go : (ctAt (b .ct) c ≡ none → ⊥) → (vw .segOf c ≡ none) ⊎ Entry p vw c → Leads p (b .chip) (b .ct) (b .bt) c
-      go ne (inl e) = absurd (ne (segs ∙ e))
-      go ne (inr e) = leads-to e
+  lookup = lookup-of p (b .chip) (b .ct) (b .bt) (b .fst) c (t .fine) (t .chipLength) (t .ctLength) (t .btLength) (t .asked .cluster) (t .names) entry
 
   -- ---- the frame that is written
 
@@ -256,9 +235,6 @@ module _ (p : Params) (b : Board) (q : Request) (v f : ℕ) (t : Standing p b q 
     region-is : r′ ≡ r
     region-is = er ∙ ap (regionOf p) ec
 
-    pub lookup-at : Lookup p (b .chip) (b .ct) (b .bt) c′
-    lookup-at = rw ec lookup
-
     pub region-at : r′ < p .mu
     region-at = rw region-is region-in
 
@@ -284,22 +260,19 @@ module _ (p : Params) (b : Board) (q : Request) (v f : ℕ) (t : Standing p b q 
       pub number-asked : (n′ < p .N) × (f < frames p)
       number-asked = (rw block-is (block-low v low (t .taken)), t .base .ready .low)
 
-      module _ (to off : ℕ) (et : to ≡ n′ * frames p + f) (eo : off ≡ sectorOf p (q .lba)) (kept : Bool) (fr : ℕ) (found : Stands p (b .chip) (b .ct) (b .bt) c′ kept fr) where
+      module _ (to off : ℕ) (et : to ≡ n′ * frames p + f) (eo : off ≡ sectorOf p (q .lba)) (kept : Bool) (fr : ℕ) (found : Stands p (b .chip) (b .ct) (b .bt) c kept fr) where
         to-is : to ≡ n * frames p + f
         to-is = et ∙ rw block-is
 
-        found-at : Stands p (b .chip) (b .ct) (b .bt) c kept fr
-        found-at = rw ec at found
-
         pub host-requires : HostAsked (b .chip) (p .s) (p .alpha) to kept fr off (q .count) (q .bytes) c′
-        host-requires = rw ec (host-asked kept fr found-at to off to-is eo)
+        host-requires = rw ec (host-asked kept fr found to off to-is eo)
 
         pub cluster-put : (chip₁ ct₁ fst₁ : List ℕ) (sg : ℕ)
             → chip₁ ≡ putPart (p .alpha * (p .s + 16)) to (hostFrame (p .s) (p .alpha) off (q .count) (q .bytes) (sectorsOf (p .s) (p .alpha) kept fr (b .chip)) c′) (b .chip)
             → sg ≡ segmentOf p v f → ct₁ ≡ set (b .ct) c′ sg → fst₁ ≡ set (b .fst) r′ sg → ClusterPut p b q v f chip₁ ct₁ fst₁
         cluster-put chip₁ ct₁ fst₁ sg e s x y =
             record {
-              chip = unfold frameBytes pageBytes in (e ∙ rw (ec, frame-is kept fr found-at off eo, to-is));
+              chip = unfold frameBytes pageBytes in (e ∙ rw (ec, frame-is kept fr found off eo, to-is));
               ct = x ∙ rw (ec, s);
               fst = y ∙ rw (region-is, s);
             }

@@ -35,10 +35,12 @@ use Rattle.rules.proofs.Victims.{good-at}
 use Rattle.rules.proofs.WritePromise.{makes, counts, copies-few, erase-counts}
 use Rattle.choose.specs.Search.{Pool}
 use Rattle.reclaim.specs.Moves.{FromTo}
+use Rattle.reading.specs.Lookup.{Lookup, Stands}
 use Rattle.writing.specs.Plans.{PlanAsked}
 use Rattle.writing.specs.Rooms.{OpenAsked, ReclaimReady, RoomAsked, RoomMade}
 use Rattle.writing.specs.Clusters.{Standing, ClusterPut, acceptedAnswer, Gives}
 use Rattle.writing.proofs.Made as made
+use Rattle.writing.proofs.Put.{lookup}
 
 -- a plan that reclaims: the open block has no room, and every virtual block has a block
 record Reclaiming (p : Params) (vw : View) : Type 0 where
@@ -59,6 +61,10 @@ reclaiming p vw v e = go (so (hasRoom p vw)) (so (eqb (lowestUnassigned p vw) no
     go (inr h) (inr s) = absurd (omega (arith, ap kind (rw (h, s) at e)))
     go (inr h) (inl s) = record { noRoom = h; full = eqb-true _ _ s }
 
+-- what was found for a number that is the cluster's stands for the cluster
+pub stands-made : (p : Params) (chip ct bt : List ℕ) (c c′ : ℕ) → c ≡ c′ → (kept : Bool) (frame : ℕ) → Stands p chip ct bt c kept frame → Stands p chip ct bt c′ kept frame
+stands-made p chip ct bt c c′ e kept frame s = rw e at s
+
 module _ (p : Params) (b : Board) (q : Request) (e : accessReply p b q ≡ Accepted) where
   acc : Admitted p b q
   acc = admitted p b q e
@@ -71,6 +77,9 @@ module _ (p : Params) (b : Board) (q : Request) (e : accessReply p b q ≡ Accep
 
   pub regions : 0 < p .mu
   regions = z .regions
+
+  pub alpha-few : p .alpha ≤ 16
+  alpha-few = z .alphaHigh
 
   pub ct-length : length (b .ct) ≡ p .C
   ct-length = acc .tables .ctLength
@@ -181,11 +190,12 @@ module _ (p : Params) (b : Board) (q : Request) (e : accessReply p b q ≡ Accep
     pub standing : Standing p (boardOf chip₁ ct₁ bt₁ (b .fst) [] []) q v f
     standing = rw (m-r .chipIs, m-r .ctIs, m-r .btIs, m-r .vblock, m-r .frame) (made.standing p b q acc pl mk)
 
+    -- the old cluster is looked up on the board with room
+    pub lookup-made : (c : ℕ) → c ≡ requestCluster p q → Lookup p chip₁ ct₁ bt₁ c
+    lookup-made c ec = rw ec (lookup p (boardOf chip₁ ct₁ bt₁ (b .fst) [] []) q v f standing)
+
     pub copied-few : copied < 256
     copied-few = rw (m-r .count) (omega (arith, copies-few p vw pl, mk .base .ready .low, z .short))
-
-    pub alpha-few : p .alpha ≤ 16
-    alpha-few = z .alphaHigh
 
     board-is : (chip ct fst : List ℕ) → ClusterPut p (boardOf chip₁ ct₁ bt₁ (b .fst) [] []) q v f chip ct fst → boardOf chip ct bt₁ fst bst₁ wear₁ ≡ written p b q
     unfolding written

@@ -4,6 +4,7 @@ ghost use mathlib.Core.Bool.{true};
 ghost use mathlib.Core.List.{List, []};
 ghost use Prim.Native.Nat.{ℕ, _+_, _*_, _<_, _≤_};
 ghost use lib.ListN.{length};
+ghost use Rattle.rules.specs.Numbers.{clusterOf};
 ghost use Rattle.rules.specs.Tables.{boardOf, btAt};
 ghost use Rattle.rules.specs.Pages.{block};
 ghost use Rattle.rules.specs.Regions.{View, viewOf};
@@ -11,10 +12,12 @@ ghost use Rattle.rules.specs.Write.{planOf};
 ghost use Rattle.rules.specs.Replies.{accessReply};
 ghost use Rattle.rules.specs.Calls.{writeCall};
 ghost use Rattle.valid.specs.Shown.{Shows};
+ghost use Rattle.reading.specs.Lookup.{Stands};
 ghost use Rattle.reading.specs.Sectors.{requestOf};
 ghost use Rattle.writing.specs.Plans.{PlanAsked, nextIn, planIs};
 ghost use Rattle.writing.specs.Rooms.{OpenAsked, Opened, ReclaimReady, BlockReclaimed, RoomAsked, RoomMade};
 ghost use Rattle.writing.specs.Clusters.{Standing, ClusterPut, acceptedAnswer, Gives};
+use reading::Found;
 use rules::Answer;
 use rules::PBlock;
 use rules::Params;
@@ -143,7 +146,7 @@ fn make_room(
     }
 }
 
-// The new cluster goes to frame f of virtual block v, its old sectors read where they now stand; CT and FST name its segment.
+// The new cluster goes to frame f of virtual block v, its old sectors read from the frame where they now stand; CT and FST name its segment.
 fn put_cluster(
     p: Params,
     chip: &mut [u8],
@@ -153,15 +156,16 @@ fn put_cluster(
     lba: usize,
     count: usize,
     bytes: &[u8],
+    old: Found,
     v: VBlock,
     f: usize,
 )
     requires { ⌜ Standing p (boardOf (now chip) (now ct) (now bt) (now fst) [] []) (requestOf lba count (now bytes)) (v .0) f ⌝ }
+    requires { ⌜ Stands p (now chip) (now ct) (now bt) (clusterOf p lba) (old .kept) (old .frame) ⌝ }
     ensures { λ _. ⌜ ClusterPut p (boardOf (now (chip .entry)) (now (ct .entry)) (now (bt .entry)) (now (fst .entry)) [] []) (requestOf lba count (now (bytes .entry))) (v .0) f (now (chip .exit)) (now (ct .exit)) (now (fst .exit)) ⌝ }
 {
     let c = rules::cluster_of(p, lba);
     let r = rules::region_of(p, c);
-    let old = reading::find_frame(p, chip, ct, bt, c);
     let n = tables::bt_at(p, bt, r, v);
     let to = frames::frame_at(p, n, f);
     frames::host_frame(
@@ -210,9 +214,11 @@ pub fn write_orderly(
     requires { ⌜ accessReply p (boardOf (now chip) (now ct) (now bt) (now fst) (now bst) (now wear)) (requestOf lba count (now bytes)) ≡ Reply.Accepted ⌝ }
     ensures { λ a. ⌜ Gives (writeCall p (boardOf (now (chip .entry)) (now (ct .entry)) (now (bt .entry)) (now (fst .entry)) (now (bst .entry)) (now (wear .entry))) (requestOf lba count (now (bytes .entry)))) a (boardOf (now (chip .exit)) (now (ct .exit)) (now (bt .exit)) (now (fst .exit)) (now (bst .exit)) (now (wear .exit))) ⌝ }
 {
-    let r = rules::region_of(p, rules::cluster_of(p, lba));
+    let c = rules::cluster_of(p, lba);
+    let r = rules::region_of(p, c);
     let pl = plan_of(p, chip, ct, bt, fst, r);
     let room = make_room(p, chip, ct, bt, bst, wear, r, pl);
+    let old = reading::find_frame(p, chip, ct, bt, c);
     put_cluster(
         p,
         chip,
@@ -222,6 +228,7 @@ pub fn write_orderly(
         lba,
         count,
         bytes,
+        old,
         room.vblock,
         room.frame,
     );

@@ -1,40 +1,37 @@
--- `writing::put_cluster`: the old frame is looked up where it now stands, then the new one is programmed.
+-- `writing::put_cluster`: the new frame is programmed from the old one where it now stands.
 -- Assumes nothing.
 use borrow.Author.Needs.{needs}
 use Rattle.rules.proofs.Sizes.{sizes}
-use Rattle.writing.proofs.Put.{lookup-at, region-at, vblock-low, ct-in, fst-in, frame-few, segment-few, number-asked, host-requires, cluster-put}
+use Rattle.writing.proofs.Put.{region-at, vblock-low, ct-in, fst-in, frame-few, segment-few, number-asked, host-requires, cluster-put}
 use Rattle.writing.proofs.put_cluster.Statement.{statement}
 use Rattle.writing.proofs.put_cluster.Tie as tie
 
 cluster-of-requires : tie.Need-cluster-of-requires
-cluster-of-requires c κs = (sizes _ (c .before .before .before .before .before .pre .fine)) .sectors
+cluster-of-requires c κs = (sizes _ (c .before .before .before .before .before .pre .0 .fine)) .sectors
 
 region-of-requires : tie.Need-region-of-requires
-region-of-requires c κs = (sizes _ (c .before .before .before .before .before .before .pre .fine)) .regions
-
-find-frame-requires : tie.Need-find-frame-requires
-find-frame-requires c κs = lookup-at _ _ _ _ _ (c .before .before .before .before .before .before .before .before .before .pre) _ _ (c .before .before .before .cluster-of .ensures) (c .before .before .region-of .ensures)
+region-of-requires c κs = (sizes _ (c .before .before .before .before .before .before .pre .0 .fine)) .regions
 
 bt-at-requires : tie.Need-bt-at-requires
-bt-at-requires c κs = (c .before .before .before .before .before .before .before .before .before .before .pre .btLength, (region-at _ _ _ _ _ (c .before .before .before .before .before .before .before .before .before .before .pre) _ _ (c .before .before .before .before .cluster-of .ensures) (c .before .before .before .region-of .ensures), vblock-low _ _ _ _ _ (c .before .before .before .before .before .before .before .before .before .before .pre) _ _ (c .before .before .before .before .cluster-of .ensures) (c .before .before .before .region-of .ensures)))
+bt-at-requires c κs = (c .before .before .before .before .before .before .before .pre .0 .btLength, (region-at _ _ _ _ _ (c .before .before .before .before .before .before .before .pre .0) _ _ (c .before .cluster-of .ensures) (c .region-of .ensures), vblock-low _ _ _ _ _ (c .before .before .before .before .before .before .before .pre .0) _ _ (c .before .cluster-of .ensures) (c .region-of .ensures)))
 
 frame-at-requires : tie.Need-frame-at-requires
-frame-at-requires c κs = (c .before .before .before .before .before .before .before .before .before .before .before .pre .fine, number-asked _ _ _ _ _ (c .before .before .before .before .before .before .before .before .before .before .before .pre) _ _ (c .before .before .before .before .before .cluster-of .ensures) (c .before .before .before .before .region-of .ensures) _ (c .bt-at .ensures .0))
+frame-at-requires c κs = (c .before .before .before .before .before .before .before .before .pre .0 .fine, number-asked _ _ _ _ _ (c .before .before .before .before .before .before .before .before .pre .0) _ _ (c .before .before .cluster-of .ensures) (c .before .region-of .ensures) _ (c .bt-at .ensures .0))
 
 sector-of-requires : tie.Need-sector-of-requires
-sector-of-requires c κs = (sizes _ (c .before .before .before .before .before .before .before .before .before .before .before .before .before .pre .fine)) .sectors
+sector-of-requires c κs = (sizes _ (c .before .before .before .before .before .before .before .before .before .before .pre .0 .fine)) .sectors
 
 host-frame-requires : tie.Need-host-frame-requires
-host-frame-requires c κs = host-requires _ _ _ _ _ (c .before .before .before .before .before .before .before .before .before .before .before .before .before .before .pre) _ _ (c .before .before .before .before .before .before .before .before .cluster-of .ensures) (c .before .before .before .before .before .before .before .region-of .ensures) _ (c .before .before .before .bt-at .ensures .0) _ _ (c .before .before .frame-at .ensures) (c .sector-of .ensures) _ _ (c .before .before .before .before .find-frame .ensures)
+host-frame-requires c κs = host-requires _ _ _ _ _ (c .before .before .before .before .before .before .before .before .before .before .before .pre .0) _ _ (c .before .before .before .before .before .cluster-of .ensures) (c .before .before .before .before .region-of .ensures) _ (c .before .before .before .bt-at .ensures .0) _ _ (c .before .before .frame-at .ensures) (c .sector-of .ensures) _ _ (c .before .before .before .before .before .before .before .before .before .before .before .pre .1)
 
 segment-of-requires : tie.Need-segment-of-requires
-segment-of-requires c κs = (c .before .before .before .before .before .before .before .before .before .before .before .before .before .before .before .before .before .pre .fine, (vblock-low _ _ _ _ _ (c .before .before .before .before .before .before .before .before .before .before .before .before .before .before .before .before .before .pre) _ _ (c .before .before .before .before .before .before .before .before .before .before .before .cluster-of .ensures) (c .before .before .before .before .before .before .before .before .before .before .region-of .ensures), frame-few _ _ _ _ _ (c .before .before .before .before .before .before .before .before .before .before .before .before .before .before .before .before .before .pre) _ _ (c .before .before .before .before .before .before .before .before .before .before .before .cluster-of .ensures) (c .before .before .before .before .before .before .before .before .before .before .region-of .ensures)))
+segment-of-requires c κs = (c .before .before .before .before .before .before .before .before .before .before .before .before .before .before .pre .0 .fine, (vblock-low _ _ _ _ _ (c .before .before .before .before .before .before .before .before .before .before .before .before .before .before .pre .0) _ _ (c .before .before .before .before .before .before .before .before .cluster-of .ensures) (c .before .before .before .before .before .before .before .region-of .ensures), frame-few _ _ _ _ _ (c .before .before .before .before .before .before .before .before .before .before .before .before .before .before .pre .0) _ _ (c .before .before .before .before .before .before .before .before .cluster-of .ensures) (c .before .before .before .before .before .before .before .region-of .ensures)))
 
 set-ct-requires : tie.Need-set-ct-requires
-set-ct-requires c κs = (ct-in _ _ _ _ _ (c .before .before .before .before .before .before .before .before .before .before .before .before .before .before .before .before .before .before .before .pre) _ _ (c .before .before .before .before .before .before .before .before .before .before .before .before .before .cluster-of .ensures) (c .before .before .before .before .before .before .before .before .before .before .before .before .region-of .ensures), segment-few _ _ _ _ _ (c .before .before .before .before .before .before .before .before .before .before .before .before .before .before .before .before .before .before .before .pre) _ _ (c .before .before .before .before .before .before .before .before .before .before .before .before .before .cluster-of .ensures) (c .before .before .before .before .before .before .before .before .before .before .before .before .region-of .ensures) _ (c .before .segment-of .ensures))
+set-ct-requires c κs = (ct-in _ _ _ _ _ (c .before .before .before .before .before .before .before .before .before .before .before .before .before .before .before .before .pre .0) _ _ (c .before .before .before .before .before .before .before .before .before .before .cluster-of .ensures) (c .before .before .before .before .before .before .before .before .before .region-of .ensures), segment-few _ _ _ _ _ (c .before .before .before .before .before .before .before .before .before .before .before .before .before .before .before .before .pre .0) _ _ (c .before .before .before .before .before .before .before .before .before .before .cluster-of .ensures) (c .before .before .before .before .before .before .before .before .before .region-of .ensures) _ (c .before .segment-of .ensures))
 
 set-fst-requires : tie.Need-set-fst-requires
-set-fst-requires c κs = (fst-in _ _ _ _ _ (c .before .before .before .before .before .before .before .before .before .before .before .before .before .before .before .before .before .before .before .before .before .before .before .pre) _ _ (c .before .before .before .before .before .before .before .before .before .before .before .before .before .before .before .before .before .cluster-of .ensures) (c .before .before .before .before .before .before .before .before .before .before .before .before .before .before .before .before .region-of .ensures), segment-few _ _ _ _ _ (c .before .before .before .before .before .before .before .before .before .before .before .before .before .before .before .before .before .before .before .before .before .before .before .pre) _ _ (c .before .before .before .before .before .before .before .before .before .before .before .before .before .before .before .before .before .cluster-of .ensures) (c .before .before .before .before .before .before .before .before .before .before .before .before .before .before .before .before .region-of .ensures) _ (c .before .before .before .before .before .segment-of .ensures))
+set-fst-requires c κs = (fst-in _ _ _ _ _ (c .before .before .before .before .before .before .before .before .before .before .before .before .before .before .before .before .before .before .before .before .pre .0) _ _ (c .before .before .before .before .before .before .before .before .before .before .before .before .before .before .cluster-of .ensures) (c .before .before .before .before .before .before .before .before .before .before .before .before .before .region-of .ensures), segment-few _ _ _ _ _ (c .before .before .before .before .before .before .before .before .before .before .before .before .before .before .before .before .before .before .before .before .pre .0) _ _ (c .before .before .before .before .before .before .before .before .before .before .before .before .before .before .cluster-of .ensures) (c .before .before .before .before .before .before .before .before .before .before .before .before .before .region-of .ensures) _ (c .before .before .before .before .before .segment-of .ensures))
 
 same-length : tie.Need-same-length
 same-length c = search needs
@@ -46,7 +43,7 @@ same-length-3 : tie.Need-same-length-3
 same-length-3 c = search needs
 
 returns : tie.Need-returns
-returns c = cluster-put _ _ _ _ _ (c .before .before .before .before .before .before .before .before .before .before .before .before .before .before .before .before .before .before .before .before .before .before .before .before .before .before .pre) _ _ (c .before .before .before .before .before .before .before .before .before .before .before .before .before .before .before .before .before .before .before .before .cluster-of .ensures) (c .before .before .before .before .before .before .before .before .before .before .before .before .before .before .before .before .before .before .before .region-of .ensures) _ (c .before .before .before .before .before .before .before .before .before .before .before .before .before .before .before .bt-at .ensures .0) _ _ (c .before .before .before .before .before .before .before .before .before .before .before .before .before .before .frame-at .ensures) (c .before .before .before .before .before .before .before .before .before .before .before .before .sector-of .ensures) _ _ (c .before .before .before .before .before .before .before .before .before .before .before .before .before .before .before .before .find-frame .ensures) _ _ _ _ (c .before .before .before .before .before .before .before .before .before .before .before .host-frame .ensures) (c .before .before .before .before .before .before .before .before .segment-of .ensures) (c .before .before .before .before .before .before .set-ct .ensures) (c .before .before .set-fst .ensures)
+returns c = cluster-put _ _ _ _ _ (c .before .before .before .before .before .before .before .before .before .before .before .before .before .before .before .before .before .before .before .before .before .before .before .pre .0) _ _ (c .before .before .before .before .before .before .before .before .before .before .before .before .before .before .before .before .before .cluster-of .ensures) (c .before .before .before .before .before .before .before .before .before .before .before .before .before .before .before .before .region-of .ensures) _ (c .before .before .before .before .before .before .before .before .before .before .before .before .before .before .before .bt-at .ensures .0) _ _ (c .before .before .before .before .before .before .before .before .before .before .before .before .before .before .frame-at .ensures) (c .before .before .before .before .before .before .before .before .before .before .before .before .sector-of .ensures) _ _ (c .before .before .before .before .before .before .before .before .before .before .before .before .before .before .before .before .before .before .before .before .before .before .before .pre .1) _ _ _ _ (c .before .before .before .before .before .before .before .before .before .before .before .host-frame .ensures) (c .before .before .before .before .before .before .before .before .segment-of .ensures) (c .before .before .before .before .before .before .set-ct .ensures) (c .before .before .set-fst .ensures)
 
 pub put-cluster-spec : {M : Type 1} → statement M
 put-cluster-spec =
@@ -54,7 +51,6 @@ put-cluster-spec =
     (tie.spec
     cluster-of-requires
     region-of-requires
-    find-frame-requires
     bt-at-requires
     frame-at-requires
     sector-of-requires

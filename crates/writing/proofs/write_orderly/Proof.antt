@@ -1,9 +1,9 @@
--- `writing::write_orderly`: the plan of the state at entry, its room, and the cluster put there.
+-- `writing::write_orderly`: the plan of the state at entry, its room, the old frame found there, and the cluster put there.
 -- Assumes nothing.
 use mathlib.Core.Path.{_≡_, ap, _∙_}
 use borrow.Author.Needs.{needs}
 use Rattle.rules.specs.Numbers.{regionOf}
-use Rattle.writing.proofs.Writes.{sectors, regions, ct-length, plan-asked, room-asked, standing, copied-few, alpha-few, gives}
+use Rattle.writing.proofs.Writes.{sectors, regions, ct-length, alpha-few, plan-asked, room-asked, lookup-made, standing, stands-made, copied-few, gives}
 use Rattle.writing.proofs.write_orderly.Statement.{statement}
 use Rattle.writing.proofs.write_orderly.Tie as tie
 
@@ -16,17 +16,34 @@ region-of-requires c κs = regions _ _ _ (c .before .before .before .before .bef
 plan-of-requires : tie.Need-plan-of-requires
 plan-of-requires c κs = (plan-asked _ _ _ (c .before .before .before .before .before .before .before .before .before .before .before .before .before .pre) _ (c .before .before .before .before .region-of .ensures ∙ ap (regionOf (c .before .before .before .before .before .before .before .before .before .before .before .before .before .args .p)) (c .before .before .before .before .before .cluster-of .ensures)), ct-length _ _ _ (c .before .before .before .before .before .before .before .before .before .before .before .before .before .pre))
 
+-- from here on d is the place after the plan
+
 make-room-requires : tie.Need-make-room-requires
-make-room-requires c κs = room-asked _ _ _ (c .before .before .before .before .before .before .before .before .before .before .before .before .before .before .before .before .before .before .before .pre) _ (c .before .before .before .before .before .before .before .before .before .before .region-of .ensures ∙ ap (regionOf (c .before .before .before .before .before .before .before .before .before .before .before .before .before .before .before .before .before .before .before .args .p)) (c .before .before .before .before .before .before .before .before .before .before .before .cluster-of .ensures)) _ (c .before .before .before .before .before .plan-of .ensures)
+make-room-requires c κs =
+    let d = c .before .before .before .before .before in
+    room-asked _ _ _ (d .before .before .before .before .before .before .before .before .before .before .before .before .before .before .pre) _ (d .before .before .before .before .before .region-of .ensures ∙ ap (regionOf (d .before .before .before .before .before .before .before .before .before .before .before .before .before .before .args .p)) (d .before .before .before .before .before .before .cluster-of .ensures)) _ (d .plan-of .ensures)
+
+find-frame-requires : tie.Need-find-frame-requires
+find-frame-requires c κs =
+    let d = c .before .before .before .before .before .before .before .before .before .before .before .before .before .before .before .before .before .before .before in
+    lookup-made _ _ _ (d .before .before .before .before .before .before .before .before .before .before .before .before .before .before .pre) _ (d .before .before .before .before .before .region-of .ensures ∙ ap (regionOf (d .before .before .before .before .before .before .before .before .before .before .before .before .before .before .args .p)) (d .before .before .before .before .before .before .cluster-of .ensures)) _ (d .plan-of .ensures) _ _ _ _ _ _ _ _ _ (c .before .before .before .before .before .before .before .before .before .before .before .before .before .make-room .ensures _)
+    _ (d .before .before .before .before .before .before .cluster-of .ensures)
 
 put-cluster-requires : tie.Need-put-cluster-requires
-put-cluster-requires c κs = standing _ _ _ (c .before .before .before .before .before .before .before .before .before .before .before .before .before .before .before .before .before .before .before .before .before .before .before .before .before .before .before .before .before .before .before .before .before .before .pre) _ (c .before .before .before .before .before .before .before .before .before .before .before .before .before .before .before .before .before .before .before .before .before .before .before .before .before .region-of .ensures ∙ ap (regionOf (c .before .before .before .before .before .before .before .before .before .before .before .before .before .before .before .before .before .before .before .before .before .before .before .before .before .before .before .before .before .before .before .before .before .before .args .p)) (c .before .before .before .before .before .before .before .before .before .before .before .before .before .before .before .before .before .before .before .before .before .before .before .before .before .before .cluster-of .ensures)) _ (c .before .before .before .before .before .before .before .before .before .before .before .before .before .before .before .before .before .before .before .before .plan-of .ensures) _ _ _ _ _ _ _ _ _ (c .before .before .before .before .before .before .before .before .before .before .before .before .before .before .make-room .ensures _)
+put-cluster-requires c κs =
+    let d = c .before .before .before .before .before .before .before .before .before .before .before .before .before .before .before .before .before .before .before .before .before .before .before .before in
+    (
+      standing _ _ _ (d .before .before .before .before .before .before .before .before .before .before .before .before .before .before .pre) _ (d .before .before .before .before .before .region-of .ensures ∙ ap (regionOf (d .before .before .before .before .before .before .before .before .before .before .before .before .before .before .args .p)) (d .before .before .before .before .before .before .cluster-of .ensures)) _ (d .plan-of .ensures) _ _ _ _ _ _ _ _ _ (c .before .before .before .before .before .before .before .before .before .before .before .before .before .before .before .before .before .before .make-room .ensures _),
+      stands-made _ _ _ _ _ _ (d .before .before .before .before .before .before .cluster-of .ensures) _ _ (c .before .before .before .before .find-frame .ensures),
+    )
 
 answered-requires : tie.Need-answered-requires
-answered-requires c κs = (
-  alpha-few _ _ _ (c .before .before .before .before .before .before .before .before .before .before .before .before .before .before .before .before .before .before .before .before .before .before .before .before .before .before .before .before .before .before .before .before .before .before .before .before .before .before .before .before .before .pre) _ (c .before .before .before .before .before .before .before .before .before .before .before .before .before .before .before .before .before .before .before .before .before .before .before .before .before .before .before .before .before .before .before .before .region-of .ensures ∙ ap (regionOf (c .before .before .before .before .before .before .before .before .before .before .before .before .before .before .before .before .before .before .before .before .before .before .before .before .before .before .before .before .before .before .before .before .before .before .before .before .before .before .before .before .before .args .p)) (c .before .before .before .before .before .before .before .before .before .before .before .before .before .before .before .before .before .before .before .before .before .before .before .before .before .before .before .before .before .before .before .before .before .cluster-of .ensures)) _ (c .before .before .before .before .before .before .before .before .before .before .before .before .before .before .before .before .before .before .before .before .before .before .before .before .before .before .before .plan-of .ensures) _ _ _ _ _ _ _ _ _ (c .before .before .before .before .before .before .before .before .before .before .before .before .before .before .before .before .before .before .before .before .before .make-room .ensures _),
-  copied-few _ _ _ (c .before .before .before .before .before .before .before .before .before .before .before .before .before .before .before .before .before .before .before .before .before .before .before .before .before .before .before .before .before .before .before .before .before .before .before .before .before .before .before .before .before .pre) _ (c .before .before .before .before .before .before .before .before .before .before .before .before .before .before .before .before .before .before .before .before .before .before .before .before .before .before .before .before .before .before .before .before .region-of .ensures ∙ ap (regionOf (c .before .before .before .before .before .before .before .before .before .before .before .before .before .before .before .before .before .before .before .before .before .before .before .before .before .before .before .before .before .before .before .before .before .before .before .before .before .before .before .before .before .args .p)) (c .before .before .before .before .before .before .before .before .before .before .before .before .before .before .before .before .before .before .before .before .before .before .before .before .before .before .before .before .before .before .before .before .before .cluster-of .ensures)) _ (c .before .before .before .before .before .before .before .before .before .before .before .before .before .before .before .before .before .before .before .before .before .before .before .before .before .before .before .plan-of .ensures) _ _ _ _ _ _ _ _ _ (c .before .before .before .before .before .before .before .before .before .before .before .before .before .before .before .before .before .before .before .before .before .make-room .ensures _),
-)
+answered-requires c κs =
+    let d = c .before .before .before .before .before .before .before .before .before .before .before .before .before .before .before .before .before .before .before .before .before .before .before .before .before .before .before .before .before .before .before in
+    (
+      alpha-few _ _ _ (d .before .before .before .before .before .before .before .before .before .before .before .before .before .before .pre),
+      copied-few _ _ _ (d .before .before .before .before .before .before .before .before .before .before .before .before .before .before .pre) _ (d .before .before .before .before .before .region-of .ensures ∙ ap (regionOf (d .before .before .before .before .before .before .before .before .before .before .before .before .before .before .args .p)) (d .before .before .before .before .before .before .cluster-of .ensures)) _ (d .plan-of .ensures) _ _ _ _ _ _ _ _ _ (c .before .before .before .before .before .before .before .before .before .before .before .before .before .before .before .before .before .before .before .before .before .before .before .before .before .make-room .ensures _),
+    )
 
 same-length : tie.Need-same-length
 same-length c = search needs
@@ -47,7 +64,10 @@ same-length-6 : tie.Need-same-length-6
 same-length-6 c = search needs
 
 returns : tie.Need-returns
-returns c = gives _ _ _ (c .before .before .before .before .before .before .before .before .before .before .before .before .before .before .before .before .before .before .before .before .before .before .before .before .before .before .before .before .before .before .before .before .before .before .before .before .before .before .before .before .before .before .pre) _ (c .before .before .before .before .before .before .before .before .before .before .before .before .before .before .before .before .before .before .before .before .before .before .before .before .before .before .before .before .before .before .before .before .before .region-of .ensures ∙ ap (regionOf (c .before .before .before .before .before .before .before .before .before .before .before .before .before .before .before .before .before .before .before .before .before .before .before .before .before .before .before .before .before .before .before .before .before .before .before .before .before .before .before .before .before .before .args .p)) (c .before .before .before .before .before .before .before .before .before .before .before .before .before .before .before .before .before .before .before .before .before .before .before .before .before .before .before .before .before .before .before .before .before .before .cluster-of .ensures)) _ (c .before .before .before .before .before .before .before .before .before .before .before .before .before .before .before .before .before .before .before .before .before .before .before .before .before .before .before .before .plan-of .ensures) _ _ _ _ _ _ _ _ _ (c .before .before .before .before .before .before .before .before .before .before .before .before .before .before .before .before .before .before .before .before .before .before .make-room .ensures _) _ _ _ _ (c .before .before .before .before .before .before .before .put-cluster .ensures) (c .answered .ensures)
+returns c =
+    let d = c .before .before .before .before .before .before .before .before .before .before .before .before .before .before .before .before .before .before .before .before .before .before .before .before .before .before .before .before .before .before .before .before in
+    gives _ _ _ (d .before .before .before .before .before .before .before .before .before .before .before .before .before .before .pre) _ (d .before .before .before .before .before .region-of .ensures ∙ ap (regionOf (d .before .before .before .before .before .before .before .before .before .before .before .before .before .before .args .p)) (d .before .before .before .before .before .before .cluster-of .ensures)) _ (d .plan-of .ensures) _ _ _ _ _ _ _ _ _ (c .before .before .before .before .before .before .before .before .before .before .before .before .before .before .before .before .before .before .before .before .before .before .before .before .before .before .make-room .ensures _)
+    _ _ _ _ (c .before .before .before .before .before .before .before .put-cluster .ensures) (c .answered .ensures)
 
 pub write-orderly-spec : {M : Type 1} → statement M
 write-orderly-spec =
@@ -57,6 +77,7 @@ write-orderly-spec =
     region-of-requires
     plan-of-requires
     make-room-requires
+    find-frame-requires
     put-cluster-requires
     answered-requires
     same-length
