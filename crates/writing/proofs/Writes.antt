@@ -35,7 +35,7 @@ use Rattle.rules.proofs.Victims.{good-at}
 use Rattle.rules.proofs.WritePromise.{makes, counts, copies-few, erase-counts}
 use Rattle.choose.specs.Search.{Pool}
 use Rattle.reclaim.specs.Moves.{FromTo}
-use Rattle.reading.specs.Lookup.{Lookup, Stands}
+use Rattle.reading.specs.Lookup.{Lookup}
 use Rattle.writing.specs.Plans.{PlanAsked}
 use Rattle.writing.specs.Rooms.{OpenAsked, ReclaimReady, RoomAsked, RoomMade}
 use Rattle.writing.specs.Clusters.{Standing, ClusterPut, acceptedAnswer, Gives}
@@ -60,10 +60,6 @@ reclaiming p vw v e = go (so (hasRoom p vw)) (so (eqb (lowestUnassigned p vw) no
     go (inl h) s = absurd (omega (arith, ap kind (rw h at e)))
     go (inr h) (inr s) = absurd (omega (arith, ap kind (rw (h, s) at e)))
     go (inr h) (inl s) = record { noRoom = h; full = eqb-true _ _ s }
-
--- what was found for a number that is the cluster's stands for the cluster
-pub stands-made : (p : Params) (chip ct bt : List ℕ) (c c′ : ℕ) → c ≡ c′ → (kept : Bool) (frame : ℕ) → Stands p chip ct bt c kept frame → Stands p chip ct bt c′ kept frame
-stands-made p chip ct bt c c′ e kept frame s = rw e at s
 
 module _ (p : Params) (b : Board) (q : Request) (e : accessReply p b q ≡ Accepted) where
   acc : Admitted p b q

@@ -146,7 +146,7 @@ fn make_room(
     }
 }
 
-// The new cluster goes to frame f of virtual block v, its old sectors read from the frame where they now stand; CT and FST name its segment.
+// The new cluster goes to frame f of virtual block v, its old sectors read where the old one now stands; CT and FST name its segment.
 fn put_cluster(
     p: Params,
     chip: &mut [u8],
@@ -199,6 +199,7 @@ fn answered(p: Params, copied: usize, erases: u32) -> Answer
 }
 
 // The work of a write that has passed its checks: the state is not checked again.
+// The old cluster is looked up after the room is made, since a reclaim may have moved it.
 pub fn write_orderly(
     p: Params,
     chip: &mut [u8],

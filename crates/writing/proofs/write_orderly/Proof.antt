@@ -3,7 +3,7 @@
 use mathlib.Core.Path.{_≡_, ap, _∙_}
 use borrow.Author.Needs.{needs}
 use Rattle.rules.specs.Numbers.{regionOf}
-use Rattle.writing.proofs.Writes.{sectors, regions, ct-length, alpha-few, plan-asked, room-asked, lookup-made, standing, stands-made, copied-few, gives}
+use Rattle.writing.proofs.Writes.{sectors, regions, ct-length, alpha-few, plan-asked, room-asked, lookup-made, standing, copied-few, gives}
 use Rattle.writing.proofs.write_orderly.Statement.{statement}
 use Rattle.writing.proofs.write_orderly.Tie as tie
 
@@ -16,7 +16,7 @@ region-of-requires c κs = regions _ _ _ (c .before .before .before .before .bef
 plan-of-requires : tie.Need-plan-of-requires
 plan-of-requires c κs = (plan-asked _ _ _ (c .before .before .before .before .before .before .before .before .before .before .before .before .before .pre) _ (c .before .before .before .before .region-of .ensures ∙ ap (regionOf (c .before .before .before .before .before .before .before .before .before .before .before .before .before .args .p)) (c .before .before .before .before .before .cluster-of .ensures)), ct-length _ _ _ (c .before .before .before .before .before .before .before .before .before .before .before .before .before .pre))
 
--- from here on d is the place after the plan
+-- ---- from here on d is the place after the plan
 
 make-room-requires : tie.Need-make-room-requires
 make-room-requires c κs =
@@ -31,16 +31,14 @@ find-frame-requires c κs =
 
 put-cluster-requires : tie.Need-put-cluster-requires
 put-cluster-requires c κs =
-    let d = c .before .before .before .before .before .before .before .before .before .before .before .before .before .before .before .before .before .before .before .before .before .before .before .before in
-    (
+    let d = c .before .before .before .before .before .before .before .before .before .before .before .before .before .before .before .before .before .before .before .before .before .before .before .before in (
       standing _ _ _ (d .before .before .before .before .before .before .before .before .before .before .before .before .before .before .pre) _ (d .before .before .before .before .before .region-of .ensures ∙ ap (regionOf (d .before .before .before .before .before .before .before .before .before .before .before .before .before .before .args .p)) (d .before .before .before .before .before .before .cluster-of .ensures)) _ (d .plan-of .ensures) _ _ _ _ _ _ _ _ _ (c .before .before .before .before .before .before .before .before .before .before .before .before .before .before .before .before .before .before .make-room .ensures _),
-      stands-made _ _ _ _ _ _ (d .before .before .before .before .before .before .cluster-of .ensures) _ _ (c .before .before .before .before .find-frame .ensures),
+      rw (d .before .before .before .before .before .before .cluster-of .ensures) at (c .before .before .before .before .find-frame .ensures),
     )
 
 answered-requires : tie.Need-answered-requires
 answered-requires c κs =
-    let d = c .before .before .before .before .before .before .before .before .before .before .before .before .before .before .before .before .before .before .before .before .before .before .before .before .before .before .before .before .before .before .before in
-    (
+    let d = c .before .before .before .before .before .before .before .before .before .before .before .before .before .before .before .before .before .before .before .before .before .before .before .before .before .before .before .before .before .before .before in (
       alpha-few _ _ _ (d .before .before .before .before .before .before .before .before .before .before .before .before .before .before .pre),
       copied-few _ _ _ (d .before .before .before .before .before .before .before .before .before .before .before .before .before .before .pre) _ (d .before .before .before .before .before .region-of .ensures ∙ ap (regionOf (d .before .before .before .before .before .before .before .before .before .before .before .before .before .before .args .p)) (d .before .before .before .before .before .before .cluster-of .ensures)) _ (d .plan-of .ensures) _ _ _ _ _ _ _ _ _ (c .before .before .before .before .before .before .before .before .before .before .before .before .before .before .before .before .before .before .before .before .before .before .before .before .before .make-room .ensures _),
     )
