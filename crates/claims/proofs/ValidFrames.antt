@@ -15,7 +15,7 @@ use Rattle.rules.specs.Parameters.{frames}
 use Rattle.rules.specs.Numbers.{placeOf, regionOf, vblockOf}
 use Rattle.rules.specs.Tables.{none}
 use Rattle.rules.specs.Pages.{filled, frame, held, holds, lastIn, programmed}
-use Rattle.rules.specs.Regions.{View, frameOf, view}
+use Rattle.rules.specs.Regions.{View, frameOf, valid, view}
 use Rattle.rules.specs.Write.{continues, hasRoom, lowestUnassigned, opens, planOf, reclaims, victim}
 use Rattle.rules.proofs.Admitted.{orderly-region}
 use Rattle.rules.proofs.Continues.{continue-base}
@@ -68,6 +68,13 @@ module _ (p : Params) (z : Sizes p) (vw : View) (c : ℕ) (e : Entry p vw c) whe
       only = λ u g h w i. valid-one p z vw u g block-of frame-of h (e .held) (valid-in p vw u g w) is-valid (i ∙ sym held-is);
     },
   )
+
+-- the frame that CT leads to, by its place, is valid and holds the cluster
+pub named-valid : (p : Params) → Sizes p → (vw : View) (c : ℕ) → Entry p vw c
+    → (valid p vw (vblockOf p (vw .segOf c)) (lastIn p (vw .body (vblockOf p (vw .segOf c))) (placeOf p (vw .segOf c)) c) ≡ true)
+    × (held p (frame p (vw .body (vblockOf p (vw .segOf c))) (lastIn p (vw .body (vblockOf p (vw .segOf c))) (placeOf p (vw .segOf c)) c)) ≡ c)
+unfolding frame-of block-of
+named-valid p z vw c e = (valid-out p vw (block-of p z vw c e) (frame-of p z vw c e) (is-valid p z vw c e), held-is p z vw c e)
 
 pub valid-frame-read : ReadsValidFrame
 valid-frame-read p b h c low ne = go (nt .entries c low)

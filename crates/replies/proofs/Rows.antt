@@ -1,6 +1,7 @@
 -- The reply table, row by row: what the tests so far have shown, and the reply of the first row that applies.
 -- Assumes nothing.
 use mathlib.Core.Path.{_≡_, refl, sym, ap, _∙_}
+use lib.Dec.{leb}
 use mathlib.Core.Bool.{Bool, true, false, not, cond}
 use mathlib.Core.List.{List, [], _∷_}
 use native.Mathlib.Omega.{arith}
@@ -18,7 +19,7 @@ use Rattle.rules.specs.Tables.{Board}
 use Rattle.rules.specs.Orderly.{orderly}
 use Rattle.rules.specs.Format.{goodBlocks}
 use Rattle.rules.specs.Write.{Request}
-use Rattle.rules.specs.Replies.{Row, row, numberOf, lengthsFit, badParameter, wrongLength, badCount, badAddress, badCluster, wrongData, tooFewBlocks, notOrderly, firstRow, formatReply, accessReply, releaseReply}
+use Rattle.rules.specs.Replies.{Row, row, numberOf, lengthsFit, badParameter, wrongLength, badCount, badAddress, badCluster, wrongData, tooFewBlocks, notOrderly, firstRow, formatReply, accessReply, releaseReply, whyReply}
 use Rattle.rules.proofs.Sizes.{sizes}
 use Rattle.sizes.specs.Checks.{lengthsAre}
 use Rattle.sizes.proofs.Checks.{lengths-are}
@@ -139,6 +140,22 @@ module _ (p : Params) (b : Board) (c : ℕ) (h : Passed p b) where
   pub release-last : badCluster p c ≡ false → (r : Reply) → r ≡ stateReply p b → r ≡ releaseReply p b c
   unfolding releaseReply stateReply firstRow badParameter wrongLength
   release-last e r is = rw (h .fine, h .fits, e) is
+
+-- ---- of one LBA
+
+module _ (p : Params) (b : Board) (lba : ℕ) (h : Passed p b) where
+  -- the row of an address is that of a request for a sector there
+  address-is : (t : Bool) → ((q : Request) → q .lba ≡ lba → t ≡ badAddress p q) → leb (p .C * p .alpha) lba ≡ t
+  unfolding badAddress
+  address-is t e = sym (e (record { lba = lba; count = 1; bytes = [] }) refl)
+
+  pub why-4 : (t : Bool) → ((q : Request) → q .lba ≡ lba → t ≡ badAddress p q) → t ≡ true → BadAddress ≡ whyReply p b lba
+  unfolding whyReply firstRow badParameter wrongLength
+  why-4 t e k = rw (h .fine, h .fits, address-is t e, k)
+
+  pub why-last : (t : Bool) → ((q : Request) → q .lba ≡ lba → t ≡ badAddress p q) → t ≡ false → (r : Reply) → r ≡ stateReply p b → r ≡ whyReply p b lba
+  unfolding whyReply stateReply firstRow badParameter wrongLength
+  why-last t e k r is = rw (h .fine, h .fits, address-is t e, k) is
 
 -- ---- of a format
 

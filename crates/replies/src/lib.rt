@@ -7,7 +7,7 @@ ghost use lib.ListN.{length};
 ghost use Rattle.rules.specs.Parameters.{allowed};
 ghost use Rattle.rules.specs.Tables.{boardOf};
 ghost use Rattle.rules.specs.Write.{Request};
-ghost use Rattle.rules.specs.Replies.{badCount, badAddress, badCluster, wrongData, formatReply, accessReply, releaseReply};
+ghost use Rattle.rules.specs.Replies.{badCount, badAddress, badCluster, wrongData, formatReply, accessReply, releaseReply, whyReply};
 ghost use Rattle.rules.specs.Calls.{answerOf};
 ghost use Rattle.agree.specs.Check.{Lengths};
 ghost use Rattle.replies.specs.Rows.{boardReply, stateReply};
@@ -138,6 +138,29 @@ pub fn release_reply(
         return head;
     }
     if bad_cluster(p, c) {
+        return Reply::BadAddress;
+    }
+    state_reply(p, chip, ct, bt, fst, bst)
+}
+
+// The reply to the question why a sector reads so.
+pub fn why_reply(
+    p: Params,
+    chip: &[u8],
+    ct: &[u16],
+    bt: &[u16],
+    fst: &[u16],
+    bst: &[u8],
+    wear: &[u32],
+    lba: u32,
+) -> Reply
+    ensures { λ r. ⌜ r ≡ whyReply p (boardOf (now (chip .entry)) (now (ct .entry)) (now (bt .entry)) (now (fst .entry)) (now (bst .entry)) (now (wear .entry))) lba ⌝ }
+{
+    let head = board_reply(p, chip, ct, bt, fst, bst, wear);
+    if rules::number(head) != 0 {
+        return head;
+    }
+    if bad_address(p, lba) {
         return Reply::BadAddress;
     }
     state_reply(p, chip, ct, bt, fst, bst)

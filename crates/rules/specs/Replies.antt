@@ -108,7 +108,13 @@ unfoldable pub releaseReply : Params → Board → ℕ → Reply
 releaseReply p b c =
     firstRow (row (badParameter p) BadParameter ∷ row (wrongLength p b) WrongLength ∷ row (badCluster p c) BadAddress ∷ row (notOrderly p b) NotOrderly ∷ [])
 
+-- T-05: "Refusals: 1, 2, 4, 7", of one LBA
+unfoldable pub whyReply : Params → Board → ℕ → Reply
+whyReply p b lba =
+    firstRow
+    (row (badParameter p) BadParameter ∷ row (wrongLength p b) WrongLength ∷ row (leb (p .C * p .alpha) lba) BadAddress ∷ row (notOrderly p b) NotOrderly ∷ [])
+
 -- every definition of this file, for an `unfolding` line
 unfoldable pub all-replies : Unit {0}
-unfolding isAccepted lengthsFit badParameter wrongLength badCount badAddress badCluster wrongData tooFewBlocks notOrderly firstRow formatReply accessReply releaseReply
+unfolding isAccepted lengthsFit badParameter wrongLength badCount badAddress badCluster wrongData tooFewBlocks notOrderly firstRow formatReply accessReply releaseReply whyReply
 all-replies = tt

@@ -33,7 +33,7 @@ fn free_ok(p: Params, chip: &[u8], bst: &[u8], n: PBlock) -> bool
 }
 
 // The same of every block.
-fn frees_ok(p: Params, chip: &[u8], bst: &[u8]) -> bool
+pub fn frees_ok(p: Params, chip: &[u8], bst: &[u8]) -> bool
     requires { ⌜ allowed p ≡ true ⌝ }
     requires { ⌜ length (now chip) ≡ chipBytes p ⌝ }
     requires { ⌜ length (now bst) ≡ p .N ⌝ }
@@ -156,7 +156,7 @@ fn open_ok(p: Params, chip: &[u8], bt: &[u16], r: usize, sg: Segment) -> bool
 }
 
 // FST is none exactly if region r has no block, else it names the segment of the last programmed frame of the open block.
-fn fst_ok(p: Params, chip: &[u8], bt: &[u16], fst: &[u16], r: usize) -> bool
+pub fn fst_ok(p: Params, chip: &[u8], bt: &[u16], fst: &[u16], r: usize) -> bool
     requires { ⌜ Lent p (now chip) (now bt) ⌝ }
     requires { ⌜ length (now fst) ≡ p .mu ⌝ }
     requires { ⌜ r < p .mu ⌝ }

@@ -35,7 +35,7 @@ pub fn fst_at(fst: &[u16], r: usize) -> Segment
 }
 
 // Entry i of BT.
-fn bt_entry(bt: &[u16], i: usize) -> PBlock
+pub fn bt_entry(bt: &[u16], i: usize) -> PBlock
     requires { ⌜ i < length (now bt) ⌝ }
     ensures { λ n. ⌜ n .0 ≡ btEntry (now (bt .entry)) i ⌝ }
     ensures { λ n. ⌜ n .0 < 65536 ⌝ }

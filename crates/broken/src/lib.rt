@@ -1,0 +1,245 @@
+// Which rule of an orderly state a board breaks: the first in document 01's order. Each rule is a test of its own and is looked at only where those before it
+// hold. It is asked only of a state that is not orderly, so the tests search BT as often as they need.
+ghost use mathlib.Core.Path.{_≡_};
+ghost use mathlib.Core.Bool.{true, not, _||_, Bool·beq};
+ghost use mathlib.Core.List.{List};
+ghost use Prim.Native.Nat.{ℕ, _*_, _<_};
+ghost use lib.ListN.{length};
+ghost use lib.Dec.{eqb};
+ghost use Rattle.lists.specs.Below.{allBelow};
+ghost use Rattle.rules.specs.Parameters.{allowed, chipBytes};
+ghost use Rattle.rules.specs.Tables.{boardOf, none, btEntry, bstAt};
+ghost use Rattle.rules.specs.Orderly.{onceRule, named, usedRule};
+ghost use Rattle.agree.specs.Check.{Lent, fstOk};
+ghost use Rattle.broken.specs.Broken.{ruleNumber, firstBroken};
+ghost use Rattle.broken.specs.Tests.{blockOk, regionBlocksOk};
+use rules::PBlock;
+use rules::Params;
+use rules::VBlock;
+
+// The rules of an orderly state, in document 01's order.
+pub enum Rule {
+    BstValues,
+    BtRange,
+    NamedTwice,
+    UsedIfNamed,
+    TooFewLeft,
+    FreeErased,
+    UsedBlock,
+    Fst,
+    Ct,
+}
+
+// The place of a rule in that order, from 1 to 9.
+pub fn rule_number(r: Rule) -> u32
+    ensures { λ n. ⌜ n ≡ ruleNumber r ⌝ }
+{
+    match r {
+        Rule::BstValues => 1,
+        Rule::BtRange => 2,
+        Rule::NamedTwice => 3,
+        Rule::UsedIfNamed => 4,
+        Rule::TooFewLeft => 5,
+        Rule::FreeErased => 6,
+        Rule::UsedBlock => 7,
+        Rule::Fst => 8,
+        Rule::Ct => 9,
+    }
+}
+
+// Entries i and j of BT are one entry, or do not name the same block.
+fn pair_ok(bt: &[u16], i: usize, j: usize) -> bool
+    requires { ⌜ i < length (now bt) ⌝ }
+    requires { ⌜ j < length (now bt) ⌝ }
+    ensures { λ ok. ⌜ ok ≡ eqb i j || (eqb (btEntry (now (bt .entry)) i) none || not (eqb (btEntry (now (bt .entry)) i) (btEntry (now (bt .entry)) j))) ⌝ }
+{
+    if i == j {
+        return true;
+    }
+    let n = tables::bt_entry(bt, i);
+    if n.0 == 65535 {
+        return true;
+    }
+    let other = tables::bt_entry(bt, j);
+    n.0 != other.0
+}
+
+// No other entry of BT names the block of entry i.
+fn entry_once(p: Params, bt: &[u16], i: usize) -> bool
+    requires { ⌜ length (now bt) ≡ p .mu * p .gamma ⌝ }
+    requires { ⌜ i < p .mu * p .gamma ⌝ }
+    ensures { λ ok. ⌜ ok ≡ allBelow (p .mu * p .gamma) (λ j. eqb i j || (eqb (btEntry (now (bt .entry)) i) none || not (eqb (btEntry (now (bt .entry)) i) (btEntry (now (bt .entry)) j)))) ⌝ }
+{
+    let m = bt.len();
+    let mut j = 0;
+    while j < m {
+        if !pair_ok(bt, i, j) {
+            return false;
+        }
+        j += 1;
+    }
+    true
+}
+
+// No block is named twice.
+fn once_ok(p: Params, bt: &[u16]) -> bool
+    requires { ⌜ length (now bt) ≡ p .mu * p .gamma ⌝ }
+    ensures { λ ok. ⌜ ok ≡ onceRule p (now (bt .entry)) ⌝ }
+{
+    let m = bt.len();
+    let mut i = 0;
+    while i < m {
+        if !entry_once(p, bt, i) {
+            return false;
+        }
+        i += 1;
+    }
+    true
+}
+
+// BT names block n.
+fn is_named(p: Params, bt: &[u16], n: PBlock) -> bool
+    requires { ⌜ length (now bt) ≡ p .mu * p .gamma ⌝ }
+    ensures { λ yes. ⌜ yes ≡ named p (now (bt .entry)) (n .0) ⌝ }
+{
+    let m = bt.len();
+    let mut at = 0;
+    while at < m {
+        if tables::bt_entry(bt, at).0 == n.0 {
+            return true;
+        }
+        at += 1;
+    }
+    false
+}
+
+// Block n is used exactly if BT names it.
+fn used_if_named(p: Params, bt: &[u16], bst: &[u8], n: PBlock) -> bool
+    requires { ⌜ length (now bt) ≡ p .mu * p .gamma ⌝ }
+    requires { ⌜ n .0 < length (now bst) ⌝ }
+    ensures { λ ok. ⌜ ok ≡ Bool·beq (eqb (bstAt (now (bst .entry)) (n .0)) 1) (named p (now (bt .entry)) (n .0)) ⌝ }
+{
+    let yes = is_named(p, bt, n);
+    if tables::bst_at(bst, n) == 1 {
+        return yes;
+    }
+    !yes
+}
+
+// The same of every block.
+fn used_ok(p: Params, bt: &[u16], bst: &[u8]) -> bool
+    requires { ⌜ length (now bt) ≡ p .mu * p .gamma ⌝ }
+    requires { ⌜ length (now bst) ≡ p .N ⌝ }
+    ensures { λ ok. ⌜ ok ≡ usedRule p (now (bt .entry)) (now (bst .entry)) ⌝ }
+{
+    let m = p.N;
+    let mut n = 0;
+    while n < m {
+        if !used_if_named(p, bt, bst, PBlock(n)) {
+            return false;
+        }
+        n += 1;
+    }
+    true
+}
+
+// Virtual block v of region r has no block, or has a used block of that region.
+fn block_ok(p: Params, chip: &[u8], bt: &[u16], r: usize, v: VBlock) -> bool
+    requires { ⌜ Lent p (now chip) (now bt) ⌝ }
+    requires { ⌜ r < p .mu ⌝ }
+    requires { ⌜ v .0 < p .gamma ⌝ }
+    ensures { λ ok. ⌜ ok ≡ blockOk p (now (chip .entry)) (now (bt .entry)) r (v .0) ⌝ }
+{
+    let n = tables::bt_at(p, bt, r, v);
+    if n.0 == 65535 {
+        return true;
+    }
+    blocks::block_ok(p, r, blocks::block_of(p, chip, n))
+}
+
+// The same of every virtual block of region r.
+fn region_blocks_ok(p: Params, chip: &[u8], bt: &[u16], r: usize) -> bool
+    requires { ⌜ Lent p (now chip) (now bt) ⌝ }
+    requires { ⌜ r < p .mu ⌝ }
+    ensures { λ ok. ⌜ ok ≡ regionBlocksOk p (now (chip .entry)) (now (bt .entry)) r ⌝ }
+{
+    let m = p.gamma;
+    let mut v = 0;
+    while v < m {
+        if !block_ok(p, chip, bt, r, VBlock(v)) {
+            return false;
+        }
+        v += 1;
+    }
+    true
+}
+
+// The same of every region.
+fn blocks_ok(p: Params, chip: &[u8], bt: &[u16]) -> bool
+    requires { ⌜ Lent p (now chip) (now bt) ⌝ }
+    ensures { λ ok. ⌜ ok ≡ allBelow (p .mu) (regionBlocksOk p (now (chip .entry)) (now (bt .entry))) ⌝ }
+{
+    let m = p.mu;
+    let mut r = 0;
+    while r < m {
+        if !region_blocks_ok(p, chip, bt, r) {
+            return false;
+        }
+        r += 1;
+    }
+    true
+}
+
+// FST is as it should be for every region.
+fn fsts_ok(p: Params, chip: &[u8], bt: &[u16], fst: &[u16]) -> bool
+    requires { ⌜ Lent p (now chip) (now bt) ⌝ }
+    requires { ⌜ length (now fst) ≡ p .mu ⌝ }
+    ensures { λ ok. ⌜ ok ≡ allBelow (p .mu) (fstOk p (now (chip .entry)) (now (bt .entry)) (now (fst .entry))) ⌝ }
+{
+    let m = p.mu;
+    let mut r = 0;
+    while r < m {
+        if !state::fst_ok(p, chip, bt, fst, r) {
+            return false;
+        }
+        r += 1;
+    }
+    true
+}
+
+// The first rule that does not hold, of a state that is not orderly: each is looked at only where those before it hold. The last needs no look: where the eight
+// others hold it is the one, whatever CT has.
+pub fn first_broken(p: Params, chip: &[u8], bt: &[u16], fst: &[u16], bst: &[u8]) -> Rule
+    requires { ⌜ allowed p ≡ true ⌝ }
+    requires { ⌜ length (now chip) ≡ chipBytes p ⌝ }
+    requires { ⌜ length (now bt) ≡ p .mu * p .gamma ⌝ }
+    requires { ⌜ length (now fst) ≡ p .mu ⌝ }
+    requires { ⌜ length (now bst) ≡ p .N ⌝ }
+    ensures { λ r. ⌜ ((ct wear : List ℕ) → r ≡ firstBroken p (boardOf (now (chip .entry)) ct (now (bt .entry)) (now (fst .entry)) (now (bst .entry)) wear)) ⌝ }
+{
+    if !tables::bst_ok(p, bst) {
+        return Rule::BstValues;
+    }
+    if !tables::bt_ok(p, bt) {
+        return Rule::BtRange;
+    }
+    if !once_ok(p, bt) {
+        return Rule::NamedTwice;
+    }
+    if !used_ok(p, bt, bst) {
+        return Rule::UsedIfNamed;
+    }
+    if !tables::room_ok(p, bst) {
+        return Rule::TooFewLeft;
+    }
+    if !state::frees_ok(p, chip, bst) {
+        return Rule::FreeErased;
+    }
+    if !blocks_ok(p, chip, bt) {
+        return Rule::UsedBlock;
+    }
+    if !fsts_ok(p, chip, bt, fst) {
+        return Rule::Fst;
+    }
+    Rule::Ct
+}

@@ -1,0 +1,3 @@
+pub mod Forecasts
+pub mod Answers
+pub mod Truths
