@@ -6,20 +6,22 @@
  * BST and wear) in memory that the caller owns and lends for the length of
  * one call.  To keep a board, keep these six arrays and its parameters.
  *
- * There are four calls: cnftl_format, cnftl_read, cnftl_write and
- * cnftl_release.  Each one returns for every request and for every content of
+ * There are five calls: cnftl_format, cnftl_read, cnftl_write, cnftl_release
+ * and cnftl_why.  Each one returns for every request and for every content of
  * the lent memory.  What cannot be done is refused by number, and a refusal
- * changes no lent byte.
+ * changes no lent byte; only the list of a cnftl_why is filled with reply 7
+ * too.
  *
  * A slice passes as a pointer and then a length in ELEMENTS (bytes for chip,
- * bst and data; 16-bit entries for ct, bt and fst; 32-bit entries for wear).
+ * bst and data; 16-bit entries for ct, bt and fst; 32-bit entries for wear and
+ * list).
  *
  * What the caller answers for:
  *   - Every pointer is non-null and aligned for its element type, even when
  *     its length is 0.
  *   - Each slice is really as long as its length says.
  *   - No two slices of one call overlap: not two tables, not a table and the
- *     chip, and not the data and any of them.
+ *     chip, and not the data or the list and any of them.
  *   - During a call nobody else writes the lent memory, and during a format,
  *     a write or a release nobody else reads it.  Calls on different boards
  *     may run at the same time.
@@ -80,12 +82,12 @@ struct cnftl_params {
 
 /*
  * The replies, checked in the order of their numbers.  Only CNFTL_ACCEPTED
- * changes anything.  Later issues may add numbers.
+ * changes the board.  Later issues may add numbers.
  */
 enum cnftl_reply {
     CNFTL_ACCEPTED = 0,       /* done                                       */
     CNFTL_BAD_PARAMETER = 1,  /* a parameter breaks the rules above         */
-    CNFTL_WRONG_LENGTH = 2,   /* chip or a table has the wrong length       */
+    CNFTL_WRONG_LENGTH = 2,   /* chip, table or list of the wrong length    */
     CNFTL_BAD_COUNT = 3,      /* count 0, or past the end of the cluster    */
     CNFTL_BAD_ADDRESS = 4,    /* lba is c*alpha or more, a cluster c or more*/
     CNFTL_WRONG_DATA = 5,     /* data length is not count*s                 */
@@ -98,6 +100,50 @@ enum cnftl_block_state {
     CNFTL_BLOCK_FREE = 0,
     CNFTL_BLOCK_USED = 1,
     CNFTL_BLOCK_RESERVED = 2
+};
+
+/* The entries of the list that a cnftl_why fills, and their number. */
+enum cnftl_why_entry {
+    CNFTL_WHY_REPLY = 0,    /* the reply, 0 or 7                            */
+    CNFTL_WHY_RULE = 1,     /* with reply 7 the first rule broken, else 0   */
+    CNFTL_WHY_HELD = 2,     /* 1 if a frame holds the cluster, else 0       */
+    CNFTL_WHY_REGION = 3,   /* where it is held: region,                    */
+    CNFTL_WHY_SEGMENT = 4,  /*   segment, counted within the region,        */
+    CNFTL_WHY_VIRTUAL = 5,  /*   virtual block,                             */
+    CNFTL_WHY_PHYSICAL = 6, /*   physical block,                            */
+    CNFTL_WHY_FRAME = 7,    /*   frame in the block; 0 unless held          */
+    CNFTL_WHY_WRITE = 8,    /* what a write would do: a cnftl_why_write     */
+    CNFTL_WHY_TARGET = 9,   /*   the virtual block it would do it with      */
+    CNFTL_WHY_TAKES = 10,   /*   the frame that the write would take        */
+    CNFTL_WHY_COPIES = 11,  /*   valid frames that it would copy first      */
+    CNFTL_WHY_ENTRIES = 12
+};
+
+/*
+ * The rules of an orderly state, in the order in which they are looked at.
+ * Each of them relies on those before it.
+ */
+enum cnftl_rule {
+    CNFTL_RULE_NONE = 0,       /* no rule is broken                         */
+    CNFTL_RULE_BST = 1,        /* BST holds 0, 1 or 2                       */
+    CNFTL_RULE_BT = 2,         /* BT entries are none or below n            */
+    CNFTL_RULE_TWICE = 3,      /* no block is named twice                   */
+    CNFTL_RULE_USED = 4,       /* a block is used exactly if BT names it    */
+    CNFTL_RULE_ENOUGH = 5,     /* mu*gamma+1 blocks or more not reserved    */
+    CNFTL_RULE_FREE = 6,       /* free blocks are erased throughout         */
+    CNFTL_RULE_USED_BLOCK = 7, /* a used block: the first frames programmed
+                                  as they should be, the rest erased        */
+    CNFTL_RULE_FST = 8,        /* FST names the open block's last segment,
+                                  and the region's others are full          */
+    CNFTL_RULE_CT = 9          /* CT is none or names a segment that holds
+                                  the cluster                               */
+};
+
+/* What a write would do for its frame. */
+enum cnftl_why_write {
+    CNFTL_WRITE_CONTINUES = 1, /* takes the next frame of the open block    */
+    CNFTL_WRITE_OPENS = 2,     /* opens a virtual block that has none       */
+    CNFTL_WRITE_RECLAIMS = 3   /* reclaims a virtual block                  */
 };
 
 /*
@@ -168,6 +214,31 @@ uint64_t cnftl_release(uint32_t s, uint32_t alpha, uint32_t beta, uint32_t d,
                        const uint8_t *bst, size_t bst_len,
                        const uint32_t *wear, size_t wear_len,
                        uint32_t cluster);
+
+/*
+ * Why sector lba reads as it does, and what a write of it would do.  The list
+ * must have CNFTL_WHY_ENTRIES entries; with reply 0 and 7 all of them are
+ * filled, with the others the list stays as it was.  With reply 7 entry
+ * CNFTL_WHY_RULE is the first rule of an orderly state that is broken, and
+ * those after it are 0.  With reply 0 the entries say where the sector's
+ * cluster is held, and give the forecast of a write: a cnftl_write of sectors
+ * of this cluster that is accepted as the next call takes frame
+ * CNFTL_WHY_TAKES of virtual block CNFTL_WHY_TARGET, programs
+ * alpha*(CNFTL_WHY_COPIES + 1) pages, and erases 1 block exactly if
+ * CNFTL_WHY_WRITE is CNFTL_WRITE_RECLAIMS.
+ * Replies 1, 2, 4, 7, 0.  Counts: 0 and 0.  Writes list only, and that only
+ * with reply 0 and 7.
+ */
+uint64_t cnftl_why(uint32_t s, uint32_t alpha, uint32_t beta, uint32_t d,
+                   uint32_t mu, uint32_t gamma, uint32_t c, uint32_t n,
+                   const uint8_t *chip, size_t chip_len,
+                   const uint16_t *ct, size_t ct_len,
+                   const uint16_t *bt, size_t bt_len,
+                   const uint16_t *fst, size_t fst_len,
+                   const uint8_t *bst, size_t bst_len,
+                   const uint32_t *wear, size_t wear_len,
+                   uint32_t lba,
+                   uint32_t *list, size_t list_len);
 
 /*
  * An answer is reply + 65,536 * programs + 4,294,967,296 * erases.
@@ -304,6 +375,12 @@ static inline uint64_t cnftl_board_release(const struct cnftl_board *b,
                                            uint32_t cluster)
 {
     return cnftl_release(CNFTL_BOARD(b), cluster);
+}
+
+static inline uint64_t cnftl_board_why(const struct cnftl_board *b,
+                                       uint32_t lba, uint32_t *list)
+{
+    return cnftl_why(CNFTL_BOARD(b), lba, list, CNFTL_WHY_ENTRIES);
 }
 
 #ifdef __cplusplus

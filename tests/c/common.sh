@@ -14,7 +14,7 @@ else
 fi
 strict=(-Wall -Wextra -Werror -pedantic -Iinclude)
 archive=target/staticlib/libcnftl.a
-exported="cnftl_format cnftl_read cnftl_release cnftl_write" # what the archive offers, sorted
+exported="cnftl_format cnftl_read cnftl_release cnftl_why cnftl_write" # what the archive offers, sorted
 if [ ! -f "$archive" ] || [ -n "$(find crates crates.txt -newer "$archive" -print -quit)" ]; then
     rt staticlib cnftl >"$room/staticlib" 2>&1 || cat "$room/staticlib"
 fi

@@ -2,9 +2,10 @@
  * fuzz.c - compares cnftl_* of the linked archive with the model, call by call.
  *
  * Both sides own a copy of one board.  Each call is made on both; then the
- * answers, every byte of chip, tables and data, and the guard bytes around
- * each slice must be equal.  Accepted reads are also compared with a plain
- * record of the bytes last accepted for each sector (the shadow).
+ * answers, every byte of chip, tables, data and list, and the guard bytes
+ * around each slice must be equal.  Accepted reads are also compared with a
+ * plain record of the bytes last accepted for each sector (the shadow), and
+ * what a why has told with the read and the write that follow it.
  *
  *   fuzz [--calls N] [--seed S] [--mutant K]    compare
  *   fuzz --mutants                              list the model's mutants
@@ -22,13 +23,16 @@
 #include <stdlib.h>
 #include <string.h>
 
-enum slice { CHIP, CT, BT, FST, BST, WEAR, TABLES, DATA = TABLES, SLICES };
+enum slice {
+    CHIP, CT, BT, FST, BST, WEAR, TABLES, DATA = TABLES, LIST, SLICES
+};
 enum { GUARD = 64, DATA_ROOM = 16 * 512 + GUARD, REPLIES = 8 };
+enum { LIST_ROOM = (CNFTL_WHY_ENTRIES + 1) * 4, RULES = CNFTL_RULE_CT + 1 };
 
 static const char *const slice_name[SLICES] = {
-    "chip", "ct", "bt", "fst", "bst", "wear", "data"
+    "chip", "ct", "bt", "fst", "bst", "wear", "data", "list"
 };
-static const size_t width[SLICES] = { 1, 2, 2, 2, 1, 4, 1 };
+static const size_t width[SLICES] = { 1, 2, 2, 2, 1, 4, 1, 4 };
 
 /* ==== Chance =========================================================== */
 
@@ -100,10 +104,10 @@ static uint16_t *words_of(const struct side *a, enum slice i)
     return (uint16_t *)(void *)bytes_of(a, i);
 }
 
-/* The same for the 32-bit entries of wear. */
-static uint32_t *wear_of(const struct side *a)
+/* The same for a slice of 32-bit entries. */
+static uint32_t *longs_of(const struct side *a, enum slice i)
 {
-    return (uint32_t *)(void *)bytes_of(a, WEAR);
+    return (uint32_t *)(void *)bytes_of(a, i);
 }
 
 /* Shorthand for the tables of the side on which states are built. */
@@ -169,7 +173,8 @@ static void open_board(struct cnftl_params p, size_t chip_bytes)
     right_len[BST] = cnftl_bst_entries(&p);
     right_len[WEAR] = cnftl_wear_entries(&p);
     for (int i = 0; i < SLICES; i++) {
-        room[i] = i == DATA ? DATA_ROOM : right_len[i] * width[i];
+        room[i] = i == DATA ? DATA_ROOM : i == LIST ? LIST_ROOM
+                : right_len[i] * width[i];
         product.raw[i] = get_memory(room[i] + 2 * GUARD);
         model.raw[i] = get_memory(room[i] + 2 * GUARD);
         saved.raw[i] = get_memory(room[i] + 2 * GUARD);
@@ -196,15 +201,18 @@ static void close_board(void)
 /* ==== One call on both sides =========================================== */
 
 struct call {
-    char kind; /* 'F', 'R', 'W' or, for a release, 'L' */
+    char kind; /* 'F', 'R', 'W', for a release 'L', for a why 'Y' */
     struct cnftl_params p;
     size_t len[SLICES];
     uint32_t lba, count; /* lba is a release's cluster */
 };
 
-static const char call_kinds[] = "FRWL";
+static const char call_kinds[] = "FRWLY";
 static uint64_t calls, limit = 1000000, seed = 1;
-static uint64_t seen[REPLIES], kinds[4], reclaims, shadow_reads;
+static uint64_t seen[REPLIES], kinds[5], reclaims, shadow_reads;
+static uint64_t broken[RULES];   /* rules that a why has told */
+static uint64_t forecasts[4];    /* writes as a why has forecast them */
+static uint64_t held_reads;      /* reads of a frame that a why has told */
 
 #define PARAMETERS(k)                                                          \
     (k)->p.s, (k)->p.alpha, (k)->p.beta, (k)->p.d, (k)->p.mu, (k)->p.gamma,    \
@@ -213,9 +221,10 @@ static uint64_t seen[REPLIES], kinds[4], reclaims, shadow_reads;
     PARAMETERS(k), bytes_of(a, CHIP), (k)->len[CHIP],                          \
     words_of(a, CT), (k)->len[CT], words_of(a, BT), (k)->len[BT],              \
     words_of(a, FST), (k)->len[FST], bytes_of(a, BST), (k)->len[BST],          \
-    wear_of(a), (k)->len[WEAR]
+    longs_of(a, WEAR), (k)->len[WEAR]
 #define REQUEST(k, a)                                                          \
     (k)->lba, (k)->count, bytes_of(a, DATA), (k)->len[DATA]
+#define QUESTION(k, a) (k)->lba, longs_of(a, LIST), (k)->len[LIST]
 
 /* The call on the product. */
 static uint64_t call_product(const struct call *k)
@@ -227,6 +236,8 @@ static uint64_t call_product(const struct call *k)
         return cnftl_read(LENT(k, &product), REQUEST(k, &product));
     case 'L':
         return cnftl_release(LENT(k, &product), k->lba);
+    case 'Y':
+        return cnftl_why(LENT(k, &product), QUESTION(k, &product));
     default:
         return cnftl_write(LENT(k, &product), REQUEST(k, &product));
     }
@@ -242,6 +253,8 @@ static uint64_t call_model(const struct call *k)
         return model_read(LENT(k, &model), REQUEST(k, &model));
     case 'L':
         return model_release(LENT(k, &model), k->lba);
+    case 'Y':
+        return model_why(LENT(k, &model), QUESTION(k, &model));
     default:
         return model_write(LENT(k, &model), REQUEST(k, &model));
     }
@@ -274,8 +287,9 @@ static void differ(const struct call *k, const char *what, uint64_t by_product,
 {
     printf("fuzz: difference in %s at call %" PRIu64 " (seed %" PRIu64 ")\n",
            what, calls, seed);
-    printf("  call %c, lba %" PRIu32 ", count %" PRIu32 ", data %zu bytes\n",
-           k->kind, k->lba, k->count, k->len[DATA]);
+    printf("  call %c, lba %" PRIu32 ", count %" PRIu32 ", data %zu bytes, "
+           "list %zu entries\n", k->kind, k->lba, k->count, k->len[DATA],
+           k->len[LIST]);
     printf("  s=%" PRIu32 " alpha=%" PRIu32 " beta=%" PRIu32 " d=%" PRIu32
            " mu=%" PRIu32 " gamma=%" PRIu32 " c=%" PRIu32 " n=%" PRIu32 "\n",
            PARAMETERS(k));
@@ -300,6 +314,8 @@ static void follow_shadow(const struct call *k, uint64_t a)
 {
     uint8_t *sectors = shadow + (size_t)k->lba * par.s;
 
+    if (k->kind == 'Y')
+        return;
     if (!own_parameters(k)) {
         shadow_holds = shadow_holds && k->kind == 'R';
     } else if (k->kind == 'F') {
@@ -324,19 +340,28 @@ static void count_call(const struct call *k, uint64_t a)
     kinds[strchr(call_kinds, k->kind) - call_kinds]++;
     seen[cnftl_reply_of(a)]++;
     reclaims += k->kind == 'W' && cnftl_erases_of(a) == 1;
+    if (k->kind == 'Y' && cnftl_reply_of(a) == CNFTL_NOT_ORDERLY)
+        broken[longs_of(&product, LIST)[CNFTL_WHY_RULE] % RULES]++;
     if (calls % 100000 == 0)
         fprintf(stderr, "fuzz: %" PRIu64 " calls\n", calls);
 }
 
+/* Gives a slice its length for this call and random bytes on both sides. */
+static void fill_slice(const struct call *k, enum slice i)
+{
+    room[i] = k->len[i] * width[i];
+    fill_random(product.raw[i], room[i] + 2 * GUARD);
+    memcpy(model.raw[i], product.raw[i], room[i] + 2 * GUARD);
+}
+
 /* Makes a call on both sides and compares all that they may have touched.
-   Returns the reply. */
-static uint32_t make_call(const struct call *k)
+   Returns the answer. */
+static uint64_t answer_of(const struct call *k)
 {
     uint64_t by_product, by_model;
 
-    room[DATA] = k->len[DATA];
-    fill_random(product.raw[DATA], room[DATA] + 2 * GUARD);
-    memcpy(model.raw[DATA], product.raw[DATA], room[DATA] + 2 * GUARD);
+    fill_slice(k, DATA);
+    fill_slice(k, LIST);
     by_product = call_product(k);
     by_model = call_model(k);
     if (by_product != by_model)
@@ -347,7 +372,13 @@ static uint32_t make_call(const struct call *k)
     count_call(k, by_product);
     if (cnftl_reply_of(by_product) == CNFTL_ACCEPTED)
         follow_shadow(k, by_product);
-    return cnftl_reply_of(by_product);
+    return by_product;
+}
+
+/* The same; returns the reply. */
+static uint32_t make_call(const struct call *k)
+{
+    return cnftl_reply_of(answer_of(k));
 }
 
 /* A request that is right for the board. */
@@ -360,7 +391,8 @@ static struct call right_call(char kind)
     memcpy(k.len, right_len, sizeof right_len);
     k.lba = kind == 'L' ? cluster : cluster * par.alpha + place;
     k.count = between(1, par.alpha - place);
-    k.len[DATA] = kind == 'L' ? 0 : (size_t)k.count * par.s;
+    k.len[DATA] = strchr("LY", kind) ? 0 : (size_t)k.count * par.s;
+    k.len[LIST] = kind == 'Y' ? CNFTL_WHY_ENTRIES : 0;
     return k;
 }
 
@@ -476,12 +508,23 @@ static void fault_data(struct call *k)
     k->len[DATA] = values[below(5)] % DATA_ROOM;
 }
 
+/* A list that is missing, or one entry too short or too long. */
+static void fault_list(struct call *k)
+{
+    static const size_t values[] = {
+        0, CNFTL_WHY_ENTRIES - 1, CNFTL_WHY_ENTRIES + 1
+    };
+
+    if (k->kind == 'Y')
+        k->len[LIST] = values[below(3)];
+}
+
 /* One to four faults at once. */
 static void add_faults(struct call *k)
 {
     static void (*const faults[])(struct call *) = {
         fault_parameter, fault_parameters, fault_length, fault_count,
-        fault_address, fault_data
+        fault_address, fault_data, fault_list
     };
 
     do
@@ -574,7 +617,7 @@ static void random_wear(void)
             0, below(3), UINT32_MAX - below(3), (uint32_t)rnd()
         };
 
-        wear_of(&product)[b] = values[kind];
+        longs_of(&product, WEAR)[b] = values[kind];
     }
 }
 
@@ -858,6 +901,59 @@ static void change_state(void)
 
 static uint32_t rest_of_episode; /* calls that this board still gets */
 
+/* Reads one sector, and compares it with the frame that a why has told. */
+static void read_as_told(struct call k, const uint32_t *list)
+{
+    const uint8_t *page = frame_at(list[CNFTL_WHY_PHYSICAL],
+                                   list[CNFTL_WHY_FRAME])
+                        + k.lba % par.alpha * cnftl_page_bytes(&par);
+    uint64_t a = answer_of(&k);
+
+    for (uint32_t i = 0; i < par.s; i++)
+        if (bytes_of(&product, DATA)[i] != (list[CNFTL_WHY_HELD] ? page[i]
+                                                                 : 255))
+            differ(&k, "the frame told", a, a);
+    held_reads += list[CNFTL_WHY_HELD];
+}
+
+/* Writes one sector, and compares the counts of the write and the segment that
+   CT and FST then name with the forecast. */
+static void write_as_told(struct call k, const uint32_t *list)
+{
+    uint32_t cluster = k.lba / par.alpha;
+    uint32_t segment = list[CNFTL_WHY_TARGET] * par.d
+                     + list[CNFTL_WHY_TAKES] / par.beta;
+    uint64_t a = answer_of(&k);
+
+    if (cnftl_reply_of(a) != CNFTL_ACCEPTED
+        || cnftl_programs_of(a) != par.alpha * (list[CNFTL_WHY_COPIES] + 1)
+        || cnftl_erases_of(a)
+               != (list[CNFTL_WHY_WRITE] == CNFTL_WRITE_RECLAIMS)
+        || ct[cluster] != segment || fst[cluster % par.mu] != segment)
+        differ(&k, "the forecast", a, a);
+    forecasts[list[CNFTL_WHY_WRITE] % 4]++;
+}
+
+/* After a why that was accepted with the board's own parameters: at times a
+   read or a write of the same sector at once, which must be as told. */
+static void hold_to_it(const struct call *why)
+{
+    uint32_t list[CNFTL_WHY_ENTRIES];
+    struct call k = *why;
+
+    if (!own_parameters(why) || once_in(3) || calls >= limit)
+        return;
+    memcpy(list, bytes_of(&product, LIST), sizeof list);
+    k.kind = "RW"[below(2)];
+    k.count = 1;
+    k.len[DATA] = par.s;
+    k.len[LIST] = 0;
+    if (k.kind == 'R')
+        read_as_told(k, list);
+    else
+        write_as_told(k, list);
+}
+
 /* Makes a few requests on a changed state, and then goes back to the state
    before or, where the changed one is orderly, perhaps goes on with it. */
 static void changed_requests(void)
@@ -869,11 +965,13 @@ static void changed_requests(void)
     change_state();
     shadow_holds = false;
     do {
-        struct call k = right_call("RRRWWWL"[below(7)]);
+        struct call k = right_call("RRRWWWLYY"[below(9)]);
 
         if (once_in(8))
             add_faults(&k);
         reply = make_call(&k);
+        if (k.kind == 'Y' && reply == CNFTL_ACCEPTED)
+            hold_to_it(&k);
     } while (--times > 0 && calls < limit);
     if (reply == CNFTL_ACCEPTED && once_in(4))
         return;
@@ -885,7 +983,7 @@ static void changed_requests(void)
 /* One call of any kind with faults. */
 static void faulty_request(void)
 {
-    struct call k = right_call("FRRWWL"[below(6)]);
+    struct call k = right_call("FRRWWLYY"[below(8)]);
 
     add_faults(&k);
     make_call(&k);
@@ -900,16 +998,19 @@ static void format_request(void)
         rest_of_episode = 8;
 }
 
-/* A right read, write or release.  It is accepted if the board was changed by calls
-   alone since a format; a board that is not orderly is formatted soon. */
+/* A right read, write, release or why.  It is accepted if the board was changed
+   by calls alone since a format; a board that is not orderly is formatted
+   soon. */
 static void right_request(void)
 {
-    struct call k = right_call("RRRRWWWWWWWL"[below(12)]);
+    struct call k = right_call("RRRRWWWWWWWLYY"[below(14)]);
     bool sound = shadow_holds;
     uint32_t reply = make_call(&k);
 
     if (sound && reply != CNFTL_ACCEPTED)
         differ(&k, "the reply on a sound board", reply, CNFTL_ACCEPTED);
+    if (k.kind == 'Y' && reply == CNFTL_ACCEPTED)
+        hold_to_it(&k);
     if (reply == CNFTL_NOT_ORDERLY && once_in(4) && calls < limit)
         format_request();
 }
@@ -966,8 +1067,8 @@ static void run_wrapped_board(void)
 
     assert((uint64_t)cnftl_chip_bytes(&p) == UINT64_C(4294967296));
     open_board(p, 0);
-    for (int i = 0; i < 3 && calls < limit; i++) {
-        struct call k = right_call("FRW"[i]);
+    for (int i = 0; i < 4 && calls < limit; i++) {
+        struct call k = right_call("FRWY"[i]);
 
         make_call(&k);
     }
@@ -1112,7 +1213,8 @@ static void run_all(void)
 /* Prints what was seen; false if something never was. */
 static bool report(void)
 {
-    bool all = reclaims > 0 && shadow_reads > 0 && kinds[3] > 0;
+    bool all = reclaims > 0 && shadow_reads > 0 && kinds[3] > 0
+            && held_reads > 0;
 
     for (int r = 0; r < REPLIES; r++) {
         printf("fuzz: reply %d: %" PRIu64 " calls\n", r, seen[r]);
@@ -1122,6 +1224,16 @@ static bool report(void)
            " compared with the bytes last accepted), %" PRIu64 " writes, %"
            PRIu64 " reclaims, %" PRIu64 " releases\n", kinds[0], kinds[1],
            shadow_reads, kinds[2], reclaims, kinds[3]);
+    printf("fuzz: %" PRIu64 " whys, %" PRIu64 " read as told, written as told:"
+           " %" PRIu64 " continued, %" PRIu64 " opened, %" PRIu64
+           " reclaimed\n", kinds[4], held_reads, forecasts[1], forecasts[2],
+           forecasts[3]);
+    for (int i = 1; i < 4; i++)
+        all = all && forecasts[i] > 0;
+    for (int i = 1; i < RULES; i++) {
+        printf("fuzz: rule %d told broken: %" PRIu64 " times\n", i, broken[i]);
+        all = all && broken[i] > 0;
+    }
     return all;
 }
 

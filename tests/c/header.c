@@ -154,6 +154,44 @@ static void check_release(void)
     assert(is(cnftl_board_release(&board, 5), CNFTL_NOT_ORDERLY, 0, 0));
 }
 
+/* Why, on the way of a region of Board T through all that a write can do: it
+   opens, continues and reclaims; then reply 4, and 7 with its rule. */
+static void check_why(void)
+{
+    static const uint32_t never[CNFTL_WHY_ENTRIES] = {
+        0, 0, 0, 0, 0, 0, 0, 0, CNFTL_WRITE_OPENS, 0, 0, 0
+    };
+    static const uint32_t once[CNFTL_WHY_ENTRIES] = {
+        0, 0, 1, 1, 0, 0, 0, 0, CNFTL_WRITE_CONTINUES, 0, 1, 0
+    };
+    static const uint32_t full[CNFTL_WHY_ENTRIES] = {
+        0, 0, 1, 1, 3, 1, 1, 1, CNFTL_WRITE_RECLAIMS, 0, 0, 0
+    };
+    static const uint32_t broken[CNFTL_WHY_ENTRIES] = {
+        CNFTL_NOT_ORDERLY, CNFTL_RULE_FST, 0, 0, 0, 0, 0, 0, 0, 0, 0, 0
+    };
+    uint32_t list[CNFTL_WHY_ENTRIES];
+
+    new_board();
+    assert(is(cnftl_board_format(&board), CNFTL_ACCEPTED, 0, 5));
+    assert(is(cnftl_board_why(&board, 3, list), CNFTL_ACCEPTED, 0, 0));
+    assert(memcmp(list, never, sizeof list) == 0);
+    assert(is(cnftl_board_write(&board, 3, 1, data, 16), CNFTL_ACCEPTED,
+              2, 0));
+    assert(is(cnftl_board_why(&board, 3, list), CNFTL_ACCEPTED, 0, 0));
+    assert(memcmp(list, once, sizeof list) == 0);
+    for (int i = 0; i < 3; i++)
+        assert(is(cnftl_board_write(&board, 3, 1, data, 16), CNFTL_ACCEPTED,
+                  2, 0));
+    assert(is(cnftl_board_why(&board, 3, list), CNFTL_ACCEPTED, 0, 0));
+    assert(memcmp(list, full, sizeof list) == 0);
+    assert(is(cnftl_board_why(&board, 12, list), CNFTL_BAD_ADDRESS, 0, 0));
+    assert(memcmp(list, full, sizeof list) == 0);
+    fst[1] = CNFTL_NONE;
+    assert(is(cnftl_board_why(&board, 3, list), CNFTL_NOT_ORDERLY, 0, 0));
+    assert(memcmp(list, broken, sizeof list) == 0);
+}
+
 /* The replies that the cases above do not give, through the long calls. */
 static void check_replies(void)
 {
@@ -196,6 +234,7 @@ int main(void)
     check_session();
     check_cases();
     check_release();
+    check_why();
     check_replies();
     printf("header: Board T answers as printed\n");
     return 0;

@@ -496,18 +496,34 @@ static bool ct_entries_orderly(const struct view *v)
     return true;
 }
 
-/* All rules, in the document's order; each relies on those before it. */
+/* The rules in the document's order; each relies on those before it. */
+static bool (*const rules[])(const struct view *) = {
+    bst_entries_orderly,
+    bt_entries_orderly,
+    no_block_named_twice,
+    used_exactly_if_named,
+    enough_blocks,
+    free_blocks_erased,
+    used_blocks_orderly,
+    fst_entries_orderly,
+    ct_entries_orderly
+};
+
+enum { RULES = sizeof rules / sizeof *rules };
+
+/* The number of the first rule that is broken, counted from 1, or 0. */
+static uint32_t broken_rule(const struct view *v)
+{
+    for (uint32_t i = 0; i < RULES; i++)
+        if (!rules[i](v))
+            return i + 1;
+    return 0;
+}
+
+/* Whether no rule is broken. */
 static bool orderly(const struct view *v)
 {
-    return bst_entries_orderly(v)
-        && bt_entries_orderly(v)
-        && no_block_named_twice(v)
-        && used_exactly_if_named(v)
-        && enough_blocks(v)
-        && free_blocks_erased(v)
-        && used_blocks_orderly(v)
-        && fst_entries_orderly(v)
-        && ct_entries_orderly(v);
+    return broken_rule(v) == 0;
 }
 
 /* ==== Steps ============================================================ */
@@ -926,6 +942,13 @@ enum {
     TOO_FEW_BLOCKS, NOT_ORDERLY
 };
 
+/* The entries of the list of T-05. */
+enum {
+    WHY_REPLY, WHY_RULE, WHY_HELD, WHY_REGION, WHY_SEGMENT, WHY_VIRTUAL,
+    WHY_PHYSICAL, WHY_FRAME, WHY_WRITE, WHY_TARGET, WHY_TAKES, WHY_COPIES,
+    WHY_ENTRIES
+};
+
 /* "reply + 65,536 * programs + 4,294,967,296 * erases" */
 static uint64_t answer(uint32_t reply, uint32_t programs, uint32_t erases)
 {
@@ -1130,4 +1153,124 @@ uint64_t model_release(uint32_t s, uint32_t alpha, uint32_t beta, uint32_t d,
     if (!MUTANT(RELEASE_NOTHING))
         ct[cluster] = NONE;
     return answer(ACCEPTED, 0, MUTANT(RELEASE_COUNTS));
+}
+
+/* T-05: "Refusals: 1, 2, 4, 7."  The list counts as one more length. */
+static uint32_t refuse_why(const struct view *v, uint32_t lba,
+                           size_t list_len)
+{
+    if (!length_right(list_len, WHY_ENTRIES))
+        return WRONG_LENGTH;
+    if (address_bad(&v->p, lba))
+        return BAD_ADDRESS;
+    return orderly(v) ? ACCEPTED : NOT_ORDERLY;
+}
+
+/* "with 7 the first orderly rule broken, in 01's order" */
+static uint32_t told_rule(const struct view *v)
+{
+    uint32_t rule = broken_rule(v);
+
+    if (MUTANT(WHY_RULE_ORDER) && rule == 4 && !enough_blocks(v))
+        return 5;
+    return rule;
+}
+
+/* "or that no frame is held; or the region, segment, virtual block, physical
+   block and frame that hold it" */
+static void tell_frame(const struct view *v, uint32_t cluster, uint32_t *list)
+{
+    struct spot at = valid_frame(v, cluster);
+    uint32_t first;
+
+    if (!at.found)
+        return;
+    first = first_frame_of(&v->p, v->ct[cluster]);
+    if (MUTANT(WHY_STALE))
+        for (at.frame = first; !frame_holds(v, at.block, at.frame, cluster);)
+            at.frame++;
+    list[WHY_HELD] = 1;
+    list[WHY_REGION] = region_of(&v->p, cluster);
+    list[WHY_SEGMENT] = v->ct[cluster];
+    list[WHY_VIRTUAL] = at.virtual_block;
+    list[WHY_PHYSICAL] = at.block;
+    list[WHY_FRAME] = at.frame;
+}
+
+/* "reclaims a named one with how many valid frames": the virtual block with
+   fewest of them, the lowest on a tie, all being assigned. */
+static void tell_victim(const struct view *v, uint32_t region, uint32_t *list)
+{
+    uint32_t fewest = v->p.f + 1;
+
+    for (uint32_t i = 0; i < v->p.gamma; i++) {
+        uint32_t valid = valid_frames(v, region, i);
+
+        if (valid < fewest || (valid == fewest && MUTANT(WHY_VICTIM_TIE))) {
+            fewest = valid;
+            list[WHY_TARGET] = i;
+        }
+    }
+    list[WHY_WRITE] = 3;
+    list[WHY_TAKES] = list[WHY_COPIES] = fewest;
+}
+
+/* "For a write it says whether the frame lies in the open block, opens a named
+   virtual block, or reclaims a named one" */
+static void tell_write(const struct view *v, uint32_t cluster, uint32_t *list)
+{
+    uint32_t region = region_of(&v->p, cluster), i = 0;
+    struct spot open = open_frame(v, region);
+
+    if (open.found) {
+        list[WHY_WRITE] = MUTANT(WHY_OPENS) ? 2 : 1;
+        list[WHY_TARGET] = open.virtual_block;
+        list[WHY_TAKES] = open.frame;
+        return;
+    }
+    while (i < v->p.gamma && block_of(v, region, i) != NONE)
+        i++;
+    if (i == v->p.gamma) {
+        tell_victim(v, region, list);
+        return;
+    }
+    list[WHY_WRITE] = 2;
+    list[WHY_TARGET] = i;
+}
+
+/* T-05: "for one LBA, why it reads so and what a write would do: which reply"
+   and then the rest. */
+uint64_t model_why(uint32_t s, uint32_t alpha, uint32_t beta, uint32_t d,
+                   uint32_t mu, uint32_t gamma, uint32_t c, uint32_t n,
+                   const uint8_t *chip, size_t chip_len,
+                   const uint16_t *ct, size_t ct_len,
+                   const uint16_t *bt, size_t bt_len,
+                   const uint16_t *fst, size_t fst_len,
+                   const uint8_t *bst, size_t bst_len,
+                   const uint32_t *wear, size_t wear_len,
+                   uint32_t lba,
+                   uint32_t *list, size_t list_len)
+{
+    struct params p = make_params(s, alpha, beta, d, mu, gamma, c, n);
+    struct lengths len = {
+        chip_len, ct_len, bt_len, fst_len, bst_len, wear_len
+    };
+    struct view v = { p, chip, ct, bt, fst, bst, wear };
+    uint32_t reply = refuse_board(&p, &len);
+
+    if (reply == ACCEPTED)
+        reply = refuse_why(&v, lba, list_len);
+    if (reply != ACCEPTED && reply != NOT_ORDERLY
+        && !(reply == BAD_ADDRESS && MUTANT(WHY_FILLS_4)))
+        return answer(reply, 0, 0);
+    for (int i = 0; i < WHY_ENTRIES; i++)
+        list[i] = 0;
+    list[WHY_REPLY] = reply;
+    if (reply == NOT_ORDERLY)
+        list[WHY_RULE] = told_rule(&v);
+    if (reply == ACCEPTED) {
+        tell_frame(&v, cluster_of(&p, lba), list);
+        tell_write(&v, cluster_of(&p, lba), list);
+    }
+    return answer(reply, 0, 0);
 }

@@ -30,5 +30,6 @@ extern __typeof__(cnftl_format) model_format;
 extern __typeof__(cnftl_read) model_read;
 extern __typeof__(cnftl_write) model_write;
 extern __typeof__(cnftl_release) model_release;
+extern __typeof__(cnftl_why) model_why;
 
 #endif

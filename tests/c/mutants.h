@@ -97,6 +97,12 @@
     X(RELEASE_REGION, "release: the CT entries of the whole region")           \
     X(RELEASE_LAST, "release: the last cluster is refused")                    \
     X(RELEASE_ORDER_FIRST, "release: 7 tested before 4")                       \
-    X(RELEASE_COUNTS, "release: an erase counted")
+    X(RELEASE_COUNTS, "release: an erase counted")                             \
+    /* why */                                                                  \
+    X(WHY_RULE_ORDER, "why: too few blocks told before used if named")         \
+    X(WHY_STALE, "why: the first frame of the cluster, not the last")          \
+    X(WHY_VICTIM_TIE, "why: the highest victim on a tie")                      \
+    X(WHY_OPENS, "why: opens told where the open block has room")              \
+    X(WHY_FILLS_4, "why: the list is filled with reply 4 too")
 
 #endif

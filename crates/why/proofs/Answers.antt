@@ -19,8 +19,12 @@ use Rattle.rules.specs.Replies.{accessReply, badAddress, badCount, badParameter
 use Rattle.rules.specs.Tables.{Board, ctAt, none}
 use Rattle.rules.specs.Regions.{view}
 use Rattle.rules.specs.Write.{Request, planOf}
-use Rattle.rules.proofs.Admitted.{Admitted, admitted}
+use Rattle.rules.proofs.Admitted.{Admitted, access-checks, admitted}
+use Rattle.rules.proofs.Continues.{Makes}
+use Rattle.rules.proofs.RegionFacts.{neat}
 use Rattle.rules.proofs.Sizes.{sizes}
+use Rattle.rules.proofs.WritePromise.{makes}
+use Rattle.claims.specs.Conditions.{OrderlyBoard}
 use Rattle.agree.specs.Check.{Lengths}
 use Rattle.agree.proofs.Agree.{lengths-in}
 use Rattle.broken.specs.declared.Rule.{Rule}
@@ -29,7 +33,8 @@ use Rattle.reading.specs.Lookup.{Lookup, Stands, blockFor, frameFor, lastFor}
 use Rattle.reading.proofs.Requests.{lookup-admitted}
 use Rattle.writing.proofs.Writes.{plan-asked, room-asked}
 use Rattle.why.specs.Asked.{ForecastAsked}
-use Rattle.why.specs.Why.{forecastOf, foundOf, frameNumbers, holderOf, planNumbers, whyOf}
+use Rattle.why.specs.Why.{Small, forecastOf, foundOf, frameNumbers, holderOf, planNumbers, whyOf}
+use Rattle.why.proofs.Small.{found-small}
 
 -- ---- by the reply
 
@@ -88,6 +93,17 @@ module _ (p : Params) (b : Board) (lba : ℕ) (r : Reply) (e : r ≡ whyReply p 
     pub looked : (c : ℕ) → c ≡ clusterOf p lba → Lookup p (b .chip) (b .ct) (b .bt) c
     unfolding request
     looked c is = rw is (lookup-admitted p b request adm)
+
+    ordered : OrderlyBoard p b
+    ordered = record { fine = adm .fine; lengths = adm .lengths; tidy = (access-checks p b request accepted) .tidy }
+
+    -- the numbers of what was found fit 32 bits
+    pub small : (c : ℕ) → c ≡ clusterOf p lba → (ns : List ℕ) → ns ≡ foundOf p b c → Small ns
+    unfolding request
+    small c is ns e =
+        let at : regionOf p c < p .mu = mod-lt c (adm .sized .regions) in
+        let mk : Makes p b (regionOf p c) (planOf p (view p b (regionOf p c))) = makes p (adm .sized) b (adm .tables) (regionOf p c) at (neat p (regionOf p c) (view p b (regionOf p c)) (adm .tidy (regionOf p c) at)) in
+        rw e (found-small p (adm .sized) b ordered c (rw is (adm .asked .cluster)) (mk .base .ready .mine) (mk .base .ready .low))
 
     pub ct-low : (c : ℕ) → c ≡ clusterOf p lba → c < length (b .ct)
     ct-low c is = rw ct-length ((looked c is) .low)

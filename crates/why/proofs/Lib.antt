@@ -1,3 +1,4 @@
 pub mod Forecasts
-pub mod Answers
 pub mod Truths
+pub mod Small
+pub mod Answers

@@ -4,7 +4,7 @@ use mathlib.Core.Path.{_≡_, ap, refl, sym, _∙_}
 use mathlib.Core.Logic.{_⊎_, inl, inr}
 use mathlib.Core.Bool.{cond}
 use mathlib.Core.List.{List}
-use Prim.Native.Nat.{_<_, ℕ}
+use Prim.Native.Nat.{_*_, _<_, ℕ}
 use native.Mathlib.Nat.{div-lt-iff-lt-mul, mod-lt}
 use lib.Dec.{eqb}
 use lib.ListN.{getD, length, length-map}
@@ -53,21 +53,24 @@ module _ (p : Params) (b : Board) (h : OrderlyBoard p b) (c : ℕ) (low : c < p 
       go (inl e) = absurd (ne (sym seg-is ∙ e))
       go (inr e) = e
 
-  v-low : vblockOf p (ctAt (b .ct) c) < p .gamma
-  v-low = div-lt-iff-lt-mul (z .segments) .1 (rw seg-is at (entry .low))
+  pub segment-low : ctAt (b .ct) c < p .gamma * p .d
+  segment-low = rw seg-is at (entry .low)
+
+  pub vblock-low : vblockOf p (ctAt (b .ct) c) < p .gamma
+  vblock-low = div-lt-iff-lt-mul (z .segments) .1 segment-low
 
   there : btAt p (b .bt) (regionOf p c) (vblockOf p (ctAt (b .ct) c)) ≡ none → ⊥
-  there = has-block p z b t (regionOf p c) (vblockOf p (ctAt (b .ct) c)) region v-low (rw seg-is at (entry .has))
+  there = has-block p z b t (regionOf p c) (vblockOf p (ctAt (b .ct) c)) region vblock-low (rw seg-is at (entry .has))
 
   body-is : (view p b (regionOf p c)) .body (vblockOf p (ctAt (b .ct) c)) ≡ block p (b .chip) (btAt p (b .bt) (regionOf p c) (vblockOf p (ctAt (b .ct) c)))
-  body-is = body-some p z b t (regionOf p c) (vblockOf p (ctAt (b .ct) c)) region v-low there
+  body-is = body-some p z b t (regionOf p c) (vblockOf p (ctAt (b .ct) c)) region vblock-low there
 
   pub holder-true : HolderTrue p b c
   unfolding holderAt holderOf
   holder-true =
       let w = named-valid p z (view p b (regionOf p c)) c entry in
       record {
-        blockLow = block-low p z b t (regionOf p c) (vblockOf p (ctAt (b .ct) c)) region v-low there;
+        blockLow = block-low p z b t (regionOf p c) (vblockOf p (ctAt (b .ct) c)) region vblock-low there;
         frameLow = rw (seg-is, body-is) at (entry .held);
         holds = rw (seg-is, body-is) at (w .1);
         isValid = rw (← body-is, ← seg-is) (w .0);

@@ -3,7 +3,7 @@
 -- Assumes nothing.
 use mathlib.Core.Bool.{cond}
 use mathlib.Core.List.{List, [], _∷_, _++_}
-use Prim.Native.Nat.{ℕ, _/_, _%_}
+use Prim.Native.Nat.{ℕ, _/_, _%_, _<_}
 use lib.Dec.{eqb}
 use lib.ListN.{length, replicate}
 use Rattle.rules.specs.declared.Params.{Params}
@@ -38,6 +38,11 @@ numbersOf (Refused r) = numberOf r ∷ replicate 11 0
 numbersOf (Disordered k) = 7 ∷ ruleNumber k ∷ replicate 10 0
 numbersOf (Empty fc) = replicate 8 0 ++ forecastNumbers fc
 numbersOf (Held at fc) = 0 ∷ 0 ∷ 1 ∷ placeNumbers at ++ forecastNumbers fc
+
+-- each number fits 32 bits
+abbrev pub Small : List ℕ → Type 0
+Small [] = Unit {0}
+Small (x ∷ xs) = (x < 4294967296) × Small xs
 
 -- ---- what they have to be
 

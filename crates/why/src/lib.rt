@@ -8,7 +8,7 @@ ghost use Rattle.rules.specs.Regions.{viewOf};
 ghost use Rattle.rules.specs.Tables.{boardOf};
 ghost use Rattle.rules.specs.Write.{planOf};
 ghost use Rattle.why.specs.Asked.{ForecastAsked};
-ghost use Rattle.why.specs.Why.{forecastNumbers, frameNumbers, numbersOf, placeNumbers, planNumbers, whyOf};
+ghost use Rattle.why.specs.Why.{Small, forecastNumbers, frameNumbers, numbersOf, placeNumbers, planNumbers, whyOf};
 use broken::Rule;
 use rules::Cluster;
 use rules::PBlock;
@@ -89,6 +89,7 @@ pub fn explain(
     lba: u32,
 ) -> Why
     ensures { λ w. ⌜ numbersOf w ≡ whyOf p (boardOf (now (chip .entry)) (now (ct .entry)) (now (bt .entry)) (now (fst .entry)) (now (bst .entry)) (now (wear .entry))) lba ⌝ }
+    ensures { λ w. ⌜ Small (numbersOf w) ⌝ }
 {
     let reply = replies::why_reply(p, chip, ct, bt, fst, bst, wear, lba);
     let n = rules::number(reply);

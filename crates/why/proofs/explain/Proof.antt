@@ -4,7 +4,8 @@ use borrow.Author.Needs.{needs}
 use Rattle.rules.specs.Tables.{Board, boardOf}
 use Rattle.rules.proofs.Sizes.{sizes}
 use Rattle.why.specs.Why.{numbersOf}
-use Rattle.why.proofs.Answers.{asked, ct-low, empty, fine, forecast-is, held, lengths-at, looked, why-7, why-found, why-refused}
+use Rattle.why.proofs.Answers.{asked, ct-low, empty, fine, forecast-is, held, lengths-at, looked, small, why-7, why-found, why-refused}
+use Rattle.why.proofs.Small.{broken-small, refused-small}
 use Rattle.why.proofs.explain.Statement.{statement}
 use Rattle.why.proofs.explain.Tie as tie
 
@@ -22,11 +23,11 @@ first-broken-requires c κs = let l = lengths-at _ (board (c .before .before .be
 
 returns : tie.Need-returns
 unfolding numbersOf
-returns c = why-7 _ (board (c .before .before .before .before .before .before .before .before .before .before)) _ _ (c .before .before .before .why-reply .ensures) _ (c .before .before .number .ensures) (c .before .if1 .taken) _ (c .first-broken .ensures _ _)
+returns c = (why-7 _ (board (c .before .before .before .before .before .before .before .before .before .before)) _ _ (c .before .before .before .why-reply .ensures) _ (c .before .before .number .ensures) (c .before .if1 .taken) _ (c .first-broken .ensures _ _), broken-small (c .first-broken .result))
 
 returns-2 : tie.Need-returns-2
 unfolding numbersOf
-returns-2 c = why-refused _ (board (c .before .before .before .before .before .before .before .before .before .before)) _ _ (c .before .before .before .why-reply .ensures) _ (c .before .before .number .ensures) (c .before .if1 .left) (c .if2 .taken)
+returns-2 c = (why-refused _ (board (c .before .before .before .before .before .before .before .before .before .before)) _ _ (c .before .before .before .why-reply .ensures) _ (c .before .before .number .ensures) (c .before .if1 .left) (c .if2 .taken), refused-small (c .before .before .before .why-reply .result))
 
 cluster-of-requires : tie.Need-cluster-of-requires
 cluster-of-requires c κs = (sizes _ (fine _ (board (c .before .before .before .before .before .before .before .before .before .before)) _ _ (c .before .before .before .why-reply .ensures) _ (c .before .before .number .ensures) (c .if2 .left))) .sectors
@@ -43,9 +44,10 @@ find-frame-requires c κs = looked _ (board (c .before .before .before .before .
 returns-3 : tie.Need-returns-3
 unfolding numbersOf
 returns-3 c =
-    why-found _ (board (c .before .before .before .before .before .before .before .before .before .before .before .before .before .before .before .before)) _ _ (c .before .before .before .before .before .before .before .before .before .why-reply .ensures) _ (c .before .before .before .before .before .before .before .before .number .ensures) (c .before .before .before .before .before .before .if2 .left) _ (c .before .before .before .before .before .cluster-of .ensures) _
-    (empty _ (board (c .before .before .before .before .before .before .before .before .before .before .before .before .before .before .before .before)) _ (looked _ (board (c .before .before .before .before .before .before .before .before .before .before .before .before .before .before .before .before)) _ _ (c .before .before .before .before .before .before .before .before .before .why-reply .ensures) _ (c .before .before .before .before .before .before .before .before .number .ensures) (c .before .before .before .before .before .before .if2 .left) _ (c .before .before .before .before .before .cluster-of .ensures)) _ _ (c .before .before .find-frame .ensures) (c .if3 .taken) _
-    (forecast-is _ (board (c .before .before .before .before .before .before .before .before .before .before .before .before .before .before .before .before)) _ _ (c .before .before .before .before .region-of .ensures) _ (c .before .before .before .forecast-of .ensures)))
+    let e =
+    empty _ (board (c .before .before .before .before .before .before .before .before .before .before .before .before .before .before .before .before)) _ (looked _ (board (c .before .before .before .before .before .before .before .before .before .before .before .before .before .before .before .before)) _ _ (c .before .before .before .before .before .before .before .before .before .why-reply .ensures) _ (c .before .before .before .before .before .before .before .before .number .ensures) (c .before .before .before .before .before .before .if2 .left) _ (c .before .before .before .before .before .cluster-of .ensures)) _ _ (c .before .before .find-frame .ensures) (c .if3 .taken) _
+    (forecast-is _ (board (c .before .before .before .before .before .before .before .before .before .before .before .before .before .before .before .before)) _ _ (c .before .before .before .before .region-of .ensures) _ (c .before .before .before .forecast-of .ensures)) in
+    (why-found _ (board (c .before .before .before .before .before .before .before .before .before .before .before .before .before .before .before .before)) _ _ (c .before .before .before .before .before .before .before .before .before .why-reply .ensures) _ (c .before .before .before .before .before .before .before .before .number .ensures) (c .before .before .before .before .before .before .if2 .left) _ (c .before .before .before .before .before .cluster-of .ensures) _ e, small _ (board (c .before .before .before .before .before .before .before .before .before .before .before .before .before .before .before .before)) _ _ (c .before .before .before .before .before .before .before .before .before .why-reply .ensures) _ (c .before .before .before .before .before .before .before .before .number .ensures) (c .before .before .before .before .before .before .if2 .left) _ (c .before .before .before .before .before .cluster-of .ensures) _ e)
 
 place-at-requires : tie.Need-place-at-requires
 place-at-requires c κs = (fine _ (board (c .before .before .before .before .before .before .before .before .before .before .before .before .before .before .before .before)) _ _ (c .before .before .before .before .before .before .before .before .before .why-reply .ensures) _ (c .before .before .before .before .before .before .before .before .number .ensures) (c .before .before .before .before .before .before .if2 .left), ct-low _ (board (c .before .before .before .before .before .before .before .before .before .before .before .before .before .before .before .before)) _ _ (c .before .before .before .before .before .before .before .before .before .why-reply .ensures) _ (c .before .before .before .before .before .before .before .before .number .ensures) (c .before .before .before .before .before .before .if2 .left) _ (c .before .before .before .before .before .cluster-of .ensures))
@@ -53,9 +55,10 @@ place-at-requires c κs = (fine _ (board (c .before .before .before .before .bef
 returns-4 : tie.Need-returns-4
 unfolding numbersOf
 returns-4 c =
-    why-found _ (board (c .before .before .before .before .before .before .before .before .before .before .before .before .before .before .before .before .before)) _ _ (c .before .before .before .before .before .before .before .before .before .before .why-reply .ensures) _ (c .before .before .before .before .before .before .before .before .before .number .ensures) (c .before .before .before .before .before .before .before .if2 .left) _ (c .before .before .before .before .before .before .cluster-of .ensures) _
-    (held _ (board (c .before .before .before .before .before .before .before .before .before .before .before .before .before .before .before .before .before)) _ (looked _ (board (c .before .before .before .before .before .before .before .before .before .before .before .before .before .before .before .before .before)) _ _ (c .before .before .before .before .before .before .before .before .before .before .why-reply .ensures) _ (c .before .before .before .before .before .before .before .before .before .number .ensures) (c .before .before .before .before .before .before .before .if2 .left) _ (c .before .before .before .before .before .before .cluster-of .ensures)) _ _ (c .before .before .before .find-frame .ensures) (c .before .if3 .left) _ _ (c .place-at .ensures)
-    (forecast-is _ (board (c .before .before .before .before .before .before .before .before .before .before .before .before .before .before .before .before .before)) _ _ (c .before .before .before .before .before .region-of .ensures) _ (c .before .before .before .before .forecast-of .ensures)))
+    let e =
+    held _ (board (c .before .before .before .before .before .before .before .before .before .before .before .before .before .before .before .before .before)) _ (looked _ (board (c .before .before .before .before .before .before .before .before .before .before .before .before .before .before .before .before .before)) _ _ (c .before .before .before .before .before .before .before .before .before .before .why-reply .ensures) _ (c .before .before .before .before .before .before .before .before .before .number .ensures) (c .before .before .before .before .before .before .before .if2 .left) _ (c .before .before .before .before .before .before .cluster-of .ensures)) _ _ (c .before .before .before .find-frame .ensures) (c .before .if3 .left) _ _ (c .place-at .ensures)
+    (forecast-is _ (board (c .before .before .before .before .before .before .before .before .before .before .before .before .before .before .before .before .before)) _ _ (c .before .before .before .before .before .region-of .ensures) _ (c .before .before .before .before .forecast-of .ensures)) in
+    (why-found _ (board (c .before .before .before .before .before .before .before .before .before .before .before .before .before .before .before .before .before)) _ _ (c .before .before .before .before .before .before .before .before .before .before .why-reply .ensures) _ (c .before .before .before .before .before .before .before .before .before .number .ensures) (c .before .before .before .before .before .before .before .if2 .left) _ (c .before .before .before .before .before .before .cluster-of .ensures) _ e, small _ (board (c .before .before .before .before .before .before .before .before .before .before .before .before .before .before .before .before .before)) _ _ (c .before .before .before .before .before .before .before .before .before .before .why-reply .ensures) _ (c .before .before .before .before .before .before .before .before .before .number .ensures) (c .before .before .before .before .before .before .before .if2 .left) _ (c .before .before .before .before .before .before .cluster-of .ensures) _ e)
 
 pub explain-spec : {M : Type 1} → statement M
 explain-spec =

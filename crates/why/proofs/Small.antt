@@ -1,0 +1,97 @@
+-- Every number of an answer fits 32 bits: by the ranges of the parameters, and by the rules of an orderly state.
+-- Assumes nothing.
+use mathlib.Core.Path.{_≡_, sym, _∙_}
+use mathlib.Core.Bool.{Bool, cond, false, true}
+use mathlib.Core.Logic.{_⊎_, inl, inr}
+use mathlib.Core.List.{List, [], _++_, _∷_}
+use Prim.Native.Nat.{_<_, suc, zero, ℕ}
+use native.Mathlib.Nat.{mod-lt}
+use native.Mathlib.Decide.{ℕ-discrete}
+use native.Mathlib.Omega.{arith}
+use lib.Dec.{eqb}
+use lib.ListN.{replicate}
+use borrow.Author.Tests.{eq-eqb, ne-eqb}
+use Rattle.rules.specs.declared.Params.{Params}
+use Rattle.rules.specs.declared.Reply.{Reply}
+use Rattle.rules.specs.declared.Reply.the-variants.{Accepted, BadAddress, BadCount, BadParameter, NotOrderly, TooFewBlocks, WrongData, WrongLength}
+use Rattle.rules.specs.Numbers.{regionOf}
+use Rattle.rules.specs.Parameters.{frames}
+use Rattle.rules.specs.Regions.{View, view}
+use Rattle.rules.specs.Replies.{numberOf}
+use Rattle.rules.specs.Tables.{Board, ctAt, none}
+use Rattle.rules.specs.Write.{Plan, continues, opens, planFrame, planOf, planVBlock, reclaims}
+use Rattle.rules.proofs.Sizes.{Sizes}
+use Rattle.broken.specs.declared.Rule.{Rule}
+use Rattle.broken.specs.declared.Rule.the-variants.{BstValues, BtRange, Ct, FreeErased, Fst, NamedTwice, TooFewLeft, UsedBlock, UsedIfNamed}
+use Rattle.broken.specs.Broken.{ruleNumber}
+use Rattle.claims.specs.Conditions.{OrderlyBoard}
+use Rattle.why.specs.Truths.{HolderTrue, holderAt}
+use Rattle.why.specs.Why.{Small, forecastOf, foundOf, holderOf, planNumbers}
+use Rattle.why.proofs.Truths.{holder-true, segment-low, vblock-low}
+
+pub small-append : (xs ys : List ℕ) → Small xs → Small ys → Small (xs ++ ys)
+small-append [] ys h k = k
+small-append (x ∷ xs) ys h k = (h .0, small-append xs ys (h .1) k)
+
+pub small-right : (xs ys : List ℕ) → Small (xs ++ ys) → Small ys
+small-right [] ys h = h
+small-right (x ∷ xs) ys h = small-right xs ys (h .1)
+
+-- ---- replies and rules
+
+pub refused-small : (r : Reply) → Small (numberOf r ∷ replicate 11 0)
+refused-small r = (low r, zeros)
+  where
+    low : (r : Reply) → numberOf r < 4294967296
+    low Accepted = omega arith
+    low BadParameter = omega arith
+    low WrongLength = omega arith
+    low BadCount = omega arith
+    low BadAddress = omega arith
+    low WrongData = omega arith
+    low TooFewBlocks = omega arith
+    low NotOrderly = omega arith
+
+    zeros : Small (replicate 11 0)
+    zeros = omega arith
+
+pub broken-small : (k : Rule) → Small (7 ∷ ruleNumber k ∷ replicate 10 0)
+broken-small k = (omega arith, (low k, omega arith))
+  where
+    low : (k : Rule) → ruleNumber k < 4294967296
+    low BstValues = omega arith
+    low BtRange = omega arith
+    low NamedTwice = omega arith
+    low UsedIfNamed = omega arith
+    low TooFewLeft = omega arith
+    low FreeErased = omega arith
+    low UsedBlock = omega arith
+    low Fst = omega arith
+    low Ct = omega arith
+
+-- ---- a plan
+
+pub plan-small : (p : Params) (vw : View) (pl : Plan) → planVBlock pl < 256 → planFrame p vw pl < 65536 → Small (planNumbers p vw pl)
+unfolding planVBlock planFrame planNumbers
+plan-small p vw (continues v f) h k = (omega arith, (omega arith, (omega arith, (omega arith, tt))))
+plan-small p vw (opens v) h k = (omega arith, (omega arith, (omega arith, (omega arith, tt))))
+plan-small p vw (reclaims v) h k = (omega arith, (omega arith, (omega arith, (omega arith, tt))))
+
+-- ---- an orderly board
+
+module _ (p : Params) (z : Sizes p) (b : Board) (h : OrderlyBoard p b) (c : ℕ) (low : c < p .C) where
+  holder-small : (ctAt (b .ct) c ≡ none → ⊥) → Small (holderOf p b c)
+  unfolding holderOf holderAt
+  holder-small ne =
+      let t = holder-true p b h c low ne in (
+        omega (arith, mod-lt c (z .regions), z .muHigh),
+        (omega (arith, segment-low p b h c low ne, z .few), (omega (arith, vblock-low p b h c low ne, z .gammaHigh), (omega (arith, t .blockLow, z .blocks), (omega (arith, t .frameLow, z .short), tt)))),
+      )
+
+  pub found-small : planVBlock (planOf p (view p b (regionOf p c))) < p .gamma → planFrame p (view p b (regionOf p c)) (planOf p (view p b (regionOf p c))) < frames p → Small (foundOf p b c)
+  unfolding foundOf forecastOf
+  found-small v f = small-append (cond (eqb (ctAt (b .ct) c) none) (replicate 8 0) (0 ∷ 0 ∷ 1 ∷ holderOf p b c)) _ (go (ℕ-discrete (ctAt (b .ct) c) none)) (plan-small p _ _ (omega (arith, v, z .gammaHigh)) (omega (arith, f, z .short)))
+    where
+      go : Dec (ctAt (b .ct) c ≡ none) → Small (cond (eqb (ctAt (b .ct) c) none) (replicate 8 0) (0 ∷ 0 ∷ 1 ∷ holderOf p b c))
+      go (yes e) = rw (eq-eqb (ctAt (b .ct) c) none e) (omega arith)
+      go (no e) = rw (ne-eqb (ctAt (b .ct) c) none e) (omega arith, (omega arith, (omega arith, holder-small e)))

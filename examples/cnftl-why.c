@@ -1,0 +1,246 @@
+/*
+ * cnftl-why.c - why a sector reads so, and what a write of it would do.
+ *
+ *   cnftl-why IMAGE LBA
+ *
+ * IMAGE is a file with a whole board in it (docs/IMAGE.md), which is read and
+ * not changed.  The answer of cnftl_why is printed in words, with a drawing of
+ * the frames that it speaks of.
+ *
+ * Exit status: 0 a diagnosis was given, also of a board that is not orderly,
+ * 1 the layer refused the question, 2 wrong use, or the file is missing or no
+ * board image or cannot be read.
+ */
+#include "image.h"
+
+#include <stdarg.h>
+#include <stdio.h>
+#include <stdlib.h>
+#include <string.h>
+
+enum { REFUSED = 1, NO_ANSWER = 2 };
+
+/* The frame that a drawing points at, where it points at none. */
+#define NO_FRAME UINT32_MAX
+
+/* Says what is wrong with the use or the image, and ends. */
+_Noreturn void fail(int fault, const char *format, ...)
+{
+    va_list args;
+
+    va_start(args, format);
+    fprintf(stderr, "cnftl-why: ");
+    vfprintf(stderr, format, args);
+    fprintf(stderr, "\n");
+    va_end(args);
+    exit(fault == REFUSED ? REFUSED : NO_ANSWER);
+}
+
+/* A decimal number of 32 bits, or the end of the program. */
+static uint32_t number(const char *text)
+{
+    unsigned long long value;
+
+    if (*text == '\0' || strspn(text, "0123456789") != strlen(text))
+        fail(NO_ANSWER, "%s: not a sector number", text);
+    value = strtoull(text, NULL, 10);
+    if (value > UINT32_MAX)
+        fail(NO_ANSWER, "%s: no sector number of 32 bits", text);
+    return (uint32_t)value;
+}
+
+/* A plural ending. */
+static const char *plural(uint32_t count)
+{
+    return count == 1 ? "" : "s";
+}
+
+/* ==== The drawing ====================================================== */
+
+/* The spare bytes of a frame's first page. */
+static const uint8_t *spare_of(const struct cnftl_board *b, uint32_t block,
+                               uint32_t frame)
+{
+    const struct cnftl_params *p = &b->params;
+    size_t page = block * cnftl_pages_per_block(p) + (size_t)frame * p->alpha;
+
+    return b->chip + page * cnftl_page_bytes(p) + p->s;
+}
+
+/* Whether a frame of an orderly board is programmed. */
+static int is_programmed(const struct cnftl_board *b, uint32_t block,
+                         uint32_t frame)
+{
+    return spare_of(b, block, frame)[6] == 0;
+}
+
+/* The cluster in a programmed frame. */
+static uint32_t cluster_in(const struct cnftl_board *b, uint32_t block,
+                           uint32_t frame)
+{
+    const uint8_t *spare = spare_of(b, block, frame);
+
+    return spare[0] | (uint32_t)spare[1] << 8 | (uint32_t)spare[2] << 16
+         | (uint32_t)spare[3] << 24;
+}
+
+/* The letter of a frame: V valid, that is, CT names its segment and no later
+   frame of the segment holds its cluster; S stale; E erased. */
+static char letter_of(const struct cnftl_board *b, uint32_t segment,
+                      uint32_t block, uint32_t frame)
+{
+    uint32_t beta = b->params.beta, cluster;
+
+    if (!is_programmed(b, block, frame))
+        return 'E';
+    cluster = cluster_in(b, block, frame);
+    if (b->ct[cluster] != segment)
+        return 'S';
+    for (uint32_t later = frame + 1; later % beta != 0; later++)
+        if (is_programmed(b, block, later)
+            && cluster_in(b, block, later) == cluster)
+            return 'S';
+    return 'V';
+}
+
+/* Draws one segment of a physical block, or of one yet to be taken, which is
+   erased, and points at a frame of it. */
+static void draw_segment(const struct cnftl_board *b, uint32_t segment,
+                         uint32_t block, uint32_t pointed)
+{
+    uint32_t beta = b->params.beta;
+    uint32_t first = segment % b->params.d * beta;
+
+    printf("    segment %5lu  ", (unsigned long)segment);
+    for (uint32_t frame = first; frame < first + beta; frame++)
+        putchar(block == CNFTL_NONE ? 'E' : letter_of(b, segment, block,
+                                                      frame));
+    putchar('\n');
+    if (pointed != NO_FRAME && pointed / beta == segment % b->params.d)
+        printf("                   %*s\n", (int)(pointed % beta) + 1, "^");
+}
+
+/* Draws all segments of a virtual block. */
+static void draw_block(const struct cnftl_board *b, uint32_t virtual_block,
+                       uint32_t block, uint32_t pointed)
+{
+    uint32_t d = b->params.d;
+
+    for (uint32_t i = 0; i < d; i++)
+        draw_segment(b, virtual_block * d + i, block, pointed);
+}
+
+/* ==== The answer ======================================================= */
+
+/* A broken rule in words. */
+static const char *rule_text(uint32_t rule)
+{
+    static const char *const text[] = {
+        "none", "a BST entry is not 0, 1 or 2",
+        "a BT entry is neither none nor a block of the chip",
+        "BT names a block twice",
+        "a block is used and BT does not name it, or the other way round",
+        "too few blocks are not reserved",
+        "a free block is not erased throughout",
+        "a used block does not begin with programmed frames of its region\n"
+        "  and go on erased",
+        "an FST entry does not name the last programmed segment of the open\n"
+        "  block, or another block of the region is not full",
+        "a CT entry names a segment that does not hold its cluster"
+    };
+
+    return rule < sizeof text / sizeof text[0] ? text[rule] : "unknown rule";
+}
+
+/* Tells which rule a board breaks that is not orderly. */
+static void tell_rule(const uint32_t *list)
+{
+    printf("The board is not orderly: every read and write is refused with "
+           "reply %d.\n", CNFTL_NOT_ORDERLY);
+    printf("Rule %lu is the first one broken:\n  %s.\n",
+           (unsigned long)list[CNFTL_WHY_RULE],
+           rule_text(list[CNFTL_WHY_RULE]));
+}
+
+/* Tells where the sector is held, if it is. */
+static void tell_read(const struct cnftl_board *b, const uint32_t *list)
+{
+    if (!list[CNFTL_WHY_HELD]) {
+        printf("It reads as 255 throughout: no frame holds its cluster.\n");
+        return;
+    }
+    printf("It reads from frame %lu of physical block %lu,\n"
+           "  which is virtual block %lu of region %lu; segment %lu there:\n",
+           (unsigned long)list[CNFTL_WHY_FRAME],
+           (unsigned long)list[CNFTL_WHY_PHYSICAL],
+           (unsigned long)list[CNFTL_WHY_VIRTUAL],
+           (unsigned long)list[CNFTL_WHY_REGION],
+           (unsigned long)list[CNFTL_WHY_SEGMENT]);
+    draw_segment(b, list[CNFTL_WHY_SEGMENT], list[CNFTL_WHY_PHYSICAL],
+                 list[CNFTL_WHY_FRAME]);
+}
+
+/* Tells what a write would do. */
+static void tell_write(const struct cnftl_board *b, uint32_t region,
+                       const uint32_t *list)
+{
+    uint32_t target = list[CNFTL_WHY_TARGET], takes = list[CNFTL_WHY_TAKES];
+    uint32_t copies = list[CNFTL_WHY_COPIES];
+    uint32_t block = b->bt[region * b->params.gamma + target];
+    uint32_t pages = b->params.alpha * (copies + 1);
+
+    if (list[CNFTL_WHY_WRITE] == CNFTL_WRITE_CONTINUES)
+        printf("A write continues the open block: it takes frame %lu of "
+               "virtual block %lu,\n  physical block %lu, and programs %lu "
+               "page%s:\n", (unsigned long)takes, (unsigned long)target,
+               (unsigned long)block, (unsigned long)pages, plural(pages));
+    else if (list[CNFTL_WHY_WRITE] == CNFTL_WRITE_OPENS)
+        printf("A write opens virtual block %lu: it takes frame %lu of a free "
+               "block,\n  and programs %lu page%s:\n", (unsigned long)target,
+               (unsigned long)takes, (unsigned long)pages, plural(pages));
+    else
+        printf("A write reclaims virtual block %lu: it copies %lu valid "
+               "frame%s to a free block,\n  takes frame %lu there, programs "
+               "%lu page%s, and erases physical block %lu:\n",
+               (unsigned long)target, (unsigned long)copies, plural(copies),
+               (unsigned long)takes, (unsigned long)pages, plural(pages),
+               (unsigned long)block);
+    draw_block(b, target, block,
+               list[CNFTL_WHY_WRITE] == CNFTL_WRITE_RECLAIMS ? NO_FRAME
+                                                             : takes);
+    printf("V valid, S stale, E erased, one letter a frame; ^ the frame "
+           "meant\n");
+}
+
+/* Loads the board, asks, and tells the answer. */
+int main(int argc, char **argv)
+{
+    uint32_t list[CNFTL_WHY_ENTRIES], lba, reply, cluster;
+    struct cnftl_board b;
+
+    if (argc != 3)
+        fail(NO_ANSWER, "use: cnftl-why IMAGE LBA");
+    lba = number(argv[2]);
+    if (!image_load(&b, argv[1]))
+        fail(NO_ANSWER, "%s: no such file", argv[1]);
+    reply = cnftl_reply_of(cnftl_board_why(&b, lba, list));
+    if (reply == CNFTL_BAD_ADDRESS)
+        fail(REFUSED, "sector %lu is refused with reply %lu: the board ends "
+             "with sector %lu", (unsigned long)lba, (unsigned long)reply,
+             (unsigned long)cnftl_sectors(&b.params) - 1);
+    if (reply != CNFTL_ACCEPTED && reply != CNFTL_NOT_ORDERLY)
+        fail(REFUSED, "sector %lu is refused with reply %lu",
+             (unsigned long)lba, (unsigned long)reply);
+    cluster = lba / b.params.alpha;
+    printf("Sector %lu is at place %lu of cluster %lu, in region %lu.\n",
+           (unsigned long)lba, (unsigned long)(lba % b.params.alpha),
+           (unsigned long)cluster, (unsigned long)(cluster % b.params.mu));
+    if (reply == CNFTL_NOT_ORDERLY) {
+        tell_rule(list);
+    } else {
+        tell_read(&b, list);
+        tell_write(&b, cluster % b.params.mu, list);
+    }
+    image_free_board(&b);
+    return 0;
+}
