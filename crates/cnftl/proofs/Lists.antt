@@ -1,6 +1,6 @@
 -- A forecast has four numbers and an answer twelve; and what the call leaves, by the length of the lent list.
 -- Assumes nothing.
-use mathlib.Core.Path.{_≡_, refl, _∙_}
+use mathlib.Core.Path.{_≡_, refl, sym, _∙_}
 use mathlib.Core.Bool.{Bool, cond}
 use mathlib.Core.List.{List, [], _∷_}
 use Prim.Native.Nat.{ℕ}
@@ -46,3 +46,7 @@ module _ (p : Params) (b : Board) (lba : ℕ) (list : List ℕ) where
   pub unlisted : (length list ≡ 12 → ⊥) → (t : Bool) → t ≡ allowed p → (word : ℕ) → word ≡ cond t 2 1 → Listed p b lba list word list
   unfolding toldReply toldList
   unlisted ne t is word e = record { reply = rw (ne-eqb (length list) 12 ne) (e ∙ rw is); numbers = rw (ne-eqb (length list) 12 ne) }
+
+-- what the call leaves, it leaves once
+pub listed-once : (p : Params) (b : Board) (lba : ℕ) (list : List ℕ) (w w′ : ℕ) (x x′ : List ℕ) → Listed p b lba list w x → Listed p b lba list w′ x′ → (w ≡ w′) × (x ≡ x′)
+listed-once p b lba list w w′ x x′ g g′ = (g .reply ∙ sym (g′ .reply), g .numbers ∙ sym (g′ .numbers))
