@@ -1,13 +1,14 @@
 -- The blocks of the chip and the frames of a block: where they stand, when one is good, and the last in a place that holds a cluster.
 -- Assumes nothing.
-use mathlib.Core.Path.{sym, _∙_, _≡_}
+use mathlib.Core.Path.{ap, sym, _∙_, _≡_}
 use mathlib.Core.Bool.{_&&_, Bool, and-true, false}
 use mathlib.Core.List.{List}
 use Prim.Native.Nat.{_%_, _*_, _+_, _-_, _/_, _<_, ℕ, _≤_}
-use native.Mathlib.Nat.{add-zero, div-eq-of-lt, div-lt-iff-lt-mul, mul-add-div-right}
+use native.Mathlib.Nat.{add-mul, add-zero, div-eq-of-lt, div-lt-iff-lt-mul, mul-add-div-right, mul-assoc}
 use native.Mathlib.Omega.{arith}
 use lib.Dec.{eqb}
-use lib.ListN.{drop, length, take}
+use lib.ListN.{drop, length, length-drop, take}
+use lib.Seq.{take-all}
 use borrow.Author.Tests.{eq-eqb, le-ltb, lt-ltb, ne-eqb}
 use Rattle.lists.specs.Below.{allBelow, allTrue, lastBelow}
 use Rattle.lists.specs.Parts.{sameList}
@@ -17,6 +18,7 @@ use Rattle.rules.specs.Orderly.{goodFrame}
 use Rattle.rules.specs.Pages.{block, frame, held, holds, lastIn, spare, spareBytes}
 use Rattle.rules.specs.Parameters.{blockBytes, chipBytes, frameBytes, frames, pageBytes}
 use Rattle.rules.specs.Tables.{none}
+use Rattle.rules.proofs.Sizes.{Sizes}
 use Rattle.loops.proofs.Below.{last-skip}
 use Rattle.loops.proofs.Lent.{lent-part}
 use Rattle.nand.proofs.Places.{block-fits}
@@ -100,3 +102,20 @@ frame-pages p w n e k = rw (e, k)
 pub block-pages : (p : Params) (f w n : ℕ) → n ≡ blockBytes p → f ≡ frames p → w ≡ pageBytes p → n ≡ p .alpha * f * w
 unfolding blockBytes frameBytes
 block-pages p f w n e l k = rw (e, l, k) (omega arith)
+
+-- the frames from frame k on
+module _ (p : Params) (z : Sizes p) (blk : List ℕ) (k page w f : ℕ) (le : k ≤ frames p) (size : length blk ≡ blockBytes p) (ep : page ≡ pageBytes p) (ew : w ≡ frameBytes p) (ef : f ≡ frames p) where
+  whole : (f - k) * w + k * w ≡ length blk
+  unfolding blockBytes
+  whole = rw (size, ew, ef, ← (add-mul (frames p - k) k (frameBytes p))) (ap (λ (m : ℕ). m * frameBytes p) (omega arith))
+
+  pub rest-starts : k * w ≤ length blk
+  rest-starts = omega (arith, whole)
+
+  pub rest-pages : length (take (length blk - k * w) (drop (k * w) blk)) ≡ (f - k) * p .alpha * page
+  unfolding frameBytes
+  rest-pages =
+      rw (take-all (length blk - k * w) (drop (k * w) blk) (rw length-drop (omega arith)), length-drop, ← whole) (let e : (f - k) * w ≡ (f - k) * p .alpha * page = rw (ew, ep) (sym (mul-assoc (f - k) (p .alpha) (pageBytes p))) in omega (arith, e))
+
+  pub rest-lent : take (length blk - k * w) (drop (k * w) blk) ≡ drop (k * frameBytes p) blk
+  rest-lent = take-all (length blk - k * w) (drop (k * w) blk) (rw length-drop (omega arith)) ∙ rw ew

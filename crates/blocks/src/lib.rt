@@ -1,13 +1,13 @@
 // One block of the chip, read: its frames, the clusters that they hold, and whether it is as its region wants it.
 ghost use mathlib.Core.Path.{_≡_};
-ghost use mathlib.Core.Bool.{true, cond};
-ghost use Prim.Native.Nat.{_-_, _<_};
-ghost use lib.ListN.{length};
-ghost use lib.Dec.{ltb};
+ghost use mathlib.Core.Bool.{false, true};
+ghost use Prim.Native.Nat.{_*_, _-_, _≤_, _<_};
+ghost use lib.ListN.{drop, length};
+ghost use Rattle.lists.specs.Below.{allBelow};
 ghost use Rattle.lists.specs.Parts.{allAre};
 ghost use Rattle.rules.specs.Parameters.{allowed, frames, frameBytes, blockBytes, chipBytes};
 ghost use Rattle.rules.specs.Pages.{block, frame, programmed, holds, filled, lastIn};
-ghost use Rattle.rules.specs.Orderly.{goodFrame, goodUpTo, blockRule};
+ghost use Rattle.rules.specs.Orderly.{goodFrame, blockRule};
 use rules::Cluster;
 use rules::PBlock;
 use rules::Params;
@@ -104,36 +104,38 @@ pub fn is_full(p: Params, blk: &[u8]) -> bool
     nand::is_programmed(p, frame_of(p, blk, f))
 }
 
-// Frame f is a good frame of region r where it is below k, else erased.
-fn frame_ok(p: Params, r: usize, k: usize, blk: &[u8], f: usize) -> bool
+// How many frames, from the first on, are good frames of region r: up to the first that is not.
+fn good_frames(p: Params, r: usize, blk: &[u8]) -> usize
     requires { ⌜ allowed p ≡ true ⌝ }
     requires { ⌜ length (now blk) ≡ blockBytes p ⌝ }
-    requires { ⌜ f < frames p ⌝ }
-    ensures { λ ok. ⌜ ok ≡ cond (ltb f k) (goodFrame p r (frame p (now (blk .entry)) f)) (allAre 255 (frame p (now (blk .entry)) f)) ⌝ }
-{
-    let fr = frame_of(p, blk, f);
-    if f < k {
-        return good_frame(p, r, fr);
-    }
-    let page = sizes::page_bytes(p);
-    nand::are_erased(fr, page, p.alpha)
-}
-
-// Are the first k frames good frames of region r, and the others erased?
-fn good_up_to(p: Params, r: usize, k: usize, blk: &[u8]) -> bool
-    requires { ⌜ allowed p ≡ true ⌝ }
-    requires { ⌜ length (now blk) ≡ blockBytes p ⌝ }
-    ensures { λ ok. ⌜ ok ≡ goodUpTo p r k (now (blk .entry)) ⌝ }
+    ensures { λ k. ⌜ k ≤ frames p ⌝ }
+    ensures { λ k. ⌜ allBelow k (λ f. goodFrame p r (frame p (now (blk .entry)) f)) ≡ true ⌝ }
+    ensures { λ k. ⌜ (k < frames p → goodFrame p r (frame p (now (blk .entry)) k) ≡ false) ⌝ }
 {
     let n = sizes::frames(p);
     let mut f = 0;
     while f < n {
-        if !frame_ok(p, r, k, blk, f) {
-            return false;
+        if !good_frame(p, r, frame_of(p, blk, f)) {
+            return f;
         }
         f += 1;
     }
-    true
+    f
+}
+
+// Are the frames from frame k on erased?
+fn rest_erased(p: Params, blk: &[u8], k: usize) -> bool
+    requires { ⌜ allowed p ≡ true ⌝ }
+    requires { ⌜ length (now blk) ≡ blockBytes p ⌝ }
+    requires { ⌜ k ≤ frames p ⌝ }
+    ensures { λ ok. ⌜ ok ≡ allAre 255 (drop (k * frameBytes p) (now (blk .entry))) ⌝ }
+{
+    let page = sizes::page_bytes(p);
+    let w = sizes::frame_bytes(p);
+    let n = sizes::frames(p) - k;
+    let a = k * w;
+    let m = n * p.alpha;
+    nand::are_erased(&blk[a..], page, m)
 }
 
 // Is the block a used block of region r?
@@ -142,11 +144,11 @@ pub fn block_ok(p: Params, r: usize, blk: &[u8]) -> bool
     requires { ⌜ length (now blk) ≡ blockBytes p ⌝ }
     ensures { λ ok. ⌜ ok ≡ blockRule p r (now (blk .entry)) ⌝ }
 {
-    let k = filled(p, blk);
+    let k = good_frames(p, r, blk);
     if k == 0 {
         return false;
     }
-    good_up_to(p, r, k, blk)
+    rest_erased(p, blk, k)
 }
 
 // The last of the β frames in place k of the block that holds cluster c; 65535 if none does.

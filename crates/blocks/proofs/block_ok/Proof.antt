@@ -1,25 +1,28 @@
--- `blocks::block_ok`: some frame is programmed, and those before the count are good.
+-- `blocks::block_ok`: some frame is good, and what comes after the good ones is erased.
 -- Assumes nothing.
-use native.Mathlib.Omega.{arith}
 use borrow.Author.Needs.{needs}
-use borrow.Author.Tests.{lt-ltb}
-use Rattle.rules.specs.Orderly.{blockRule}
+use Rattle.rules.proofs.Sizes.{sizes}
+use Rattle.blocks.proofs.Leading.{none-good, rest-is}
 use Rattle.blocks.proofs.block_ok.Statement.{statement}
 use Rattle.blocks.proofs.block_ok.Tie as tie
 
-filled-requires : tie.Need-filled-requires
-filled-requires c κs = search needs
+good-frames-requires : tie.Need-good-frames-requires
+good-frames-requires c κs = search needs
 
 returns : tie.Need-returns
-unfolding blockRule
-returns c = rw (← (c .before .filled .ensures), c .if1 .taken)
+returns c =
+    let a = c .before .before .before in
+    let k = c .before .good-frames .ensures in
+    none-good _ (sizes _ (a .pre .0)) _ _ (a .pre .1) _ (k .0) (k .1 .0) (k .1 .1) (c .if1 .taken)
 
-good-up-to-requires : tie.Need-good-up-to-requires
-good-up-to-requires c κs = search needs
+rest-erased-requires : tie.Need-rest-erased-requires
+rest-erased-requires c κs = search needs
 
 returns-2 : tie.Need-returns-2
-unfolding blockRule
-returns-2 c = rw (← (c .before .before .filled .ensures), lt-ltb 0 (c .before .before .filled .result) (omega (arith, c .before .if1 .left))) (c .good-up-to .ensures)
+returns-2 c =
+    let a = c .before .before .before .before in
+    let k = c .before .before .good-frames .ensures in
+    rw (c .rest-erased .ensures) (rest-is _ (sizes _ (a .pre .0)) _ _ (a .pre .1) _ (k .0) (k .1 .0) (k .1 .1) (c .before .if1 .left))
 
 pub block-ok-spec : {M : Type 1} → statement M
-block-ok-spec = tie.close (tie.spec filled-requires returns good-up-to-requires returns-2)
+block-ok-spec = tie.close (tie.spec good-frames-requires returns rest-erased-requires returns-2)
