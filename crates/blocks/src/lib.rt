@@ -1,13 +1,14 @@
 // One block of the chip, read: its frames, the clusters that they hold, and whether it is as its region wants it.
 ghost use mathlib.Core.Path.{_≡_};
 ghost use mathlib.Core.Bool.{false, true};
-ghost use Prim.Native.Nat.{_*_, _-_, _≤_, _<_};
+ghost use Prim.Native.Nat.{ℕ, _*_, _-_, _≤_, _<_};
 ghost use lib.ListN.{drop, length};
 ghost use Rattle.lists.specs.Below.{allBelow};
 ghost use Rattle.lists.specs.Parts.{allAre};
 ghost use Rattle.rules.specs.Parameters.{allowed, frames, frameBytes, blockBytes, chipBytes};
 ghost use Rattle.rules.specs.Pages.{block, frame, programmed, holds, filled, lastIn};
 ghost use Rattle.rules.specs.Orderly.{goodFrame, blockRule};
+ghost use Rattle.blocks.specs.First.{FirstFrames};
 use rules::Cluster;
 use rules::PBlock;
 use rules::Params;
@@ -92,6 +93,25 @@ pub fn filled(p: Params, blk: &[u8]) -> usize
         f += 1;
     }
     k
+}
+
+// The first frame from frame `from` on that is not programmed, F if there is none: how many frames are programmed, where these are the first k of the
+// block and `from` is not above k.
+pub fn next_free(p: Params, blk: &[u8], from: usize) -> usize
+    requires { ⌜ allowed p ≡ true ⌝ }
+    requires { ⌜ length (now blk) ≡ blockBytes p ⌝ }
+    requires { ⌜ from ≤ frames p ⌝ }
+    ensures { λ f. ⌜ ((k : ℕ) → from ≤ k → FirstFrames p (now (blk .entry)) k → f ≡ k) ⌝ }
+{
+    let n = sizes::frames(p);
+    let mut f = from;
+    while f < n {
+        if !nand::is_programmed(p, frame_of(p, blk, f)) {
+            return f;
+        }
+        f += 1;
+    }
+    f
 }
 
 // Is the last frame of the block programmed? If the first k frames are and no others, the block is full exactly then.
