@@ -16,7 +16,7 @@ use Rattle.claims.specs.Conditions.{ByTable, accessRows, noneApplies, ro
 use Rattle.claims.proofs.Outcomes.{format-reply, read-reply, write-reply, release-reply}
 
 -- the rows' numbers rise, from above k on
-abbrev Rising : ℕ → List Row → Type 0
+abbrev pub Rising : ℕ → List Row → Type 0
 Rising k [] = Unit {0}
 Rising k (x ∷ xs) = (k < numberOf (x .gives)) × Rising (numberOf (x .gives)) xs
 
@@ -82,7 +82,7 @@ when-accepted (x ∷ xs) h = go (x .applies) h (when-accepted xs)
     go true d below = absurd (false≢true d)
     go false d below = below d
 
-by-table : (rows : List Row) → Rising 0 rows → ByTable rows (firstRow rows)
+pub by-table : (rows : List Row) → Rising 0 rows → ByTable rows (firstRow rows)
 by-table rows h =
     record {
       listed = λ earlier later x is. rw is (given-when 0 earlier later x (rw is at h), λ w. when-given earlier later x (w .0) (w .1));
@@ -98,7 +98,7 @@ rows-rise p b (read q) = omega arith
 rows-rise p b (write q) = omega arith
 rows-rise p b (release c) = omega arith
 
-reply-first : (p : Params) (b : Board) (c : Call) → replyTo p b c ≡ firstRow (rowsOf p b c)
+pub reply-first : (p : Params) (b : Board) (c : Call) → replyTo p b c ≡ firstRow (rowsOf p b c)
 unfolding rowsOf accessRows
 reply-first p b format = format-reply p b ∙ unfold formatReply in refl
 reply-first p b (read q) = read-reply p b q ∙ unfold accessReply in refl

@@ -132,7 +132,7 @@ module _ (p : Params) (b : Board) (e : formatReply p b ≡ Accepted) where
           rw (count-cong (p .N) (λ m. not (eqb (bstAt ((formatted p b) .bst) m) 2)) (λ m. not (bad p (b .chip) m)) (λ m h. rw (kind m h) ((two (bad p (b .chip) m)) .3)))
           good-enough
 
-  lacks : (r v : ℕ) → assigned (view p (formatted p b) r) v ≡ false
+  pub lacks : (r v : ℕ) → assigned (view p (formatted p b) r) v ≡ false
   unfolding assigned viewOf bodyAt btAt btEntry
   lacks r v = rw (entry (r * p .gamma + v)) (go (ltb v (p .gamma)))
     where

@@ -151,6 +151,19 @@ module _ (p : Params) (z : Sizes p) (r : ℕ) (vw : View) (neat : Neat p r vw) (
         none-pass true = refl
         none-pass false = refl
 
+  -- each copy is valid where it now stands
+  pub copy-valid : (i : ℕ) → i < length (validFrames p vw v) → Valid p (withRoom p vw (reclaims v)) v i
+  unfolding rank
+  copy-valid i h =
+      let f = nthValid p vw v i in
+      let w = nth-spec i h in
+      let c = held p (frame p (vw .body v) f) in
+      record {
+        written = rw (frame-copy i h) (w .1 .written);
+        names = rw (frame-copy i h) (moved-seg c f (w .0) (w .1) refl ∙ ap (segmentOf p v) (w .2));
+        last = rw (frame-copy i h) (rw (w .2) at (moved-last c f (w .0) (w .1) refl));
+      }
+
   -- ---- a cluster whose entry names the victim has a valid frame there
 
   module _ (c : ℕ) (e : Entry p vw c) (at : vblockOf p (vw .segOf c) ≡ v) where

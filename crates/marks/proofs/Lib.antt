@@ -1,0 +1,12 @@
+pub mod Tables
+pub mod Counted
+pub mod FrameMarks
+pub mod OldMarks
+pub mod RoomMarks
+pub mod WrittenMarks
+pub mod ReleasedMarks
+pub mod FormattedMarks
+pub mod MarkedReplies
+pub mod MarkedRuns
+pub mod MarkedConditions
+pub mod MarksRead
