@@ -3,9 +3,8 @@ ghost use mathlib.Core.Path.{_≡_};
 ghost use Prim.Native.Nat.{_*_, _≤_, min};
 ghost use lib.ListN.{length, replicate};
 ghost use Rattle.rules.specs.BoardT.{boardT};
-ghost use Rattle.rules.specs.Calls.{formatCall};
 ghost use Rattle.rules.specs.Tables.{boardOf};
-ghost use Rattle.lines.specs.Session.{turn};
+ghost use Rattle.bench.specs.Turned.{Started, Turned};
 use libc::STDIN_FILENO;
 use libc::STDOUT_FILENO;
 use lines::Held;
@@ -77,7 +76,8 @@ fn say_unknown() {
     io::write_all(STDOUT_FILENO, &out[..n]);
 }
 
-// Writes sectors of one byte value, and prints the answer. The board becomes the one that the line leaves.
+// Writes sectors of one byte value, and prints the answer. Where the table of marks is the board's, the board becomes the one that the line
+// leaves, and the table stays the board's.
 fn write(
     chip: &mut [u8],
     ct: &mut [u16],
@@ -85,11 +85,12 @@ fn write(
     fst: &mut [u16],
     bst: &mut [u8],
     wear: &mut [u32],
+    marks: &mut [u64],
     lba: u32,
     count: u32,
     value: u8,
 )
-    ensures { λ _. ⌜ boardOf (now (chip .exit)) (now (ct .exit)) (now (bt .exit)) (now (fst .exit)) (now (bst .exit)) (now (wear .exit)) ≡ (turn (boardOf (now (chip .entry)) (now (ct .entry)) (now (bt .entry)) (now (fst .entry)) (now (bst .entry)) (now (wear .entry))) (Line.Write lba count value)) .board ⌝ }
+    ensures { λ _. ⌜ Turned (Line.Write lba count value) (boardOf (now (chip .entry)) (now (ct .entry)) (now (bt .entry)) (now (fst .entry)) (now (bst .entry)) (now (wear .entry))) (now (marks .entry)) (boardOf (now (chip .exit)) (now (ct .exit)) (now (bt .exit)) (now (fst .exit)) (now (bst .exit)) (now (wear .exit))) (now (marks .exit)) ⌝ }
 {
     let bytes = filled(value);
     let n = lent(count);
@@ -101,6 +102,7 @@ fn write(
         fst,
         bst,
         wear,
+        marks,
         lba,
         count,
         &bytes[..n],
@@ -116,13 +118,26 @@ fn read_into(
     fst: &[u16],
     bst: &[u8],
     wear: &[u32],
+    marks: &[u64],
     lba: u32,
     count: u32,
     bytes: &mut [u8],
 )
     requires { ⌜ length (now bytes) ≤ 32 ⌝ }
 {
-    let a = layer::read(board(), chip, ct, bt, fst, bst, wear, lba, count, bytes);
+    let a = layer::read(
+        board(),
+        chip,
+        ct,
+        bt,
+        fst,
+        bst,
+        wear,
+        marks,
+        lba,
+        count,
+        bytes,
+    );
     say_read(a, bytes);
 }
 
@@ -134,15 +149,28 @@ fn read(
     fst: &[u16],
     bst: &[u8],
     wear: &[u32],
+    marks: &[u64],
     lba: u32,
     count: u32,
 ) {
     let mut bytes = filled(0);
     let n = lent(count);
-    read_into(chip, ct, bt, fst, bst, wear, lba, count, &mut bytes[..n]);
+    read_into(
+        chip,
+        ct,
+        bt,
+        fst,
+        bst,
+        wear,
+        marks,
+        lba,
+        count,
+        &mut bytes[..n],
+    );
 }
 
-// Does what a line asks, and prints one line. The board becomes the one that the line leaves.
+// Does what a line asks, and prints one line. Where the table of marks is the board's, the board becomes the one that the line leaves, and
+// the table stays the board's.
 fn answer(
     chip: &mut [u8],
     ct: &mut [u16],
@@ -150,16 +178,17 @@ fn answer(
     fst: &mut [u16],
     bst: &mut [u8],
     wear: &mut [u32],
+    marks: &mut [u64],
     line: Line,
 )
-    ensures { λ _. ⌜ boardOf (now (chip .exit)) (now (ct .exit)) (now (bt .exit)) (now (fst .exit)) (now (bst .exit)) (now (wear .exit)) ≡ (turn (boardOf (now (chip .entry)) (now (ct .entry)) (now (bt .entry)) (now (fst .entry)) (now (bst .entry)) (now (wear .entry))) line) .board ⌝ }
+    ensures { λ _. ⌜ Turned line (boardOf (now (chip .entry)) (now (ct .entry)) (now (bt .entry)) (now (fst .entry)) (now (bst .entry)) (now (wear .entry))) (now (marks .entry)) (boardOf (now (chip .exit)) (now (ct .exit)) (now (bt .exit)) (now (fst .exit)) (now (bst .exit)) (now (wear .exit))) (now (marks .exit)) ⌝ }
 {
     match line {
         Line::Write(lba, count, value) => {
-            write(chip, ct, bt, fst, bst, wear, lba, count, value);
+            write(chip, ct, bt, fst, bst, wear, marks, lba, count, value);
         }
         Line::Read(lba, count) => {
-            read(chip, ct, bt, fst, bst, wear, lba, count);
+            read(chip, ct, bt, fst, bst, wear, marks, lba, count);
         }
         Line::Other => {
             say_unknown();
@@ -175,11 +204,12 @@ fn take(
     fst: &mut [u16],
     bst: &mut [u8],
     wear: &mut [u32],
+    marks: &mut [u64],
     held: Held,
     b: u8,
 ) -> Held {
     if b == b'\n' {
-        answer(chip, ct, bt, fst, bst, wear, lines::asked(held));
+        answer(chip, ct, bt, fst, bst, wear, marks, lines::asked(held));
         lines::none()
     } else {
         lines::push(held, b)
@@ -194,13 +224,14 @@ fn take_all(
     fst: &mut [u16],
     bst: &mut [u8],
     wear: &mut [u32],
+    marks: &mut [u64],
     held: Held,
     s: &[u8],
 ) -> Held {
     let mut h = held;
     let mut i = 0;
     while i < s.len() {
-        h = take(chip, ct, bt, fst, bst, wear, h, s[i]);
+        h = take(chip, ct, bt, fst, bst, wear, marks, h, s[i]);
         i += 1;
     }
     h
@@ -215,6 +246,7 @@ fn take_input(
     fst: &mut [u16],
     bst: &mut [u8],
     wear: &mut [u32],
+    marks: &mut [u64],
 ) -> Held {
     let mut held = lines::none();
     let mut buf = io::buffer();
@@ -226,13 +258,13 @@ fn take_input(
         if n == 0 {
             return held;
         }
-        held = take_all(chip, ct, bt, fst, bst, wear, held, &chunk[..n]);
+        held = take_all(chip, ct, bt, fst, bst, wear, marks, held, &chunk[..n]);
         turns -= 1;
     }
     held
 }
 
-// Formats the board, and prints the answer.
+// Formats the board, and prints the answer. If it is accepted, the table of marks is the board's from here on.
 fn start(
     chip: &mut [u8],
     ct: &mut [u16],
@@ -240,10 +272,12 @@ fn start(
     fst: &mut [u16],
     bst: &mut [u8],
     wear: &mut [u32],
+    marks: &mut [u64],
 )
-    ensures { λ _. ⌜ boardOf (now (chip .exit)) (now (ct .exit)) (now (bt .exit)) (now (fst .exit)) (now (bst .exit)) (now (wear .exit)) ≡ (formatCall boardT (boardOf (now (chip .entry)) (now (ct .entry)) (now (bt .entry)) (now (fst .entry)) (now (bst .entry)) (now (wear .entry)))) .board ⌝ }
+    requires { ⌜ length (now marks) ≡ 16 ⌝ }
+    ensures { λ _. ⌜ Started (boardOf (now (chip .entry)) (now (ct .entry)) (now (bt .entry)) (now (fst .entry)) (now (bst .entry)) (now (wear .entry))) (boardOf (now (chip .exit)) (now (ct .exit)) (now (bt .exit)) (now (fst .exit)) (now (bst .exit)) (now (wear .exit))) (now (marks .exit)) ⌝ }
 {
-    let a = layer::format(board(), chip, ct, bt, fst, bst, wear);
+    let a = layer::format(board(), chip, ct, bt, fst, bst, wear, marks);
     say_counts(b'F', a);
 }
 
@@ -255,10 +289,11 @@ fn session(
     fst: &mut [u16],
     bst: &mut [u8],
     wear: &mut [u32],
+    marks: &mut [u64],
 ) {
-    let held = take_input(chip, ct, bt, fst, bst, wear);
+    let held = take_input(chip, ct, bt, fst, bst, wear, marks);
     if lines::is_begun(held) {
-        answer(chip, ct, bt, fst, bst, wear, lines::asked(held));
+        answer(chip, ct, bt, fst, bst, wear, marks, lines::asked(held));
     }
 }
 
@@ -269,6 +304,23 @@ fn main() {
     let mut fst = [0u16; 2];
     let mut bst = [0u8; 5];
     let mut wear = [0u32; 5];
-    start(&mut chip, &mut ct, &mut bt, &mut fst, &mut bst, &mut wear);
-    session(&mut chip, &mut ct, &mut bt, &mut fst, &mut bst, &mut wear);
+    let mut marks = [0u64; 16];
+    start(
+        &mut chip,
+        &mut ct,
+        &mut bt,
+        &mut fst,
+        &mut bst,
+        &mut wear,
+        &mut marks,
+    );
+    session(
+        &mut chip,
+        &mut ct,
+        &mut bt,
+        &mut fst,
+        &mut bst,
+        &mut wear,
+        &mut marks,
+    );
 }

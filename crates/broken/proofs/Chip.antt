@@ -1,6 +1,6 @@
 -- The rules of the used blocks and of FST, of the views of the regions and of the lent tables: the same where the rules before them hold.
 -- Assumes nothing.
-use mathlib.Core.Path.{refl, sym, _∙_, _≡_}
+use mathlib.Core.Path.{sym, _≡_}
 use mathlib.Core.Bool.{not, true, _||_}
 use Prim.Native.Nat.{_<_, ℕ}
 use native.Mathlib.Decide.{ℕ-discrete}
@@ -13,21 +13,14 @@ use Rattle.rules.specs.Orderly.{blockRule, blocksRule, fstRule, regionBlocks, r
 use Rattle.rules.specs.Pages.{block}
 use Rattle.rules.specs.Regions.{assigned, view}
 use Rattle.rules.specs.Tables.{Board, btAt, none}
-use Rattle.rules.proofs.Sizes.{sizes}
-use Rattle.rules.proofs.TableFacts.{chip-size}
 use Rattle.agree.specs.Check.{Lent, fstOk}
 use Rattle.agree.proofs.Same.{Names, assigned-no, assigned-yes, body-is, open-same}
-use Rattle.state.proofs.Blocks.{name-low}
+use Rattle.state.proofs.Blocks.{names-in}
 use Rattle.broken.specs.Tests.{blockOk, regionBlocksOk}
 
 module _ (p : Params) (b : Board) (t : Lent p (b .chip) (b .bt)) where
   names : Names p b
-  names =
-      record {
-        fine = sizes p (t .fine);
-        chipLength = t .chipLength ∙ chip-size p;
-        low = λ r v hr hv ne. name-low p (b .chip) (b .bt) t r v _ hr hv refl ne;
-      }
+  names = names-in p b t
 
   block-same : (r : ℕ) → r < p .mu → (v : ℕ) → v < p .gamma → blockOk p (b .chip) (b .bt) r v ≡ not (assigned (view p b r) v) || blockRule p r ((view p b r) .body v)
   unfolding blockOk

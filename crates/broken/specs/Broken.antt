@@ -1,4 +1,4 @@
--- The first rule of an orderly state that a board breaks, in document 01's order, and the number of each rule.
+-- The first rule of an orderly state that a board breaks, in document 01's order with T-06's rule last, and the number of each rule.
 -- Assumes nothing.
 use Prim.Native.Nat.{ℕ}
 use mathlib.Core.Path.{_≡_}
@@ -7,12 +7,12 @@ use mathlib.Core.List.{List, [], _∷_}
 use lib.ListN.{getD, take}
 use Rattle.lists.specs.Below.{allTrue}
 use Rattle.rules.specs.declared.Params.{Params}
-use Rattle.rules.specs.Orderly.{rulesOf}
+use Rattle.rules.specs.Orderly.{orderly, rulesOf}
 use Rattle.rules.specs.Tables.{Board}
 use Rattle.broken.specs.declared.Rule.{Rule}
-use Rattle.broken.specs.declared.Rule.the-variants.{BstValues, BtRange, NamedTwice, UsedIfNamed, TooFewLeft, FreeErased, UsedBlock, Fst, Ct}
+use Rattle.broken.specs.declared.Rule.the-variants.{BstValues, BtRange, NamedTwice, UsedIfNamed, TooFewLeft, FreeErased, UsedBlock, Fst, Ct, Marks}
 
--- the rules in the document's order, 1 to 9
+-- the rules in the document's order, 1 to 9, and T-06's after them
 abbrev pub ruleNumber : Rule → ℕ
 ruleNumber BstValues = 1
 ruleNumber BtRange = 2
@@ -23,6 +23,7 @@ ruleNumber FreeErased = 6
 ruleNumber UsedBlock = 7
 ruleNumber Fst = 8
 ruleNumber Ct = 9
+ruleNumber Marks = 10
 
 -- the names of the tests of `rulesOf`, in its order
 unfoldable pub ruleNames : List Rule
@@ -38,7 +39,11 @@ firstOf (t ∷ ts) (r ∷ rs) = cond t (firstOf ts rs) r
 unfoldable pub firstBroken : Params → Board → Rule
 firstBroken p b = firstOf (rulesOf p b) ruleNames
 
--- test j fails, and every test before it passes: what `first-broken` says of that rule, j its number less 1
+-- "An orderly state now also says that each mark equals the validity rule": the rule of the marks is looked at where the nine others hold
+unfoldable pub brokenRule : Params → Board → Rule
+brokenRule p b = cond (orderly p b) Marks (firstBroken p b)
+
+-- test j fails, and every test before it passes: what `first-broken` and `broken-rule` say of that rule, j its number less 1
 pub record FirstFails (j : ℕ) (ts : List Bool) : Type 0 where
   pub fails : getD ts j true ≡ false
   pub earlier : allTrue (take j ts) ≡ true

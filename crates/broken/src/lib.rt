@@ -1,5 +1,5 @@
-// Which rule of an orderly state a board breaks: the first in document 01's order. Each rule is a test of its own and is looked at only where those before it
-// hold. It is asked only of a state that is not orderly, so the tests search BT as often as they need.
+// Which rule of an orderly state a board breaks: the first in document 01's order, T-06's rule of the marks last. Each rule is a test of its own and is looked
+// at only where those before it hold. It is asked only where a call is refused with 7, so the tests search BT as often as they need.
 ghost use mathlib.Core.Path.{_≡_};
 ghost use mathlib.Core.Bool.{true, not, _||_, Bool·beq};
 ghost use mathlib.Core.List.{List};
@@ -10,14 +10,14 @@ ghost use Rattle.lists.specs.Below.{allBelow};
 ghost use Rattle.rules.specs.Parameters.{allowed, chipBytes};
 ghost use Rattle.rules.specs.Tables.{boardOf, none, btEntry, bstAt};
 ghost use Rattle.rules.specs.Orderly.{onceRule, named, usedRule};
-ghost use Rattle.agree.specs.Check.{Lent, fstOk};
-ghost use Rattle.broken.specs.Broken.{ruleNumber, firstBroken};
+ghost use Rattle.agree.specs.Check.{Lengths, Lent, fstOk};
+ghost use Rattle.broken.specs.Broken.{ruleNumber, firstBroken, brokenRule};
 ghost use Rattle.broken.specs.Tests.{blockOk, regionBlocksOk};
 use rules::PBlock;
 use rules::Params;
 use rules::VBlock;
 
-// The rules of an orderly state, in document 01's order.
+// The rules of an orderly state, in document 01's order, and T-06's after them.
 pub enum Rule {
     BstValues,
     BtRange,
@@ -28,9 +28,10 @@ pub enum Rule {
     UsedBlock,
     Fst,
     Ct,
+    Marks,
 }
 
-// The place of a rule in that order, from 1 to 9.
+// The place of a rule in that order, from 1 to 10.
 pub fn rule_number(r: Rule) -> u32
     ensures { λ n. ⌜ n ≡ ruleNumber r ⌝ }
 {
@@ -44,6 +45,7 @@ pub fn rule_number(r: Rule) -> u32
         Rule::UsedBlock => 7,
         Rule::Fst => 8,
         Rule::Ct => 9,
+        Rule::Marks => 10,
     }
 }
 
@@ -242,4 +244,15 @@ pub fn first_broken(p: Params, chip: &[u8], bt: &[u16], fst: &[u16], bst: &[u8])
         return Rule::Fst;
     }
     Rule::Ct
+}
+
+// The first rule that does not hold, of a state and marks that are not both right: where the state is orderly it is the one of the marks, which needs no look.
+pub fn broken_rule(p: Params, chip: &[u8], ct: &[u16], bt: &[u16], fst: &[u16], bst: &[u8]) -> Rule
+    requires { ⌜ Lengths p (now chip) (now ct) (now bt) (now fst) (now bst) ⌝ }
+    ensures { λ k. ⌜ ((wear : List ℕ) → k ≡ brokenRule p (boardOf (now (chip .entry)) (now (ct .entry)) (now (bt .entry)) (now (fst .entry)) (now (bst .entry)) wear)) ⌝ }
+{
+    if state::is_orderly(p, chip, ct, bt, fst, bst) {
+        return Rule::Marks;
+    }
+    first_broken(p, chip, bt, fst, bst)
 }

@@ -7,10 +7,11 @@ use mathlib.Core.List.{List}
 use Prim.Native.Nat.{ℕ, _≤_, _<_}
 use lib.Dec.{eqb, ltb}
 use lib.ListN.{length}
-use Rattle.lists.specs.Below.{leastBelow, firstBelow}
+use Rattle.lists.specs.Below.{countBelow, leastBelow, firstBelow}
 use Rattle.rules.specs.declared.Params.{Params}
 use Rattle.rules.specs.Parameters.{allowed}
 use Rattle.rules.specs.Tables.{none, btAt, bstAt, wearAt}
+use Rattle.marks.specs.Marks.{Marks, marksLength}
 
 -- BST and wear of all N blocks
 pub record Pool (p : Params) (bst wear : List ℕ) : Type 0 where
@@ -24,6 +25,12 @@ pub record Compared (bst wear : List ℕ) (i m : ℕ) : Type 0 where
   pub low : i < length wear
   pub best : (m ≡ none) ⊎ (m < length wear)
 
+-- a region's marks, in a table as long as it has to be
+pub record RegionMarks (p : Params) (marks : List ℕ) (r : ℕ) : Type 0 where
+  pub fine : allowed p ≡ true
+  pub long : length marks ≡ marksLength p
+  pub region : r < p .mu
+
 -- block i is free, and m is none or more worn
 abbrev pub better : List ℕ → List ℕ → ℕ → ℕ → Bool
 better bst wear i m = eqb (bstAt bst i) 0 && (eqb m none || ltb (wearAt wear i) (wearAt wear m))
@@ -35,3 +42,7 @@ leastFree bst wear n = leastBelow (wearAt wear) none n (λ i. eqb (bstAt bst i) 
 -- the lowest of the first n virtual blocks of region r that BT gives no block
 unfoldable pub lowestNone : Params → List ℕ → ℕ → ℕ → ℕ
 lowestNone p bt r n = firstBelow none n (λ v. eqb (btAt p bt r v) none)
+
+-- of the first n virtual blocks of region r the one with fewest marks
+abbrev pub leastMarked : Marks → ℕ → ℕ → ℕ
+leastMarked m r n = leastBelow (λ v. countBelow 256 (m r v)) none n (λ v. true)

@@ -1,12 +1,13 @@
-// What a write chooses: the free block, and the lowest virtual block without a physical block.
+// What a write chooses: the free block, the lowest virtual block without a physical block, and the victim of a reclaim.
 ghost use mathlib.Core.Path.{_≡_};
 ghost use mathlib.Core.Bool.{true, _&&_, _||_, cond};
 ghost use Prim.Native.Nat.{_*_, _<_};
 ghost use lib.Dec.{eqb, ltb};
 ghost use lib.ListN.{length};
+ghost use Rattle.marks.specs.Marks.{Marks, tableOf};
 ghost use Rattle.rules.specs.Parameters.{allowed};
 ghost use Rattle.rules.specs.Write.{freeBlock};
-ghost use Rattle.choose.specs.Search.{Pool, Compared, better, lowestNone};
+ghost use Rattle.choose.specs.Search.{Pool, Compared, RegionMarks, better, leastMarked, lowestNone};
 use rules::PBlock;
 use rules::Params;
 use rules::VBlock;
@@ -63,4 +64,23 @@ pub fn lowest_unassigned(p: Params, bt: &[u16], r: usize) -> VBlock
         v += 1;
     }
     VBlock(m)
+}
+
+// The virtual block of region r with fewest marks, the lowest on a tie.
+pub fn victim(p: Params, marks: &[u64], r: usize) -> VBlock
+    requires { ⌜ RegionMarks p (now marks) r ⌝ }
+    ensures { λ v. ⌜ ((m : Marks) → now (marks .entry) ≡ tableOf p m → v .0 ≡ leastMarked m r (p .gamma)) ⌝ }
+{
+    let n = p.gamma;
+    let mut least: usize = 65535;
+    let mut best: usize = 0;
+    let mut v: usize = 0;
+    while v < n {
+        let k = marking::count_marks(p, marks, r, VBlock(v));
+        let less = (least == 65535) | (k < best);
+        least = pick(less, v, least);
+        best = pick(less, k, best);
+        v += 1;
+    }
+    VBlock(least)
 }

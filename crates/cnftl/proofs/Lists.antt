@@ -13,7 +13,7 @@ use Rattle.why.specs.declared.Forecast.{Forecast}
 use Rattle.why.specs.declared.Forecast.the-variants.{Continues, Opens, Reclaims}
 use Rattle.why.specs.declared.Why.{Why}
 use Rattle.why.specs.declared.Why.the-variants.{Disordered, Empty, Held, Refused}
-use Rattle.why.specs.Why.{forecastNumbers, numbersOf, placeNumbers, whyOf}
+use Rattle.why.specs.Why.{forecastNumbers, numbersOf, markedWhy, placeNumbers}
 use Rattle.cnftl.specs.Listed.{Listed, tells, toldList, toldReply}
 
 pub four : (fc : Forecast) → getD (forecastNumbers fc) 0 0 ∷ getD (forecastNumbers fc) 1 0 ∷ getD (forecastNumbers fc) 2 0 ∷ getD (forecastNumbers fc) 3 0 ∷ [] ≡ forecastNumbers fc
@@ -38,15 +38,15 @@ twelve (Held at (Opens v)) = refl
 twelve (Held at (Reclaims v n)) = refl
 
 -- the call's reply and list, where the list has twelve entries and where it has not
-module _ (p : Params) (b : Board) (lba : ℕ) (list : List ℕ) where
-  pub listed : length list ≡ 12 → (ns : List ℕ) → ns ≡ whyOf p b lba → (word : ℕ) → word ≡ getD ns 0 0 → (list′ : List ℕ) → list′ ≡ cond (tells (getD ns 0 0)) ns list → Listed p b lba list word list′
+module _ (p : Params) (b : Board) (marks : List ℕ) (lba : ℕ) (list : List ℕ) where
+  pub listed : length list ≡ 12 → (ns : List ℕ) → ns ≡ markedWhy p b marks lba → (word : ℕ) → word ≡ getD ns 0 0 → (list′ : List ℕ) → list′ ≡ cond (tells (getD ns 0 0)) ns list → Listed p b marks lba list word list′
   unfolding toldReply toldList
   listed l ns is word r list′ e = record { reply = rw l (r ∙ rw is); numbers = rw l (e ∙ rw is) }
 
-  pub unlisted : (length list ≡ 12 → ⊥) → (t : Bool) → t ≡ allowed p → (word : ℕ) → word ≡ cond t 2 1 → Listed p b lba list word list
+  pub unlisted : (length list ≡ 12 → ⊥) → (t : Bool) → t ≡ allowed p → (word : ℕ) → word ≡ cond t 2 1 → Listed p b marks lba list word list
   unfolding toldReply toldList
   unlisted ne t is word e = record { reply = rw (ne-eqb (length list) 12 ne) (e ∙ rw is); numbers = rw (ne-eqb (length list) 12 ne) }
 
 -- what the call leaves, it leaves once
-pub listed-once : (p : Params) (b : Board) (lba : ℕ) (list : List ℕ) (w w′ : ℕ) (x x′ : List ℕ) → Listed p b lba list w x → Listed p b lba list w′ x′ → (w ≡ w′) × (x ≡ x′)
-listed-once p b lba list w w′ x x′ g g′ = (g .reply ∙ sym (g′ .reply), g .numbers ∙ sym (g′ .numbers))
+pub listed-once : (p : Params) (b : Board) (marks : List ℕ) (lba : ℕ) (list : List ℕ) (w w′ : ℕ) (x x′ : List ℕ) → Listed p b marks lba list w x → Listed p b marks lba list w′ x′ → (w ≡ w′) × (x ≡ x′)
+listed-once p b marks lba list w w′ x x′ g g′ = (g .reply ∙ sym (g′ .reply), g .numbers ∙ sym (g′ .numbers))

@@ -7,7 +7,7 @@ use Rattle.rules.specs.declared.Params.{Params}
 use Rattle.rules.specs.declared.Answer.{Answer}
 use Rattle.rules.specs.Tables.{Board}
 use Rattle.rules.specs.Replies.{numberOf}
-use Rattle.rules.specs.Calls.{Outcome}
+use Rattle.marks.specs.MarkedCalls.{MarkedOutcome}
 
 -- the eight parameters, in the order in which they are passed
 abbrev pub paramsOf : ℕ → ℕ → ℕ → ℕ → ℕ → ℕ → ℕ → ℕ → Params
@@ -18,8 +18,9 @@ paramsOf s alpha beta d mu gamma c n =
 unfoldable pub packed : Answer → ℕ
 packed a = numberOf (a .reply) + 65536 * a .programs + 4294967296 * a .erases
 
--- what a call through the C interface gives: the packed answer, the lent data and the board of the outcome
-pub record Given (o : Outcome) (word : ℕ) (bytes : List ℕ) (b : Board) : Type 0 where
-  pub answer : word ≡ packed (o .answer)
-  pub bytesAre : bytes ≡ o .bytes
-  pub board : b ≡ o .board
+-- what a call through the C interface gives: the packed answer, the lent data, the board and the table of marks of the outcome
+pub record Given (o : MarkedOutcome) (word : ℕ) (bytes : List ℕ) (b : Board) (marks : List ℕ) : Type 0 where
+  pub answer : word ≡ packed (o .outcome .answer)
+  pub bytesAre : bytes ≡ o .outcome .bytes
+  pub board : b ≡ o .outcome .board
+  pub marksAre : marks ≡ o .marks

@@ -1,11 +1,12 @@
-// The C interface: the calls of documents 01 and 02 with the parameters one by one, and the answer as one number.
+// The C interface: the calls of documents 01 and 02 with the parameters one by one, and the answer as one number. T-06's table of marks comes after the wear.
 ghost use mathlib.Core.Path.{_≡_};
 ghost use mathlib.Core.List.{List, []};
 ghost use mathlib.Core.Bool.{cond};
 ghost use Prim.Native.Nat.{_<_};
 ghost use lib.ListN.{getD, length};
 ghost use Rattle.rules.specs.Tables.{boardOf};
-ghost use Rattle.rules.specs.Calls.{formatCall, readCall, writeCall, releaseCall};
+ghost use Rattle.rules.specs.Calls.{format, read, write, release};
+ghost use Rattle.marks.specs.MarkedCalls.{markedCall};
 ghost use Rattle.reading.specs.Sectors.{requestOf};
 ghost use Rattle.why.specs.Why.{Small, forecastNumbers, numbersOf};
 ghost use Rattle.cnftl.specs.Packed.{paramsOf, packed, Given};
@@ -57,11 +58,12 @@ pub extern "C" fn cnftl_format(
     fst: &mut [u16],
     bst: &mut [u8],
     wear: &mut [u32],
+    marks: &mut [u64],
 ) -> u64
-    ensures { λ word. ⌜ Given (formatCall (paramsOf s alpha beta d mu gamma c n) (boardOf (now (chip .entry)) (now (ct .entry)) (now (bt .entry)) (now (fst .entry)) (now (bst .entry)) (now (wear .entry)))) word [] (boardOf (now (chip .exit)) (now (ct .exit)) (now (bt .exit)) (now (fst .exit)) (now (bst .exit)) (now (wear .exit))) ⌝ }
+    ensures { λ word. ⌜ Given (markedCall (paramsOf s alpha beta d mu gamma c n) (boardOf (now (chip .entry)) (now (ct .entry)) (now (bt .entry)) (now (fst .entry)) (now (bst .entry)) (now (wear .entry))) (now (marks .entry)) format) word [] (boardOf (now (chip .exit)) (now (ct .exit)) (now (bt .exit)) (now (fst .exit)) (now (bst .exit)) (now (wear .exit))) (now (marks .exit)) ⌝ }
 {
     let p = params(s, alpha, beta, d, mu, gamma, c, n);
-    pack(layer::format(p, chip, ct, bt, fst, bst, wear))
+    pack(layer::format(p, chip, ct, bt, fst, bst, wear, marks))
 }
 
 // Document 01's read.
@@ -81,14 +83,15 @@ pub extern "C" fn cnftl_read(
     fst: &[u16],
     bst: &[u8],
     wear: &[u32],
+    marks: &[u64],
     lba: u32,
     count: u32,
     bytes: &mut [u8],
 ) -> u64
-    ensures { λ word. ⌜ Given (readCall (paramsOf s alpha beta d mu gamma c n) (boardOf (now (chip .entry)) (now (ct .entry)) (now (bt .entry)) (now (fst .entry)) (now (bst .entry)) (now (wear .entry))) (requestOf lba count (now (bytes .entry)))) word (now (bytes .exit)) (boardOf (now (chip .entry)) (now (ct .entry)) (now (bt .entry)) (now (fst .entry)) (now (bst .entry)) (now (wear .entry))) ⌝ }
+    ensures { λ word. ⌜ Given (markedCall (paramsOf s alpha beta d mu gamma c n) (boardOf (now (chip .entry)) (now (ct .entry)) (now (bt .entry)) (now (fst .entry)) (now (bst .entry)) (now (wear .entry))) (now (marks .entry)) (read (requestOf lba count (now (bytes .entry))))) word (now (bytes .exit)) (boardOf (now (chip .entry)) (now (ct .entry)) (now (bt .entry)) (now (fst .entry)) (now (bst .entry)) (now (wear .entry))) (now (marks .entry)) ⌝ }
 {
     let p = params(s, alpha, beta, d, mu, gamma, c, n);
-    pack(layer::read(p, chip, ct, bt, fst, bst, wear, lba, count, bytes))
+    pack(layer::read(p, chip, ct, bt, fst, bst, wear, marks, lba, count, bytes))
 }
 
 // Document 01's write.
@@ -108,14 +111,15 @@ pub extern "C" fn cnftl_write(
     fst: &mut [u16],
     bst: &mut [u8],
     wear: &mut [u32],
+    marks: &mut [u64],
     lba: u32,
     count: u32,
     bytes: &[u8],
 ) -> u64
-    ensures { λ word. ⌜ Given (writeCall (paramsOf s alpha beta d mu gamma c n) (boardOf (now (chip .entry)) (now (ct .entry)) (now (bt .entry)) (now (fst .entry)) (now (bst .entry)) (now (wear .entry))) (requestOf lba count (now (bytes .entry)))) word (now (bytes .entry)) (boardOf (now (chip .exit)) (now (ct .exit)) (now (bt .exit)) (now (fst .exit)) (now (bst .exit)) (now (wear .exit))) ⌝ }
+    ensures { λ word. ⌜ Given (markedCall (paramsOf s alpha beta d mu gamma c n) (boardOf (now (chip .entry)) (now (ct .entry)) (now (bt .entry)) (now (fst .entry)) (now (bst .entry)) (now (wear .entry))) (now (marks .entry)) (write (requestOf lba count (now (bytes .entry))))) word (now (bytes .entry)) (boardOf (now (chip .exit)) (now (ct .exit)) (now (bt .exit)) (now (fst .exit)) (now (bst .exit)) (now (wear .exit))) (now (marks .exit)) ⌝ }
 {
     let p = params(s, alpha, beta, d, mu, gamma, c, n);
-    pack(layer::write(p, chip, ct, bt, fst, bst, wear, lba, count, bytes))
+    pack(layer::write(p, chip, ct, bt, fst, bst, wear, marks, lba, count, bytes))
 }
 
 // Document 02's release of one cluster.
@@ -135,12 +139,13 @@ pub extern "C" fn cnftl_release(
     fst: &[u16],
     bst: &[u8],
     wear: &[u32],
+    marks: &mut [u64],
     cluster: u32,
 ) -> u64
-    ensures { λ word. ⌜ Given (releaseCall (paramsOf s alpha beta d mu gamma c n) (boardOf (now (chip .entry)) (now (ct .entry)) (now (bt .entry)) (now (fst .entry)) (now (bst .entry)) (now (wear .entry))) cluster) word [] (boardOf (now (chip .entry)) (now (ct .exit)) (now (bt .entry)) (now (fst .entry)) (now (bst .entry)) (now (wear .entry))) ⌝ }
+    ensures { λ word. ⌜ Given (markedCall (paramsOf s alpha beta d mu gamma c n) (boardOf (now (chip .entry)) (now (ct .entry)) (now (bt .entry)) (now (fst .entry)) (now (bst .entry)) (now (wear .entry))) (now (marks .entry)) (release cluster)) word [] (boardOf (now (chip .entry)) (now (ct .exit)) (now (bt .entry)) (now (fst .entry)) (now (bst .entry)) (now (wear .entry))) (now (marks .exit)) ⌝ }
 {
     let p = params(s, alpha, beta, d, mu, gamma, c, n);
-    pack(layer::release(p, chip, ct, bt, fst, bst, wear, cluster))
+    pack(layer::release(p, chip, ct, bt, fst, bst, wear, marks, cluster))
 }
 
 // The numbers of a forecast, for the end of the list.
@@ -232,10 +237,11 @@ pub extern "C" fn cnftl_why(
     fst: &[u16],
     bst: &[u8],
     wear: &[u32],
+    marks: &[u64],
     lba: u32,
     list: &mut [u32],
 ) -> u64
-    ensures { λ word. ⌜ Listed (paramsOf s alpha beta d mu gamma c n) (boardOf (now (chip .entry)) (now (ct .entry)) (now (bt .entry)) (now (fst .entry)) (now (bst .entry)) (now (wear .entry))) lba (now (list .entry)) word (now (list .exit)) ⌝ }
+    ensures { λ word. ⌜ Listed (paramsOf s alpha beta d mu gamma c n) (boardOf (now (chip .entry)) (now (ct .entry)) (now (bt .entry)) (now (fst .entry)) (now (bst .entry)) (now (wear .entry))) (now (marks .entry)) lba (now (list .entry)) word (now (list .exit)) ⌝ }
 {
     let p = params(s, alpha, beta, d, mu, gamma, c, n);
     if list.len() != 12 {
@@ -244,5 +250,8 @@ pub extern "C" fn cnftl_why(
         }
         return 1;
     }
-    tell(why::explain(p, chip, ct, bt, fst, bst, wear, lba), list)
+    tell(
+        why::explain(p, chip, ct, bt, fst, bst, wear, marks, lba),
+        list,
+    )
 }

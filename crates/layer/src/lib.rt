@@ -1,8 +1,9 @@
-// The calls on the lent chip and tables: document 01's three, and document 02's release. None has a `requires`: each contract says that the whole outcome is the rules', for every input.
+// The calls on the lent chip and tables: document 01's three, and document 02's release; all with T-06's table of marks. None has a `requires`: each contract says that the whole outcome is the rules', for every input.
 ghost use mathlib.Core.Path.{_≡_};
 ghost use mathlib.Core.List.{List, []};
 ghost use Rattle.rules.specs.Tables.{boardOf};
-ghost use Rattle.rules.specs.Calls.{formatCall, readCall, writeCall, releaseCall};
+ghost use Rattle.rules.specs.Calls.{format, read, write, release};
+ghost use Rattle.marks.specs.MarkedCalls.{markedCall, markedOutcome};
 ghost use Rattle.reading.specs.Sectors.{requestOf};
 ghost use Rattle.layer.specs.Claims.{outcome};
 use rules::Answer;
@@ -19,16 +20,18 @@ pub fn format(
     fst: &mut [u16],
     bst: &mut [u8],
     wear: &mut [u32],
+    marks: &mut [u64],
 ) -> Answer
-    ensures { λ a. ⌜ outcome a [] (boardOf (now (chip .exit)) (now (ct .exit)) (now (bt .exit)) (now (fst .exit)) (now (bst .exit)) (now (wear .exit))) ≡ formatCall p (boardOf (now (chip .entry)) (now (ct .entry)) (now (bt .entry)) (now (fst .entry)) (now (bst .entry)) (now (wear .entry))) ⌝ }
+    ensures { λ a. ⌜ markedOutcome (outcome a [] (boardOf (now (chip .exit)) (now (ct .exit)) (now (bt .exit)) (now (fst .exit)) (now (bst .exit)) (now (wear .exit)))) (now (marks .exit)) ≡ markedCall p (boardOf (now (chip .entry)) (now (ct .entry)) (now (bt .entry)) (now (fst .entry)) (now (bst .entry)) (now (wear .entry))) (now (marks .entry)) format ⌝ }
 {
-    let reply = replies::format_reply(p, chip, ct, bt, fst, bst, wear);
+    let reply = replies::format_reply(p, chip, ct, bt, fst, bst, wear, marks);
     if rules::number(reply) != 0 {
         return replies::idle(reply);
     }
     formatting::clear(ct);
     formatting::clear(bt);
     formatting::clear(fst);
+    marking::clear_all(marks);
     let k = formatting::format_blocks(p, chip, bst, wear);
     Answer {
         reply,
@@ -46,13 +49,26 @@ pub fn read(
     fst: &[u16],
     bst: &[u8],
     wear: &[u32],
+    marks: &[u64],
     lba: u32,
     count: u32,
     bytes: &mut [u8],
 ) -> Answer
-    ensures { λ a. ⌜ outcome a (now (bytes .exit)) (boardOf (now (chip .entry)) (now (ct .entry)) (now (bt .entry)) (now (fst .entry)) (now (bst .entry)) (now (wear .entry))) ≡ readCall p (boardOf (now (chip .entry)) (now (ct .entry)) (now (bt .entry)) (now (fst .entry)) (now (bst .entry)) (now (wear .entry))) (requestOf lba count (now (bytes .entry))) ⌝ }
+    ensures { λ a. ⌜ markedOutcome (outcome a (now (bytes .exit)) (boardOf (now (chip .entry)) (now (ct .entry)) (now (bt .entry)) (now (fst .entry)) (now (bst .entry)) (now (wear .entry)))) (now (marks .entry)) ≡ markedCall p (boardOf (now (chip .entry)) (now (ct .entry)) (now (bt .entry)) (now (fst .entry)) (now (bst .entry)) (now (wear .entry))) (now (marks .entry)) (read (requestOf lba count (now (bytes .entry)))) ⌝ }
 {
-    let reply = replies::access_reply(p, chip, ct, bt, fst, bst, wear, lba, count, bytes.len());
+    let reply = replies::access_reply(
+        p,
+        chip,
+        ct,
+        bt,
+        fst,
+        bst,
+        wear,
+        marks,
+        lba,
+        count,
+        bytes.len(),
+    );
     if rules::number(reply) != 0 {
         return replies::idle(reply);
     }
@@ -69,13 +85,26 @@ pub fn write(
     fst: &mut [u16],
     bst: &mut [u8],
     wear: &mut [u32],
+    marks: &mut [u64],
     lba: u32,
     count: u32,
     bytes: &[u8],
 ) -> Answer
-    ensures { λ a. ⌜ outcome a (now (bytes .entry)) (boardOf (now (chip .exit)) (now (ct .exit)) (now (bt .exit)) (now (fst .exit)) (now (bst .exit)) (now (wear .exit))) ≡ writeCall p (boardOf (now (chip .entry)) (now (ct .entry)) (now (bt .entry)) (now (fst .entry)) (now (bst .entry)) (now (wear .entry))) (requestOf lba count (now (bytes .entry))) ⌝ }
+    ensures { λ a. ⌜ markedOutcome (outcome a (now (bytes .entry)) (boardOf (now (chip .exit)) (now (ct .exit)) (now (bt .exit)) (now (fst .exit)) (now (bst .exit)) (now (wear .exit)))) (now (marks .exit)) ≡ markedCall p (boardOf (now (chip .entry)) (now (ct .entry)) (now (bt .entry)) (now (fst .entry)) (now (bst .entry)) (now (wear .entry))) (now (marks .entry)) (write (requestOf lba count (now (bytes .entry)))) ⌝ }
 {
-    let reply = replies::access_reply(p, chip, ct, bt, fst, bst, wear, lba, count, bytes.len());
+    let reply = replies::access_reply(
+        p,
+        chip,
+        ct,
+        bt,
+        fst,
+        bst,
+        wear,
+        marks,
+        lba,
+        count,
+        bytes.len(),
+    );
     if rules::number(reply) != 0 {
         return replies::idle(reply);
     }
@@ -87,6 +116,7 @@ pub fn write(
         fst,
         bst,
         wear,
+        marks,
         lba as usize,
         count as usize,
         bytes,
@@ -102,14 +132,18 @@ pub fn release(
     fst: &[u16],
     bst: &[u8],
     wear: &[u32],
+    marks: &mut [u64],
     cluster: u32,
 ) -> Answer
-    ensures { λ a. ⌜ outcome a [] (boardOf (now (chip .entry)) (now (ct .exit)) (now (bt .entry)) (now (fst .entry)) (now (bst .entry)) (now (wear .entry))) ≡ releaseCall p (boardOf (now (chip .entry)) (now (ct .entry)) (now (bt .entry)) (now (fst .entry)) (now (bst .entry)) (now (wear .entry))) cluster ⌝ }
+    ensures { λ a. ⌜ markedOutcome (outcome a [] (boardOf (now (chip .entry)) (now (ct .exit)) (now (bt .entry)) (now (fst .entry)) (now (bst .entry)) (now (wear .entry)))) (now (marks .exit)) ≡ markedCall p (boardOf (now (chip .entry)) (now (ct .entry)) (now (bt .entry)) (now (fst .entry)) (now (bst .entry)) (now (wear .entry))) (now (marks .entry)) (release cluster) ⌝ }
 {
-    let reply = replies::release_reply(p, chip, ct, bt, fst, bst, wear, cluster);
+    let reply = replies::release_reply(p, chip, ct, bt, fst, bst, wear, marks, cluster);
     if rules::number(reply) != 0 {
         return replies::idle(reply);
     }
-    tables::set_ct(ct, Cluster(cluster as usize), Segment(65535));
+    let c = Cluster(cluster as usize);
+    let old = reading::find_frame(p, chip, ct, bt, c);
+    writing::unmark(p, marks, rules::region_of(p, c), old);
+    tables::set_ct(ct, c, Segment(65535));
     replies::idle(reply)
 }

@@ -1,6 +1,6 @@
 -- The lookup of a cluster's valid frame, over the values that the code has on its way.
 -- Assumes nothing.
-use mathlib.Core.Path.{_≡_, sym, _∙_}
+use mathlib.Core.Path.{_≡_, refl, sym, _∙_}
 use mathlib.Core.Bool.{true, false}
 use mathlib.Core.List.{List}
 use Prim.Native.Nat.{ℕ, _+_, _*_, _≤_, _<_}
@@ -9,6 +9,7 @@ use native.Mathlib.Omega.{arith}
 use lib.Dec.{eqb}
 use borrow.Author.Tests.{eq-eqb, ne-eqb}
 use lib.ListN.{length}
+use Rattle.lists.proofs.Tests.{never}
 use Rattle.rules.specs.declared.Params.{Params}
 use Rattle.rules.specs.Parameters.{frames, chipBytes}
 use Rattle.rules.specs.Numbers.{regionOf, vblockOf, placeOf}
@@ -16,7 +17,7 @@ use Rattle.rules.specs.Tables.{none, ctAt, btAt}
 use Rattle.rules.specs.Pages.{block, lastIn}
 use Rattle.rules.proofs.Sizes.{Sizes, sizes}
 use Rattle.rules.proofs.TableFacts.{chip-size}
-use Rattle.reading.specs.Lookup.{blockFor, lastFor, frameFor, Leads, Lookup, Stands}
+use Rattle.reading.specs.Lookup.{blockFor, lastFor, frameFor, Leads, Lookup, Stands, Within}
 
 module _ (p : Params) (chip ct bt : List ℕ) (c : ℕ) (l : Lookup p chip ct bt c) where
   pub chip-length : length chip ≡ chipBytes p
@@ -29,6 +30,9 @@ module _ (p : Params) (chip ct bt : List ℕ) (c : ℕ) (l : Lookup p chip ct bt
     -- CT has none
     pub not-kept : sg ≡ 65535 → Stands p chip ct bt c false 0
     not-kept e = let k : eqb (ctAt ct c) none ≡ true = eq-eqb _ _ (sym is ∙ e) in record { has = rw k; at = rw k }
+
+    pub nowhere : Within p chip ct bt c false 0 0
+    nowhere = record { vblock = λ k. absurd (never k refl); inner = λ k. absurd (never k refl) }
 
     module _ (ne : sg ≡ 65535 → ⊥) (r v : ℕ) (er : r ≡ regionOf p c) (ev : v ≡ vblockOf p sg) where
       there : Leads p chip ct bt c
@@ -61,3 +65,6 @@ module _ (p : Params) (chip ct bt : List ℕ) (c : ℕ) (l : Lookup p chip ct bt
           kept-at x ex =
               let e : eqb (ctAt ct c) none ≡ false = ne-eqb _ _ (λ y. ne (is ∙ y)) in
               record { has = rw e; at = rw e (ex ∙ rw (last-is, block-is)) }
+
+          pub within : Within p chip ct bt c true v f
+          within = record { vblock = λ k. rw is at ev; inner = λ k. last-is }

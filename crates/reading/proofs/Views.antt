@@ -29,7 +29,7 @@ module _ (p : Params) (chip ct bt fst : List ℕ) (c : ℕ) where
   abbrev vw : View
   vw = viewOf p chip ct bt fst (regionOf p c)
 
-  seg-is : vw .segOf c ≡ ctAt ct c
+  pub seg-is : vw .segOf c ≡ ctAt ct c
   unfolding viewOf
   seg-is = rw (eq-eqb (regionOf p c) (regionOf p c) refl)
 
@@ -37,7 +37,7 @@ module _ (p : Params) (chip ct bt fst : List ℕ) (c : ℕ) where
   unfolding viewOf bodyAt blockFor
   body-none h e = rw (lt-ltb (vblockOf p (ctAt ct c)) (p .gamma) h, e)
 
-  body-some : vblockOf p (ctAt ct c) < p .gamma → (blockFor p ct bt c ≡ none → ⊥) → vw .body (vblockOf p (ctAt ct c)) ≡ block p chip (blockFor p ct bt c)
+  pub body-some : vblockOf p (ctAt ct c) < p .gamma → (blockFor p ct bt c ≡ none → ⊥) → vw .body (vblockOf p (ctAt ct c)) ≡ block p chip (blockFor p ct bt c)
   unfolding viewOf bodyAt blockFor
   body-some h ne = rw (lt-ltb (vblockOf p (ctAt ct c)) (p .gamma) h, ne-eqb (btAt p bt (regionOf p c) (vblockOf p (ctAt ct c))) none ne)
 

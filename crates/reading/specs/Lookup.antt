@@ -43,3 +43,8 @@ pub record Lookup (p : Params) (chip ct bt : List ℕ) (c : ℕ) : Type 0 where
 pub record Stands (p : Params) (chip ct bt : List ℕ) (c : ℕ) (kept : Bool) (frame : ℕ) : Type 0 where
   pub has : kept ≡ not (eqb (ctAt ct c) none)
   pub at : frame ≡ cond (eqb (ctAt ct c) none) 0 (frameFor p chip ct bt c)
+
+-- and the virtual block of that frame, and its number there
+pub record Within (p : Params) (chip ct bt : List ℕ) (c : ℕ) (kept : Bool) (v f : ℕ) : Type 0 where
+  pub vblock : kept ≡ true → v ≡ vblockOf p (ctAt ct c)
+  pub inner : kept ≡ true → f ≡ lastFor p chip ct bt c

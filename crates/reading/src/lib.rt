@@ -7,27 +7,33 @@ ghost use Rattle.lists.specs.Below.{joinBelow};
 ghost use Rattle.lists.specs.Parts.{putPart};
 ghost use Rattle.rules.specs.Tables.{boardOf};
 ghost use Rattle.rules.specs.Calls.{readBytes};
-ghost use Rattle.reading.specs.Lookup.{Lookup, Stands};
+ghost use Rattle.reading.specs.Lookup.{Lookup, Stands, Within};
 ghost use Rattle.reading.specs.Sectors.{sectorFrom, SectorAsked, PlaceAsked, RunAsked, ReadAsked, requestOf};
 use rules::Cluster;
 use rules::Params;
+use rules::VBlock;
 
-// Where a cluster stands: whether it is kept at all, and then its valid frame, counted over the chip.
+// Where a cluster stands: whether it is kept at all, and then its valid frame, counted over the chip, its virtual block, and the frame within that.
 pub struct Found {
     pub kept: bool,
     pub frame: usize,
+    pub vblock: VBlock,
+    pub inner: usize,
 }
 
 // The valid frame of a cluster: the last in the segment that CT names, in the block that BT has for it.
 pub fn find_frame(p: Params, chip: &[u8], ct: &[u16], bt: &[u16], c: Cluster) -> Found
     requires { ⌜ Lookup p (now chip) (now ct) (now bt) (c .0) ⌝ }
     ensures { λ r. ⌜ Stands p (now (chip .entry)) (now (ct .entry)) (now (bt .entry)) (c .0) (r .kept) (r .frame) ⌝ }
+    ensures { λ r. ⌜ Within p (now (chip .entry)) (now (ct .entry)) (now (bt .entry)) (c .0) (r .kept) (r .vblock .0) (r .inner) ⌝ }
 {
     let sg = tables::ct_at(ct, c);
     if sg.0 == 65535 {
         return Found {
             kept: false,
             frame: 0,
+            vblock: VBlock(0),
+            inner: 0,
         };
     }
     let r = rules::region_of(p, c);
@@ -38,6 +44,8 @@ pub fn find_frame(p: Params, chip: &[u8], ct: &[u16], bt: &[u16], c: Cluster) ->
     Found {
         kept: true,
         frame: frames::frame_at(p, n, f),
+        vblock: v,
+        inner: f,
     }
 }
 

@@ -1,34 +1,39 @@
--- The valid frames, copied one after the other: what a turn asks, what it leaves, and what all of them leave.
+-- The frames that pass a test, which are those with a mark, copied one after the other: what a turn asks, what it leaves, and what all of them leave.
 -- Assumes nothing.
 use mathlib.Core.Path.{_≡_, refl, sym, ap, _∙_}
-use mathlib.Core.Logic.{inl}
-use mathlib.Core.Bool.{Bool, true, false, cond}
+use mathlib.Core.Bool.{Bool, true, false}
 use mathlib.Core.List.{List, [], _∷_, _++_, map, append-assoc, append-nil}
 use Prim.Native.Nat.{ℕ, suc, _+_, _*_, _≤_, _<_, min}
 use native.Mathlib.Numerals.{add-one}
 use native.Mathlib.Nat.{add-zero, zero-add}
 use native.Mathlib.Omega.{arith}
-use lib.ListN.{length, set, replicate, length-append, length-map}
+use mir.Syntax.{w64}
+use mir.Val.{Fits}
+use lib.ListN.{getD, length, set, replicate, length-append, length-map}
 use Rattle.lists.specs.Below.{countBelow, keepBelow}
 use Rattle.lists.specs.Parts.{putPart}
 use Rattle.lists.proofs.Tests.{count-le}
-use Rattle.lists.proofs.Ranks.{keep-length, keep-cong, map-at, keep-nth}
+use Rattle.lists.proofs.Ranks.{keep-length, map-at, keep-nth}
 use Rattle.rules.specs.declared.Params.{Params}
 use Rattle.rules.specs.Parameters.{frames, frameBytes, blockBytes}
 use Rattle.rules.specs.Numbers.{segmentOf}
 use Rattle.rules.specs.Tables.{wearAt}
 use Rattle.rules.specs.Pages.{block, frame, held, erased}
-use Rattle.rules.specs.Regions.{View, valid, validFrames}
 use Rattle.rules.specs.Traces.{erase, onChip, replayChip, frameOps, framesOps}
-use Rattle.rules.specs.Write.{reclaims, copies, putFrames, followCt}
+use Rattle.rules.specs.Write.{putFrames, followCt}
 use Rattle.rules.proofs.Sizes.{sizes}
 use Rattle.rules.proofs.Chip.{replay-append, frame-put}
 use Rattle.rules.proofs.Replays.{Ran, Wholes, frames-ran, block-size, put-frames-else}
 use Rattle.rules.proofs.Following.{follow-length}
-use Rattle.valid.specs.Shown.{Shows}
-use Rattle.reclaim.specs.Moves.{Whole, OnChip, MoveAsked, MovedIf, FromTo, Copied, ReclaimAsked, Reclaimed}
+use Rattle.marks.specs.Marks.{markIn, marksLength, tableOf, wordAt}
+use Rattle.marks.proofs.Tables.{table-marks}
+use Rattle.reclaim.specs.Moves.{Whole, OnChip, MoveAsked, MovedIf, FromTo, Copied, Reclaimed, markedFrames}
 use Rattle.reclaim.proofs.Places.{block-fits, frame-fits, frame-whole}
-use Rattle.reclaim.proofs.Follows.{seen, same-valid, ok, Follows, still, follows-more}
+
+-- a table of 64-bit words holds marks
+pub holds : (p : Params) (t : List ℕ) → length t ≡ marksLength p → ((k : ℕ) → Fits w64 (getD t k 0)) → t ≡ tableOf p (markIn p t)
+unfolding wordAt
+holds p t e small = table-marks p (markIn p t) t e (λ k h. omega (arith, small k)) (λ r v f h low few. refl)
 
 -- ---- one frame more
 
@@ -50,12 +55,9 @@ follow-snoc p v to (y ∷ xs) x ct =
     let e : suc to + length xs ≡ to + suc (length xs) = omega arith in
     rw (← e) (follow-snoc p v (suc to) xs x (set ct (held p y) (segmentOf p v to)))
 
-module _ (p : Params) (chip ct : List ℕ) (o n r v : ℕ) (a : FromTo p chip ct o n v) where
+module _ (p : Params) (chip ct : List ℕ) (o n v : ℕ) (a : FromTo p chip ct o n v) (fine : ℕ → Bool) where
   abbrev blk : List ℕ
   blk = block p chip o
-
-  abbrev fine : ℕ → Bool
-  fine f = ok p r v blk ct f
 
   -- the frames copied after m turns, and the chip then
   abbrev pub xs : ℕ → List (List ℕ)
@@ -105,11 +107,10 @@ module _ (p : Params) (chip ct : List ℕ) (o n r v : ℕ) (a : FromTo p chip ct
     pub chipIs : l ≡ after m
     pub ctIs : u ≡ followCt p v 0 (xs m) ct
     pub count : k ≡ length (xs m)
-    pub names : Follows p r v blk ct m u
 
   pub start : So 0 chip ct 0
   unfolding keepBelow framesOps replayChip followCt
-  start = record { chipIs = refl; ctIs = refl; count = refl; names = λ c. inl refl }
+  start = record { chipIs = refl; ctIs = refl; count = refl }
 
   pub ct-length : (m : ℕ) (l u : List ℕ) (k : ℕ) → So m l u k → length u ≡ length ct
   ct-length m l u k so = ap length (so .ctIs) ∙ follow-length p v (xs m) 0 ct
@@ -120,9 +121,6 @@ module _ (p : Params) (chip ct : List ℕ) (o n r v : ℕ) (a : FromTo p chip ct
   module _ (m : ℕ) (h : m < frames p) (l u : List ℕ) (k : ℕ) (so : So m l u k) where
     source : block p l o ≡ blk
     source = ap (λ (t : List ℕ). block p t o) (so .chipIs) ∙ source-same m (omega arith)
-
-    pos : 0 < p .beta
-    pos = (sizes p (a .whole .fine)) .perSegment
 
     few : k ≤ m
     few = rw (so .count) (kept-few m)
@@ -153,65 +151,46 @@ module _ (p : Params) (chip ct : List ℕ) (o n r v : ℕ) (a : FromTo p chip ct
     fits-next : (n * frames p + length (xs m)) * frameBytes p + frameBytes p ≤ length (after m)
     fits-next = rw (after-length m (omega arith)) (frame-fits p chip n (length (xs m)) (to-in (length (xs m)) (omega (arith, kept-few m))))
 
-    -- validity is asked of the chip and CT as they are after m turns
-    abbrev pub asks : Bool
-    asks = valid p (seen p r (block p l o) u) v m
+    module _ (l′ u′ : List ℕ) (x : ℕ) (w : MovedIf p l u o n v m k (fine m) l′ u′ x) where
+      pub turn : So (m + 1) l′ u′ (k + x)
+      turn = go (fine m) refl
+        where
+          zero-plus : 0 + length (xs m) ≡ length (xs m)
+          zero-plus = zero-add _
 
-    asks-is : asks ≡ fine m
-    asks-is = rw source (still p r v blk ct pos m u (so .names))
+          go : (t : Bool) → fine m ≡ t → So (m + 1) l′ u′ (k + x)
+          go true t =
+              record {
+                chipIs = w .chipIs ∙ rw (t, source, more-yes t, frames-snoc p n 0 (xs m) (frame p blk m), replay-append p chip (framesOps p n 0 (xs m)), zero-plus, frame-put p (after m) (frame p blk m) n (length (xs m)) fits-next (frame-whole p chip o m (from-in m h)), so .chipIs, so .count);
+                ctIs = w .ctIs ∙ rw (t, source, more-yes t, follow-snoc p v 0 (xs m) (frame p blk m) ct, zero-plus, so .ctIs, so .count);
+                count = rw (more-yes t, length-append (xs m) (frame p blk m ∷ []), w .count, t, so .count);
+              }
+          go false t =
+              record {
+                chipIs = w .chipIs ∙ rw (t, more-no t, so .chipIs);
+                ctIs = w .ctIs ∙ rw (t, more-no t, so .ctIs);
+                count = rw (more-no t, w .count, t, so .count, add-zero);
+              }
 
-    pub turn : (l′ u′ : List ℕ) (x : ℕ) → MovedIf p l u o n v m k asks l′ u′ x → So (m + 1) l′ u′ (k + x)
-    turn l′ u′ x w = go (fine m) refl
-      where
-        zero-plus : 0 + length (xs m) ≡ length (xs m)
-        zero-plus = zero-add _
+      pub turn-few : k + x ≤ m + 1
+      turn-few = omega (arith, turn .count, kept-few (m + 1))
 
-        ct-is : u′ ≡ cond (fine m) (set u (held p (frame p blk m)) (segmentOf p v k)) u
-        ct-is = w .ctIs ∙ rw (asks-is, source)
-
-        named : Follows p r v blk ct (m + 1) u′
-        named = follows-more p r v blk ct pos m u (so .names) k few cluster-low u′ ct-is
-
-        go : (t : Bool) → fine m ≡ t → So (m + 1) l′ u′ (k + x)
-        go true t =
-            record {
-              chipIs = w .chipIs ∙ rw (asks-is, t, source, more-yes t, frames-snoc p n 0 (xs m) (frame p blk m), replay-append p chip (framesOps p n 0 (xs m)), zero-plus, frame-put p (after m) (frame p blk m) n (length (xs m)) fits-next (frame-whole p chip o m (from-in m h)), so .chipIs, so .count);
-              ctIs = ct-is ∙ rw (t, more-yes t, follow-snoc p v 0 (xs m) (frame p blk m) ct, zero-plus, so .ctIs, so .count);
-              count = rw (more-yes t, length-append (xs m) (frame p blk m ∷ []), w .count, asks-is, t, so .count);
-              names = named;
-            }
-        go false t =
-            record {
-              chipIs = w .chipIs ∙ rw (asks-is, t, more-no t, so .chipIs);
-              ctIs = ct-is ∙ rw (t, more-no t, so .ctIs);
-              count = rw (more-no t, w .count, asks-is, t, so .count, add-zero);
-              names = named;
-            }
-
-    pub turn-few : (l′ u′ : List ℕ) (x : ℕ) → MovedIf p l u o n v m k asks l′ u′ x → k + x ≤ m + 1
-    turn-few l′ u′ x w = omega (arith, (turn l′ u′ x w) .count, kept-few (m + 1))
-
-  pub done : (m : ℕ) (l u : List ℕ) (k : ℕ) → m ≡ frames p → So m l u k → (vw : View) → Shows p r v blk ct vw → Copied p chip ct n v (copies p vw (reclaims v)) l u k
-  unfolding copies validFrames
-  done m l u k e so vw s = record { chipIs = so .chipIs ∙ rw (e, all); ctIs = so .ctIs ∙ rw (e, all); count = so .count ∙ rw (e, all) }
-    where
-      all : xs (frames p) ≡ copies p vw (reclaims v)
-      all = rw (s .body, keep-cong (frames p) fine (valid p vw v) (λ f h. same-valid p r v blk ct vw s f))
+  pub done : (m : ℕ) (l u : List ℕ) (k : ℕ) → m ≡ frames p → So m l u k → Copied p chip ct n v (markedFrames p blk fine) l u k
+  done m l u k e so = record { chipIs = so .chipIs ∙ rw e; ctIs = so .ctIs ∙ rw e; count = so .count ∙ rw e }
 
 -- ---- the whole reclaim
 
-module _ (p : Params) (chip ct wear : List ℕ) (o n v : ℕ) (a : ReclaimAsked p chip ct wear o n v) (w : ℕ) (e : w ≡ blockBytes p) where
-  pub erase-fits : (len : ℕ) → len ≡ length chip → o * w + w ≤ len
-  erase-fits len same =
-      rw (e, same) (block-fits p chip o 0 (record { whole = a .blocks .whole; block = a .blocks .from; frame = (sizes p (a .blocks .whole .fine)) .some }))
+-- any block lies on the chip
+pub erase-fits : (p : Params) (chip : List ℕ) → Whole p chip → (i w len : ℕ) → i < p .N → w ≡ blockBytes p → len ≡ length chip → i * w + w ≤ len
+erase-fits p chip a i w len low e same = rw (e, same) (block-fits p chip i 0 (record { whole = a; block = low; frame = (sizes p (a .fine)) .some }))
 
-  pub reclaimed : (vw : View) (chip₁ ct₁ : List ℕ) (k : ℕ) → Copied p chip ct n v (copies p vw (reclaims v)) chip₁ ct₁ k
-      → (chip₂ wear₂ : List ℕ) → chip₂ ≡ putPart w o (replicate w 255) chip₁ → wear₂ ≡ set wear o (min (wearAt wear o + 1) 4294967295)
-      → Reclaimed p chip ct wear o n v (copies p vw (reclaims v)) chip₂ ct₁ wear₂ k
-  reclaimed vw chip₁ ct₁ k c chip₂ wear₂ x y =
-      record {
-        chipIs = x ∙ rw (e, c .chipIs, replay-append p chip (framesOps p n 0 (copies p vw (reclaims v))) (erase o ∷ [])) (unfold replayChip onChip in refl);
-        ctIs = c .ctIs;
-        wearIs = y;
-        count = c .count;
-      }
+pub reclaimed : (p : Params) (chip ct wear : List ℕ) (o n v w : ℕ) → w ≡ blockBytes p → (xs : List (List ℕ)) (chip₁ ct₁ : List ℕ) (k : ℕ) → Copied p chip ct n v xs chip₁ ct₁ k
+    → (chip₂ wear₂ : List ℕ) → chip₂ ≡ putPart w o (replicate w 255) chip₁ → wear₂ ≡ set wear o (min (wearAt wear o + 1) 4294967295)
+    → Reclaimed p chip ct wear o n v xs chip₂ ct₁ wear₂ k
+reclaimed p chip ct wear o n v w e xs chip₁ ct₁ k c chip₂ wear₂ x y =
+    record {
+      chipIs = x ∙ rw (e, c .chipIs, replay-append p chip (framesOps p n 0 xs) (erase o ∷ [])) (unfold replayChip onChip in refl);
+      ctIs = c .ctIs;
+      wearIs = y;
+      count = c .count;
+    }

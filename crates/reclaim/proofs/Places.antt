@@ -38,15 +38,17 @@ module _ (p : Params) (chip : List ℕ) (n f : ℕ) (a : OnChip p chip n f) wher
   pub frame-whole : length (frame p (block p chip n) f) ≡ frameBytes p
   frame-whole = rw (← frame-is) (part-length (frameBytes p) (n * frames p + f) chip frame-fits)
 
+  pub frame-few : f < 256
+  frame-few = omega (arith, a .frame, (sizes p (a .whole .fine)) .short)
+
+  pub segment-few : (v sg : ℕ) → v < p .gamma → sg ≡ segmentOf p v f → sg < 65536
+  segment-few v sg low e =
+      let z = sizes p (a .whole .fine) in
+      rw e (omega (arith, seg-low p z v f (a .frame) low, z .few))
+
 module _ (p : Params) (chip ct : List ℕ) (o n v f k : ℕ) (a : MoveAsked p chip ct o n v f k) where
   z : Sizes p
   z = sizes p (a .from .whole .fine)
-
-  pub target-few : k < 256
-  target-few = omega (arith, a .to .frame, z .short)
-
-  pub segment-few : (sg : ℕ) → sg ≡ segmentOf p v k → sg < 65536
-  segment-few sg e = rw e (omega (arith, seg-low p z v k (a .to .frame) (a .low), z .few))
 
   pub page-small : p .s ≤ 512
   page-small = z .sHigh

@@ -2,9 +2,10 @@
 -- Assumes nothing.
 use mathlib.Core.Path.{_≡_}
 use mathlib.Core.Bool.{Bool, true, cond}
-use mathlib.Core.List.{List, [], _∷_, _++_}
+use mathlib.Core.List.{List, [], _∷_, _++_, map}
 use Prim.Native.Nat.{ℕ, _+_, _*_, _<_, min}
 use lib.ListN.{length, set}
+use Rattle.lists.specs.Below.{keepBelow}
 use Rattle.lists.specs.Parts.{putPart}
 use Rattle.rules.specs.declared.Params.{Params}
 use Rattle.rules.specs.Parameters.{allowed, frames, frameBytes, blockBytes}
@@ -13,6 +14,7 @@ use Rattle.rules.specs.Tables.{wearAt}
 use Rattle.rules.specs.Pages.{block, frame, held, erased}
 use Rattle.rules.specs.Traces.{erase, replayChip, framesOps}
 use Rattle.rules.specs.Write.{followCt}
+use Rattle.marking.specs.Asked.{WordsAsked}
 
 -- a whole chip
 pub record Whole (p : Params) (chip : List ℕ) : Type 0 where
@@ -54,16 +56,20 @@ pub record FromTo (p : Params) (chip ct : List ℕ) (o n v : ℕ) : Type 0 where
   pub clean : (k : ℕ) → k < frames p → erased (frame p (block p chip n) k) ≡ true
   pub good : (f : ℕ) → f < frames p → held p (frame p (block p chip o) f) < length ct
 
+-- the frames of a block that have a mark
+abbrev pub markedFrames : Params → List ℕ → (ℕ → Bool) → List (List ℕ)
+markedFrames p blk m = map (frame p blk) (keepBelow (frames p) m)
+
 -- the frames xs are copied to block n in order from frame 0, and CT follows each
 pub record Copied (p : Params) (chip ct : List ℕ) (n v : ℕ) (xs : List (List ℕ)) (chip′ ct′ : List ℕ) (k : ℕ) : Type 0 where
   pub chipIs : chip′ ≡ replayChip p chip (framesOps p n 0 xs)
   pub ctIs : ct′ ≡ followCt p v 0 xs ct
   pub count : k ≡ length xs
 
-pub record ReclaimAsked (p : Params) (chip ct wear : List ℕ) (o n v : ℕ) : Type 0 where
+pub record ReclaimAsked (p : Params) (chip ct wear marks : List ℕ) (o n r v : ℕ) : Type 0 where
   pub blocks : FromTo p chip ct o n v
-  pub ctLength : length ct ≡ p .C
   pub wearLength : length wear ≡ p .N
+  pub words : WordsAsked p marks r v
 
 -- the same, and then block o is erased, which counts
 pub record Reclaimed (p : Params) (chip ct wear : List ℕ) (o n v : ℕ) (xs : List (List ℕ)) (chip′ ct′ wear′ : List ℕ) (k : ℕ) : Type 0 where

@@ -1,29 +1,26 @@
 -- The reply table, row by row: what the tests so far have shown, and the reply of the first row that applies.
 -- Assumes nothing.
 use mathlib.Core.Path.{_≡_, refl, sym, ap, _∙_}
-use lib.Dec.{leb}
-use mathlib.Core.Bool.{Bool, true, false, not, cond}
+use lib.Dec.{eqb, leb, ltb}
+use mathlib.Core.Bool.{Bool, true, false, not, _&&_, and-false, cond}
 use mathlib.Core.List.{List, [], _∷_}
 use native.Mathlib.Omega.{arith}
 use Prim.Native.Nat.{ℕ, _+_, _*_, _≤_, _<_}
 use native.Mathlib.Nat.{mod-lt, mul-le-mul}
-use borrow.Author.Tests.{eqb-true, lt-ltb, le-ltb}
+use borrow.Author.Tests.{eq-eqb, eqb-true, ne-eqb}
 use lib.ListN.{length}
-use Rattle.lists.proofs.Tests.{truths}
 use Rattle.rules.specs.declared.Params.{Params}
 use Rattle.rules.specs.declared.Reply.{Reply}
-use Rattle.rules.specs.declared.Reply.the-variants.{Accepted, BadParameter, WrongLength, BadCount, BadAddress, WrongData, TooFewBlocks, NotOrderly}
+use Rattle.rules.specs.declared.Reply.the-variants.{Accepted, BadParameter, WrongLength, NotOrderly}
 use Rattle.rules.specs.Parameters.{allowed}
 use Rattle.rules.specs.Numbers.{sectorOf}
 use Rattle.rules.specs.Tables.{Board}
-use Rattle.rules.specs.Orderly.{orderly}
 use Rattle.rules.specs.Format.{goodBlocks}
 use Rattle.rules.specs.Write.{Request}
-use Rattle.rules.specs.Replies.{Row, row, numberOf, lengthsFit, badParameter, wrongLength, badCount, badAddress, badCluster, wrongData, tooFewBlocks, notOrderly, firstRow, formatReply, accessReply, releaseReply, whyReply}
+use Rattle.rules.specs.Replies.{Row, row, numberOf, isAccepted, lengthsFit, badParameter, wrongLength, badAddress, tooFewBlocks, notOrderly, firstRow}
 use Rattle.rules.proofs.Sizes.{sizes}
-use Rattle.sizes.specs.Checks.{lengthsAre}
-use Rattle.sizes.proofs.Checks.{lengths-are}
-use Rattle.agree.specs.Check.{Lengths}
+use Rattle.marks.specs.Marks.{marksLength}
+use Rattle.marks.specs.MarkedCalls.{markedReply, wrongMark, wrongMarksLength}
 use Rattle.replies.specs.Rows.{boardReply, stateReply}
 
 -- ---- no sum and no product wraps
@@ -38,132 +35,92 @@ module _ (p : Params) (fine : allowed p ≡ true) where
   pub bytes-low : (count : ℕ) → count ≤ 4294967295 → count * p .s ≤ 2199023255040
   bytes-low count h = mul-le-mul h ((sizes p fine) .sHigh)
 
-  pub vblocks-low : p .mu * p .gamma ≤ 16384
-  vblocks-low = let z = sizes p fine in mul-le-mul (z .muHigh) (z .gammaHigh)
+-- ---- a row that applies, one that does not, and no row
 
--- ---- the first two rows
+-- a test that passes gives the reply of its row
+pub here : (ok t : Bool) (r : Reply) (xs : List Row) → ok ≡ t → ok ≡ true → r ≡ firstRow (row t r ∷ xs)
+unfolding firstRow
+here ok t r xs is e = rw (← is, e)
 
--- what they show where they do not refuse
-pub record Passed (p : Params) (b : Board) : Type 0 where
+-- one that fails leaves the rows after it
+pub skip : (ok t : Bool) (r x : Reply) (xs : List Row) → ok ≡ t → ok ≡ false → x ≡ firstRow xs → x ≡ firstRow (row t r ∷ xs)
+unfolding firstRow
+skip ok t r x xs is e h = rw (← is, e) h
+
+-- 0 "otherwise"
+pub otherwise : Accepted ≡ firstRow []
+unfolding firstRow
+otherwise = refl
+
+-- ---- the rows that calls have in common
+
+-- what the first two show where they do not refuse
+pub record Passed (p : Params) (b : Board) (marks : List ℕ) : Type 0 where
   pub fine : allowed p ≡ true
   pub fits : lengthsFit p b ≡ true
+  pub long : length marks ≡ marksLength p
 
-module _ (p : Params) (b : Board) where
-  pub board-1 : allowed p ≡ false → BadParameter ≡ boardReply p b
-  unfolding boardReply firstRow badParameter
-  board-1 e = rw e
+module _ (p : Params) (b : Board) (marks : List ℕ) where
+  -- the reply with the marks, of a call that has these rows after the first two
+  abbrev pub withMarks : Bool → List Row → Reply
+  withMarks asks xs = markedReply p b marks asks (firstRow (row (badParameter p) BadParameter ∷ row (wrongLength p b) WrongLength ∷ xs))
 
-  module _ (fine : allowed p ≡ true) (t : Bool) (is : t ≡ lengthsAre p (length (b .chip)) (length (b .ct)) (length (b .bt)) (length (b .fst)) (length (b .bst)) (length (b .wear))) where
-    fits-is : lengthsFit p b ≡ t
-    fits-is = sym (is ∙ lengths-are p b)
-
-    pub board-2 : t ≡ false → WrongLength ≡ boardReply p b
-    unfolding boardReply firstRow badParameter wrongLength
-    board-2 e = rw (fine, fits-is, e)
-
-    pub board-0 : t ≡ true → Accepted ≡ boardReply p b
-    unfolding boardReply firstRow badParameter wrongLength
-    board-0 e = rw (fine, fits-is, e)
-
-  -- a call that goes on with other rows
-  module _ (r : Reply) (is : r ≡ boardReply p b) (n : ℕ) (m : n ≡ numberOf r) where
-    pub head-refuses : (n ≡ 0 → ⊥) → (xs : List Row) → r ≡ firstRow (row (badParameter p) BadParameter ∷ row (wrongLength p b) WrongLength ∷ xs)
-    unfolding boardReply firstRow
-    head-refuses ne xs = go (badParameter p) (wrongLength p b) is
+  module _ (r : Reply) (is : r ≡ boardReply p b marks) (n : ℕ) (m : n ≡ numberOf r) where
+    pub head-refuses : (n ≡ 0 → ⊥) → (asks : Bool) (xs : List Row) → r ≡ withMarks asks xs
+    unfolding boardReply markedReply firstRow isAccepted
+    head-refuses ne asks xs = go (badParameter p) (wrongLength p b) (wrongMarksLength p marks) is
       where
-        go : (x y : Bool) → r ≡ cond x BadParameter (cond y WrongLength Accepted) → r ≡ cond x BadParameter (cond y WrongLength (firstRow xs))
-        go true y e = e
-        go false true e = e
-        go false false e = absurd (ne (m ∙ ap numberOf e))
+        go : (x y z : Bool) → r ≡ cond x BadParameter (cond y WrongLength (cond z WrongLength Accepted))
+            → r ≡ cond x BadParameter (cond z WrongLength (cond (eqb (numberOf (cond x BadParameter (cond y WrongLength (firstRow xs)))) 0 && (asks && wrongMark p b marks)) NotOrderly (cond x BadParameter (cond y WrongLength (firstRow xs)))))
+        go true y z e = e
+        go false true true e = e
+        go false true false e = e
+        go false false true e = e
+        go false false false e = absurd (ne (m ∙ ap numberOf e))
 
-    pub head-passes : n ≡ 0 → Passed p b
-    unfolding boardReply firstRow badParameter wrongLength
-    head-passes z = go (allowed p) (lengthsFit p b) refl refl (sym (ap numberOf is) ∙ sym m ∙ z)
+    pub head-passes : n ≡ 0 → Passed p b marks
+    unfolding boardReply firstRow badParameter wrongLength wrongMarksLength
+    head-passes z = go (allowed p) (lengthsFit p b) (eqb (length marks) (marksLength p)) refl refl refl (sym (ap numberOf is) ∙ sym m ∙ z)
       where
-        go : (x y : Bool) → allowed p ≡ x → lengthsFit p b ≡ y → numberOf (cond (not x) BadParameter (cond (not y) WrongLength Accepted)) ≡ 0 → Passed p b
-        go true true e f k = record { fine = e; fits = f }
-        go true false e f k = absurd (omega arith)
-        go false y e f k = absurd (omega arith)
+        go : (x y w : Bool) → allowed p ≡ x → lengthsFit p b ≡ y → eqb (length marks) (marksLength p) ≡ w
+            → numberOf (cond (not x) BadParameter (cond (not y) WrongLength (cond (not w) WrongLength Accepted))) ≡ 0 → Passed p b marks
+        go true true true e f g k = record { fine = e; fits = f; long = eqb-true _ _ g }
+        go true true false e f g k = absurd (omega arith)
+        go true false w e f g k = absurd (omega arith)
+        go false y w e f g k = absurd (omega arith)
 
--- the lengths, as the state's check asks for them
-pub lengths : (p : Params) (b : Board) → Passed p b → Lengths p (b .chip) (b .ct) (b .bt) (b .fst) (b .bst)
-unfolding lengthsFit
-lengths p b h =
-    let t = truths _ (h .fits) in
-    record {
-      fine = h .fine;
-      chipLength = eqb-true _ _ (t .0);
-      ctLength = eqb-true _ _ (t .1 .0);
-      btLength = eqb-true _ _ (t .1 .1 .0);
-      fstLength = eqb-true _ _ (t .1 .1 .1 .0);
-      bstLength = eqb-true _ _ (t .1 .1 .1 .1 .0);
-    }
+  -- the rows after the first two
+  module _ (h : Passed p b marks) (r : Reply) (xs : List Row) where
+    right-length : wrongMarksLength p marks ≡ false
+    unfolding wrongMarksLength
+    right-length = ap not (eq-eqb _ _ (h .long))
 
--- ---- the last row
+    -- a row that refuses does so with the marks too
+    pub row-refuses : (asks : Bool) → (numberOf r ≡ 0 → ⊥) → r ≡ firstRow xs → r ≡ withMarks asks xs
+    unfolding markedReply firstRow badParameter wrongLength isAccepted
+    row-refuses asks ne e = rw (h .fine, h .fits, right-length, ← e, ne-eqb (numberOf r) 0 ne)
 
-pub state-7 : (p : Params) (b : Board) → orderly p b ≡ false → NotOrderly ≡ stateReply p b
-unfolding stateReply firstRow notOrderly
-state-7 p b e = rw e
+    -- a call that does not ask for an orderly state
+    pub asks-nothing : r ≡ firstRow xs → r ≡ withMarks false xs
+    unfolding markedReply firstRow badParameter wrongLength
+    asks-nothing e = rw (h .fine, h .fits, right-length, ← e, and-false (isAccepted r))
 
-pub state-0 : (p : Params) (b : Board) → orderly p b ≡ true → Accepted ≡ stateReply p b
-unfolding stateReply firstRow notOrderly
-state-0 p b e = rw e
+    -- the state is looked at last
+    pub state-last : firstRow (row (notOrderly p b) NotOrderly ∷ []) ≡ firstRow xs → r ≡ stateReply p b marks → r ≡ withMarks true xs
+    unfolding markedReply stateReply firstRow badParameter wrongLength isAccepted
+    state-last same e = rw (h .fine, h .fits, right-length, ← same) (e ∙ go (notOrderly p b) (wrongMark p b marks))
+      where
+        go : (x y : Bool) → cond x NotOrderly (cond y NotOrderly Accepted) ≡ cond (eqb (numberOf (cond x NotOrderly Accepted)) 0 && y) NotOrderly (cond x NotOrderly Accepted)
+        go true y = refl
+        go false true = refl
+        go false false = refl
 
--- ---- the rows between, of a read or a write
+-- the row of an address is that of a request for a sector there
+pub address-is : (p : Params) (lba : ℕ) (t : Bool) → ((q : Request) → q .lba ≡ lba → t ≡ badAddress p q) → t ≡ leb (p .C * p .alpha) lba
+unfolding badAddress
+address-is p lba t e = e (record { lba = lba; count = 1; bytes = [] }) refl
 
-module _ (p : Params) (b : Board) (q : Request) (h : Passed p b) where
-  pub access-3 : badCount p q ≡ true → BadCount ≡ accessReply p b q
-  unfolding accessReply firstRow badParameter wrongLength
-  access-3 e = rw (h .fine, h .fits, e)
-
-  module _ (count : badCount p q ≡ false) where
-    pub access-4 : badAddress p q ≡ true → BadAddress ≡ accessReply p b q
-    unfolding accessReply firstRow badParameter wrongLength
-    access-4 e = rw (h .fine, h .fits, count, e)
-
-    module _ (address : badAddress p q ≡ false) where
-      pub access-5 : wrongData p q ≡ true → WrongData ≡ accessReply p b q
-      unfolding accessReply firstRow badParameter wrongLength
-      access-5 e = rw (h .fine, h .fits, count, address, e)
-
-      pub access-last : wrongData p q ≡ false → (r : Reply) → r ≡ stateReply p b → r ≡ accessReply p b q
-      unfolding accessReply stateReply firstRow badParameter wrongLength
-      access-last given r e = rw (h .fine, h .fits, count, address, given) e
-
--- ---- of a release
-
-module _ (p : Params) (b : Board) (c : ℕ) (h : Passed p b) where
-  pub release-4 : badCluster p c ≡ true → BadAddress ≡ releaseReply p b c
-  unfolding releaseReply firstRow badParameter wrongLength
-  release-4 e = rw (h .fine, h .fits, e)
-
-  pub release-last : badCluster p c ≡ false → (r : Reply) → r ≡ stateReply p b → r ≡ releaseReply p b c
-  unfolding releaseReply stateReply firstRow badParameter wrongLength
-  release-last e r is = rw (h .fine, h .fits, e) is
-
--- ---- of one LBA
-
-module _ (p : Params) (b : Board) (lba : ℕ) (h : Passed p b) where
-  -- the row of an address is that of a request for a sector there
-  address-is : (t : Bool) → ((q : Request) → q .lba ≡ lba → t ≡ badAddress p q) → leb (p .C * p .alpha) lba ≡ t
-  unfolding badAddress
-  address-is t e = sym (e (record { lba = lba; count = 1; bytes = [] }) refl)
-
-  pub why-4 : (t : Bool) → ((q : Request) → q .lba ≡ lba → t ≡ badAddress p q) → t ≡ true → BadAddress ≡ whyReply p b lba
-  unfolding whyReply firstRow badParameter wrongLength
-  why-4 t e k = rw (h .fine, h .fits, address-is t e, k)
-
-  pub why-last : (t : Bool) → ((q : Request) → q .lba ≡ lba → t ≡ badAddress p q) → t ≡ false → (r : Reply) → r ≡ stateReply p b → r ≡ whyReply p b lba
-  unfolding whyReply stateReply firstRow badParameter wrongLength
-  why-last t e k r is = rw (h .fine, h .fits, address-is t e, k) is
-
--- ---- of a format
-
-module _ (p : Params) (b : Board) (h : Passed p b) (k : ℕ) (count : k ≡ goodBlocks p (b .chip)) where
-  pub format-6 : k < p .mu * p .gamma + 1 → TooFewBlocks ≡ formatReply p b
-  unfolding formatReply firstRow badParameter wrongLength tooFewBlocks
-  format-6 l = rw (h .fine, h .fits, ← count, lt-ltb k _ l)
-
-  pub format-0 : p .mu * p .gamma + 1 ≤ k → Accepted ≡ formatReply p b
-  unfolding formatReply firstRow badParameter wrongLength tooFewBlocks
-  format-0 l = rw (h .fine, h .fits, ← count, le-ltb k _ l)
+-- the row of a format
+pub few-is : (p : Params) (b : Board) (k : ℕ) → k ≡ goodBlocks p (b .chip) → ltb k (p .mu * p .gamma + 1) ≡ tooFewBlocks p b
+unfolding tooFewBlocks
+few-is p b k e = rw e

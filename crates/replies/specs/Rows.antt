@@ -1,16 +1,18 @@
--- The rows that calls have in common: the first two of the reply table, and the last.
+-- The rows that calls have in common: the first two of the reply table and the last, each with the row that T-06 adds to it.
 -- Assumes nothing.
-use mathlib.Core.List.{[], _∷_}
+use Prim.Native.Nat.{ℕ}
+use mathlib.Core.List.{List, [], _∷_}
 use Rattle.rules.specs.declared.Params.{Params}
 use Rattle.rules.specs.declared.Reply.{Reply}
 use Rattle.rules.specs.declared.Reply.the-variants.{BadParameter, WrongLength, NotOrderly}
 use Rattle.rules.specs.Replies.{row, firstRow, badParameter, wrongLength, notOrderly}
 use Rattle.rules.specs.Tables.{Board}
+use Rattle.marks.specs.MarkedCalls.{wrongMark, wrongMarksLength}
 
--- 1 and 2, by the parameters and the lengths alone
-unfoldable pub boardReply : Params → Board → Reply
-boardReply p b = firstRow (row (badParameter p) BadParameter ∷ row (wrongLength p b) WrongLength ∷ [])
+-- 1 and 2, by the parameters and the lengths alone: 2 "also for the new table's length"
+unfoldable pub boardReply : Params → Board → List ℕ → Reply
+boardReply p b marks = firstRow (row (badParameter p) BadParameter ∷ row (wrongLength p b) WrongLength ∷ row (wrongMarksLength p marks) WrongLength ∷ [])
 
--- 7, by the state
-unfoldable pub stateReply : Params → Board → Reply
-stateReply p b = firstRow (row (notOrderly p b) NotOrderly ∷ [])
+-- 7, by the state: "also for a wrong mark"
+unfoldable pub stateReply : Params → Board → List ℕ → Reply
+stateReply p b marks = firstRow (row (notOrderly p b) NotOrderly ∷ row (wrongMark p b marks) NotOrderly ∷ [])

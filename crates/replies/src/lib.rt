@@ -1,15 +1,18 @@
-// Document 01, "Reply numbers": the rows of each call, checked in the table's order.
+// Document 01, "Reply numbers": the rows of each call, checked in the table's order; and T-06's, for the table of marks.
 ghost use mathlib.Core.Path.{_≡_};
-ghost use mathlib.Core.Bool.{true};
+ghost use mathlib.Core.Bool.{true, false};
 ghost use mathlib.Core.List.{List, []};
 ghost use Prim.Native.Nat.{ℕ};
 ghost use lib.ListN.{length};
+ghost use lib.Dec.{eqb};
 ghost use Rattle.rules.specs.Parameters.{allowed};
 ghost use Rattle.rules.specs.Tables.{boardOf};
 ghost use Rattle.rules.specs.Write.{Request};
 ghost use Rattle.rules.specs.Replies.{badCount, badAddress, badCluster, wrongData, formatReply, accessReply, releaseReply, whyReply};
 ghost use Rattle.rules.specs.Calls.{answerOf};
 ghost use Rattle.agree.specs.Check.{Lengths};
+ghost use Rattle.marks.specs.Marks.{marksLength};
+ghost use Rattle.marks.specs.MarkedCalls.{markedReply};
 ghost use Rattle.replies.specs.Rows.{boardReply, stateReply};
 use rules::Answer;
 use rules::Params;
@@ -49,6 +52,14 @@ fn bad_cluster(p: Params, c: u32) -> bool
     p.C <= c as usize
 }
 
+// Has the table of marks the right length? Reply 2 if not.
+fn marks_fit(p: Params, len: usize) -> bool
+    requires { ⌜ allowed p ≡ true ⌝ }
+    ensures { λ ok. ⌜ ok ≡ eqb len (marksLength p) ⌝ }
+{
+    len == 4 * (p.mu * p.gamma)
+}
+
 // The reply by the parameters and the lengths: 1 or 2, else 0.
 fn board_reply(
     p: Params,
@@ -58,8 +69,9 @@ fn board_reply(
     fst: &[u16],
     bst: &[u8],
     wear: &[u32],
+    marks: &[u64],
 ) -> Reply
-    ensures { λ r. ⌜ r ≡ boardReply p (boardOf (now (chip .entry)) (now (ct .entry)) (now (bt .entry)) (now (fst .entry)) (now (bst .entry)) (now (wear .entry))) ⌝ }
+    ensures { λ r. ⌜ r ≡ boardReply p (boardOf (now (chip .entry)) (now (ct .entry)) (now (bt .entry)) (now (fst .entry)) (now (bst .entry)) (now (wear .entry))) (now (marks .entry)) ⌝ }
 {
     if !sizes::parameters_allowed(p) {
         return Reply::BadParameter;
@@ -75,18 +87,33 @@ fn board_reply(
     ) {
         return Reply::WrongLength;
     }
-    Reply::Accepted
+    if marks_fit(p, marks.len()) {
+        return Reply::Accepted;
+    }
+    Reply::WrongLength
 }
 
-// The reply by the state: 7, else 0.
-fn state_reply(p: Params, chip: &[u8], ct: &[u16], bt: &[u16], fst: &[u16], bst: &[u8]) -> Reply
+// The reply by the state and its marks: 7, else 0.
+fn state_reply(
+    p: Params,
+    chip: &[u8],
+    ct: &[u16],
+    bt: &[u16],
+    fst: &[u16],
+    bst: &[u8],
+    marks: &[u64],
+) -> Reply
     requires { ⌜ Lengths p (now chip) (now ct) (now bt) (now fst) (now bst) ⌝ }
-    ensures { λ r. ⌜ ((wear : List ℕ) → r ≡ stateReply p (boardOf (now (chip .entry)) (now (ct .entry)) (now (bt .entry)) (now (fst .entry)) (now (bst .entry)) wear)) ⌝ }
+    requires { ⌜ length (now marks) ≡ marksLength p ⌝ }
+    ensures { λ r. ⌜ ((wear : List ℕ) → r ≡ stateReply p (boardOf (now (chip .entry)) (now (ct .entry)) (now (bt .entry)) (now (fst .entry)) (now (bst .entry)) wear) (now (marks .entry))) ⌝ }
 {
     if !state::is_orderly(p, chip, ct, bt, fst, bst) {
         return Reply::NotOrderly;
     }
-    Reply::Accepted
+    if valid::marks_ok(p, chip, ct, bt, marks) {
+        return Reply::Accepted;
+    }
+    Reply::NotOrderly
 }
 
 // The reply to a read or a write of `count` sectors from LBA on, with `len` bytes of data.
@@ -98,13 +125,14 @@ pub fn access_reply(
     fst: &[u16],
     bst: &[u8],
     wear: &[u32],
+    marks: &[u64],
     lba: u32,
     count: u32,
     len: usize,
 ) -> Reply
-    ensures { λ r. ⌜ ((q : Request) → q .lba ≡ lba → q .count ≡ count → length (q .bytes) ≡ len → r ≡ accessReply p (boardOf (now (chip .entry)) (now (ct .entry)) (now (bt .entry)) (now (fst .entry)) (now (bst .entry)) (now (wear .entry))) q) ⌝ }
+    ensures { λ r. ⌜ ((q : Request) → q .lba ≡ lba → q .count ≡ count → length (q .bytes) ≡ len → r ≡ markedReply p (boardOf (now (chip .entry)) (now (ct .entry)) (now (bt .entry)) (now (fst .entry)) (now (bst .entry)) (now (wear .entry))) (now (marks .entry)) true (accessReply p (boardOf (now (chip .entry)) (now (ct .entry)) (now (bt .entry)) (now (fst .entry)) (now (bst .entry)) (now (wear .entry))) q)) ⌝ }
 {
-    let head = board_reply(p, chip, ct, bt, fst, bst, wear);
+    let head = board_reply(p, chip, ct, bt, fst, bst, wear, marks);
     if rules::number(head) != 0 {
         return head;
     }
@@ -117,7 +145,7 @@ pub fn access_reply(
     if wrong_data(p, count, len) {
         return Reply::WrongData;
     }
-    state_reply(p, chip, ct, bt, fst, bst)
+    state_reply(p, chip, ct, bt, fst, bst, marks)
 }
 
 // The reply to a release of cluster c.
@@ -129,18 +157,19 @@ pub fn release_reply(
     fst: &[u16],
     bst: &[u8],
     wear: &[u32],
+    marks: &[u64],
     c: u32,
 ) -> Reply
-    ensures { λ r. ⌜ r ≡ releaseReply p (boardOf (now (chip .entry)) (now (ct .entry)) (now (bt .entry)) (now (fst .entry)) (now (bst .entry)) (now (wear .entry))) c ⌝ }
+    ensures { λ r. ⌜ r ≡ markedReply p (boardOf (now (chip .entry)) (now (ct .entry)) (now (bt .entry)) (now (fst .entry)) (now (bst .entry)) (now (wear .entry))) (now (marks .entry)) true (releaseReply p (boardOf (now (chip .entry)) (now (ct .entry)) (now (bt .entry)) (now (fst .entry)) (now (bst .entry)) (now (wear .entry))) c) ⌝ }
 {
-    let head = board_reply(p, chip, ct, bt, fst, bst, wear);
+    let head = board_reply(p, chip, ct, bt, fst, bst, wear, marks);
     if rules::number(head) != 0 {
         return head;
     }
     if bad_cluster(p, c) {
         return Reply::BadAddress;
     }
-    state_reply(p, chip, ct, bt, fst, bst)
+    state_reply(p, chip, ct, bt, fst, bst, marks)
 }
 
 // The reply to the question why a sector reads so.
@@ -152,18 +181,19 @@ pub fn why_reply(
     fst: &[u16],
     bst: &[u8],
     wear: &[u32],
+    marks: &[u64],
     lba: u32,
 ) -> Reply
-    ensures { λ r. ⌜ r ≡ whyReply p (boardOf (now (chip .entry)) (now (ct .entry)) (now (bt .entry)) (now (fst .entry)) (now (bst .entry)) (now (wear .entry))) lba ⌝ }
+    ensures { λ r. ⌜ r ≡ markedReply p (boardOf (now (chip .entry)) (now (ct .entry)) (now (bt .entry)) (now (fst .entry)) (now (bst .entry)) (now (wear .entry))) (now (marks .entry)) true (whyReply p (boardOf (now (chip .entry)) (now (ct .entry)) (now (bt .entry)) (now (fst .entry)) (now (bst .entry)) (now (wear .entry))) lba) ⌝ }
 {
-    let head = board_reply(p, chip, ct, bt, fst, bst, wear);
+    let head = board_reply(p, chip, ct, bt, fst, bst, wear, marks);
     if rules::number(head) != 0 {
         return head;
     }
     if bad_address(p, lba) {
         return Reply::BadAddress;
     }
-    state_reply(p, chip, ct, bt, fst, bst)
+    state_reply(p, chip, ct, bt, fst, bst, marks)
 }
 
 // The reply to a format.
@@ -175,10 +205,11 @@ pub fn format_reply(
     fst: &[u16],
     bst: &[u8],
     wear: &[u32],
+    marks: &[u64],
 ) -> Reply
-    ensures { λ r. ⌜ r ≡ formatReply p (boardOf (now (chip .entry)) (now (ct .entry)) (now (bt .entry)) (now (fst .entry)) (now (bst .entry)) (now (wear .entry))) ⌝ }
+    ensures { λ r. ⌜ r ≡ markedReply p (boardOf (now (chip .entry)) (now (ct .entry)) (now (bt .entry)) (now (fst .entry)) (now (bst .entry)) (now (wear .entry))) (now (marks .entry)) false (formatReply p (boardOf (now (chip .entry)) (now (ct .entry)) (now (bt .entry)) (now (fst .entry)) (now (bst .entry)) (now (wear .entry)))) ⌝ }
 {
-    let head = board_reply(p, chip, ct, bt, fst, bst, wear);
+    let head = board_reply(p, chip, ct, bt, fst, bst, wear, marks);
     if rules::number(head) != 0 {
         return head;
     }

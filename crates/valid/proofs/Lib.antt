@@ -1,2 +1,3 @@
 pub mod Tested
-pub mod Fewest
+pub mod Words
+pub mod Asked

@@ -1,14 +1,14 @@
 -- Each test of `is_valid`, as the rule of validity takes it: of any view that shows the lent bytes.
 -- Assumes nothing.
-use mathlib.Core.Path.{_≡_, refl, sym, _∙_}
+use mathlib.Core.Path.{_≡_, sym, _∙_}
 use mathlib.Core.Bool.{Bool, true, false, _&&_, cond}
 use mathlib.Core.List.{List}
 use Prim.Native.Nat.{ℕ, _+_, _*_, _/_, _≤_, _<_}
 use native.Mathlib.Omega.{arith}
 use native.Mathlib.Nat.{add-mul, div-eq-of-lt-le, div-le-self, div-lt-iff-lt-mul, div-mul-le-self}
 use lib.Dec.{eqb}
+use lib.ListN.{length}
 use borrow.Author.Tests.{eq-eqb, ne-eqb}
-use lib.ListN.{List·getD-eq-default}
 use Rattle.rules.specs.declared.Params.{Params}
 use Rattle.rules.specs.Parameters.{frames}
 use Rattle.rules.specs.Numbers.{regionOf, segmentOf}
@@ -31,6 +31,10 @@ module _ (p : Params) (blk ct : List ℕ) (v f : ℕ) (a : OneFrame p blk ct v f
   pub place-is-low : (k : ℕ) → k ≡ f / p .beta → k < p .d
   place-is-low k e = rw e place-low
 
+  -- its cluster has an entry in CT
+  pub cluster-low : (fr : List ℕ) → fr ≡ frame p blk f → programmed p fr ≡ true → (c : ℕ) → c ≡ held p fr → c < length ct
+  cluster-low fr is h c e = rw (a .block .ctLength, e, is) (a .block .clusters f (a .low) (rw is at h))
+
   module _ (r : ℕ) (vw : View) (s : Shows p r v blk ct vw) (fr : List ℕ) (is : fr ≡ frame p blk f) where
     pub unprogrammed : programmed p fr ≡ false → false ≡ valid p vw v f
     unfolding valid
@@ -47,16 +51,6 @@ module _ (p : Params) (blk ct : List ℕ) (v f : ℕ) (a : OneFrame p blk ct v f
       none-ne : none ≡ segmentOf p v f → ⊥
       none-ne x = omega (arith, seg-low p z v f (a .low) (a .block .low), z .few)
 
-      seg-none : ctAt ct c ≡ none → vw .segOf c ≡ none
-      seg-none x = s .segs c ∙ rw x (go (eqb (regionOf p c) r))
-        where
-          go : (t : Bool) → cond t none none ≡ none
-          go true = refl
-          go false = refl
-
-      pub high : p .C ≤ c → false ≡ valid p vw v f
-      high l = not-here none (seg-none (unfold ctAt in List·getD-eq-default ct none (rw (a .block .ctLength) l))) none-ne
-
       pub stale : (k sg g : ℕ) → k ≡ f / p .beta → sg ≡ ctAt ct c → g ≡ v * p .d + k → (sg ≡ g → ⊥) → false ≡ valid p vw v f
       stale k sg g at w q ne = not-here _ (s .segs c) (go (eqb (regionOf p c) r))
         where
@@ -64,17 +58,14 @@ module _ (p : Params) (blk ct : List ℕ) (v f : ℕ) (a : OneFrame p blk ct v f
           go true x = ne (w ∙ x ∙ rw (q, at))
           go false x = none-ne x
 
-      pub elsewhere : (r′ : ℕ) → r′ ≡ regionOf p c → (r′ ≡ r → ⊥) → false ≡ valid p vw v f
-      elsewhere r′ x ne = not-here none (s .segs c ∙ rw (ne-eqb (regionOf p c) r (λ y. ne (x ∙ y)))) none-ne
+      here : vw .segOf c ≡ ctAt ct c
+      here = s .segs c ∙ rw (eq-eqb (regionOf p c) r (rw (e, is) (s .mine f (a .low) (rw is at h))))
 
-      here : (r′ : ℕ) → r′ ≡ regionOf p c → r′ ≡ r → vw .segOf c ≡ ctAt ct c
-      here r′ x y = s .segs c ∙ rw (eq-eqb (regionOf p c) r (sym x ∙ y))
-
-      pub last : (k r′ sg g l : ℕ) → k ≡ f / p .beta → r′ ≡ regionOf p c → r′ ≡ r → sg ≡ ctAt ct c → g ≡ v * p .d + k → sg ≡ g → l ≡ lastIn p blk k c → eqb l f ≡ valid p vw v f
-      last k r′ sg g l at x y w q e i =
-          let named : sg ≡ segmentOf p v f = e ∙ q ∙ rw at in
+      pub last : (k sg g l : ℕ) → k ≡ f / p .beta → sg ≡ ctAt ct c → g ≡ v * p .d + k → sg ≡ g → l ≡ lastIn p blk k c → eqb l f ≡ valid p vw v f
+      last k sg g l at w q x i =
+          let named : sg ≡ segmentOf p v f = x ∙ q ∙ rw at in
           let found : l ≡ lastIn p blk (f / p .beta) c = i ∙ rw at in
-          rw (valid-is, here r′ x y, ← w, eq-eqb sg (segmentOf p v f) named, ← found)
+          rw (valid-is, here, ← w, eq-eqb sg (segmentOf p v f) named, ← found)
 
 -- ---- places
 

@@ -1,38 +1,56 @@
--- What the tests of validity ask, and a view that shows the lent bytes.
+-- What the tests of validity and of the marks ask, and a view that shows the lent bytes.
 -- Assumes nothing.
 use mathlib.Core.Path.{_≡_}
-use mathlib.Core.Bool.{true, cond}
-use mathlib.Core.List.{List}
+use mathlib.Core.Logic.{_⊎_}
+use mathlib.Core.Bool.{Bool, true, cond}
+use mathlib.Core.List.{List, []}
 use Prim.Native.Nat.{ℕ, _*_, _<_}
 use lib.Dec.{eqb}
 use lib.ListN.{length}
 use Rattle.rules.specs.declared.Params.{Params}
 use Rattle.rules.specs.Parameters.{allowed, frames, blockBytes}
 use Rattle.rules.specs.Numbers.{regionOf}
+use Rattle.rules.specs.Pages.{block, frame, held, programmed}
 use Rattle.rules.specs.Tables.{none, ctAt, btAt}
-use Rattle.rules.specs.Regions.{View}
+use Rattle.rules.specs.Regions.{View, viewOf}
+use Rattle.marks.specs.Marks.{markIndex, marked, marksLength, wordAt, wordOf}
 
--- the bytes of a block, which virtual block v has, and CT
+-- the bytes of a block, which virtual block v has, and CT; its programmed frames hold clusters of the board
 pub record OneBlock (p : Params) (blk ct : List ℕ) (v : ℕ) : Type 0 where
   pub fine : allowed p ≡ true
   pub size : length blk ≡ blockBytes p
   pub ctLength : length ct ≡ p .C
   pub low : v < p .gamma
+  pub clusters : (f : ℕ) → f < frames p → programmed p (frame p blk f) ≡ true → held p (frame p blk f) < p .C
 
 pub record OneFrame (p : Params) (blk ct : List ℕ) (v f : ℕ) : Type 0 where
   pub block : OneBlock p blk ct v
   pub low : f < frames p
 
--- every virtual block of region r has a block
-pub record Full (p : Params) (chip ct bt : List ℕ) (r : ℕ) : Type 0 where
+-- virtual block v of the view, which is region r's, has these bytes, its programmed frames hold clusters of that region, and these have their segments in CT
+pub record Shows (p : Params) (r v : ℕ) (blk ct : List ℕ) (vw : View) : Type 0 where
+  pub body : vw .body v ≡ blk
+  pub segs : (c : ℕ) → vw .segOf c ≡ cond (eqb (regionOf p c) r) (ctAt ct c) none
+  pub mine : (f : ℕ) → f < frames p → programmed p (frame p blk f) ≡ true → regionOf p (held p (frame p blk f)) ≡ r
+
+-- the programmed frames of a block hold clusters of region r
+pub record Mine (p : Params) (r : ℕ) (blk : List ℕ) : Type 0 where
+  pub low : (f : ℕ) → f < frames p → programmed p (frame p blk f) ≡ true → held p (frame p blk f) < p .C
+  pub region : (f : ℕ) → f < frames p → programmed p (frame p blk f) ≡ true → regionOf p (held p (frame p blk f)) ≡ r
+
+-- the lent chip and tables are whole, and a block that BT names is one of its region
+pub record CheckAsked (p : Params) (chip ct bt marks : List ℕ) : Type 0 where
   pub fine : allowed p ≡ true
   pub chipLength : length chip ≡ p .N * blockBytes p
   pub ctLength : length ct ≡ p .C
   pub btLength : length bt ≡ p .mu * p .gamma
-  pub low : r < p .mu
-  pub all : (v : ℕ) → v < p .gamma → btAt p bt r v < p .N
+  pub marksLong : length marks ≡ marksLength p
+  pub names : (r v : ℕ) → r < p .mu → v < p .gamma → (btAt p bt r v ≡ none) ⊎ ((btAt p bt r v < p .N) × Mine p r (block p chip (btAt p bt r v)))
 
--- virtual block v of the view, which is region r's, has these bytes, and its clusters these segments
-pub record Shows (p : Params) (r v : ℕ) (blk ct : List ℕ) (vw : View) : Type 0 where
-  pub body : vw .body v ≡ blk
-  pub segs : (c : ℕ) → vw .segOf c ≡ cond (eqb (regionOf p c) r) (ctAt ct c) none
+-- word w of virtual block v of region r holds these marks
+unfoldable pub wordsAre : Params → List ℕ → ℕ → ℕ → (ℕ → Bool) → ℕ → Bool
+wordsAre p marks r v m w = eqb (wordAt marks (markIndex p r v w)) (wordOf m w)
+
+-- and it holds those that the validity rule makes; no mark depends on FST
+abbrev pub wordRight : Params → List ℕ → List ℕ → List ℕ → List ℕ → ℕ → ℕ → ℕ → Bool
+wordRight p chip ct bt marks r v = wordsAre p marks r v (marked p (viewOf p chip ct bt [] r) v)

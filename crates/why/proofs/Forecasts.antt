@@ -1,18 +1,20 @@
--- The plan's numbers, case by case, and the bytes of a block that is reclaimed.
+-- The plan's numbers, case by case; a virtual block that is reclaimed has as many marks as valid frames.
 -- Assumes nothing.
-use mathlib.Core.Path.{_≡_, ap, refl, _∙_}
+use mathlib.Core.Path.{_≡_, ap, _∙_}
+use mathlib.Core.Bool.{true}
 use mathlib.Core.List.{List}
-use Prim.Native.Nat.{ℕ, _<_}
-use native.Mathlib.Omega.{arith}
+use Prim.Native.Nat.{ℕ}
 use lib.ListN.{length}
-use borrow.Author.Tests.{lt-ltb, ne-eqb}
+use Rattle.lists.specs.Below.{countBelow}
 use Rattle.rules.specs.declared.Params.{Params}
-use Rattle.rules.specs.Pages.{block}
-use Rattle.rules.specs.Regions.{View, bodyAt, validFrames, viewOf}
-use Rattle.rules.specs.Tables.{btAt, none}
+use Rattle.rules.specs.Parameters.{allowed}
+use Rattle.rules.specs.Regions.{View, validFrames, view, viewOf}
+use Rattle.rules.specs.Tables.{Board, boardOf}
 use Rattle.rules.specs.Write.{Plan, planOf, reclaims}
-use Rattle.rules.proofs.Sizes.{sizes}
-use Rattle.valid.specs.Shown.{Shows}
+use Rattle.marks.specs.Marks.{Marks, marksLength, marksOf, marksOn, tableOf}
+use Rattle.marks.proofs.Counted.{marks-counted}
+use Rattle.marks.proofs.Tables.{table-length}
+use Rattle.marking.specs.Asked.{WordsAsked}
 use Rattle.why.specs.Asked.{ForecastAsked}
 use Rattle.why.specs.Why.{planNumbers}
 
@@ -20,17 +22,16 @@ use Rattle.why.specs.Why.{planNumbers}
 pub plan-is : (p : Params) (vw : View) (pl : Plan) → pl ≡ planOf p vw → planNumbers p vw pl ≡ planNumbers p vw (planOf p vw)
 plan-is p vw pl e = ap (planNumbers p vw) e
 
-module _ (p : Params) (chip ct bt fst : List ℕ) (r : ℕ) (a : ForecastAsked p chip ct bt fst r) (v : ℕ) (e : reclaims v ≡ planOf p (viewOf p chip ct bt fst r)) where
-  pub victim-low : v < p .gamma
-  victim-low = (a .victim v e) .0
+module _ (p : Params) (chip bt fst marks : List ℕ) (r : ℕ) (a : ForecastAsked p chip bt fst marks r) where
+  pub marks-long : length marks ≡ marksLength p
+  unfolding marksOf
+  marks-long = ap length (a .right) ∙ table-length p (marksOn p (boardOf chip (a .ct) bt fst (a .bst) (a .wear)))
 
-  pub victim-block : btAt p bt r v < p .N
-  victim-block = (a .victim v e) .1
+  pub victim-words : (v : ℕ)
+      → ((ct bst wear : List ℕ) → marks ≡ marksOf p (boardOf chip ct bt fst bst wear) → reclaims v ≡ planOf p (viewOf p chip ct bt fst r)) → WordsAsked p marks r v
+  victim-words v e = record { fine = a .plan .fine; long = marks-long; region = a .plan .low; vblock = a .victim v (e (a .ct) (a .bst) (a .wear) (a .right)) }
 
-  pub shows : (blk : List ℕ) → blk ≡ block p chip (btAt p bt r v) → Shows p r v blk ct (viewOf p chip ct bt fst r)
-  unfolding viewOf bodyAt
-  shows blk is =
-      record {
-        body = rw (lt-ltb v (p .gamma) victim-low, ne-eqb (btAt p bt r v) none (λ x. omega (arith, victim-block, (sizes p (a .plan .fine)) .blocks)), is);
-        segs = λ c. refl;
-      }
+pub counted : (p : Params) → allowed p ≡ true → (b : Board) (marks : List ℕ) → marks ≡ marksOf p b → (r v n : ℕ) → ((m : Marks) → marks ≡ tableOf p m → n ≡ countBelow 256 (m r v))
+    → n ≡ length (validFrames p (view p b r) v)
+unfolding marksOf marksOn
+counted p fine b marks right r v n h = h (marksOn p b) right ∙ marks-counted p fine (view p b r) v

@@ -1,10 +1,9 @@
 -- Every number of an answer fits 32 bits: by the ranges of the parameters, and by the rules of an orderly state.
 -- Assumes nothing.
-use mathlib.Core.Path.{_≡_, sym, _∙_}
-use mathlib.Core.Bool.{Bool, cond, false, true}
-use mathlib.Core.Logic.{_⊎_, inl, inr}
+use mathlib.Core.Path.{_≡_}
+use mathlib.Core.Bool.{cond}
 use mathlib.Core.List.{List, [], _++_, _∷_}
-use Prim.Native.Nat.{_<_, suc, zero, ℕ}
+use Prim.Native.Nat.{_<_, ℕ}
 use native.Mathlib.Nat.{mod-lt}
 use native.Mathlib.Decide.{ℕ-discrete}
 use native.Mathlib.Omega.{arith}
@@ -22,20 +21,16 @@ use Rattle.rules.specs.Tables.{Board, ctAt, none}
 use Rattle.rules.specs.Write.{Plan, continues, opens, planFrame, planOf, planVBlock, reclaims}
 use Rattle.rules.proofs.Sizes.{Sizes}
 use Rattle.broken.specs.declared.Rule.{Rule}
-use Rattle.broken.specs.declared.Rule.the-variants.{BstValues, BtRange, Ct, FreeErased, Fst, NamedTwice, TooFewLeft, UsedBlock, UsedIfNamed}
+use Rattle.broken.specs.declared.Rule.the-variants.{BstValues, BtRange, Ct, FreeErased, Fst, Marks, NamedTwice, TooFewLeft, UsedBlock, UsedIfNamed}
 use Rattle.broken.specs.Broken.{ruleNumber}
 use Rattle.claims.specs.Conditions.{OrderlyBoard}
-use Rattle.why.specs.Truths.{HolderTrue, holderAt}
+use Rattle.why.specs.Truths.{holderAt}
 use Rattle.why.specs.Why.{Small, forecastOf, foundOf, holderOf, planNumbers}
 use Rattle.why.proofs.Truths.{holder-true, segment-low, vblock-low}
 
 pub small-append : (xs ys : List ℕ) → Small xs → Small ys → Small (xs ++ ys)
 small-append [] ys h k = k
 small-append (x ∷ xs) ys h k = (h .0, small-append xs ys (h .1) k)
-
-pub small-right : (xs ys : List ℕ) → Small (xs ++ ys) → Small ys
-small-right [] ys h = h
-small-right (x ∷ xs) ys h = small-right xs ys (h .1)
 
 -- ---- replies and rules
 
@@ -68,6 +63,7 @@ broken-small k = (omega arith, (low k, omega arith))
     low UsedBlock = omega arith
     low Fst = omega arith
     low Ct = omega arith
+    low Marks = omega arith
 
 -- ---- a plan
 

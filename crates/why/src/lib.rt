@@ -1,15 +1,17 @@
-// Document 02, T-05: why a sector reads so, and what a write of it would do.
+// Document 02, T-05: why a sector reads so, and what a write of it would do; with T-06's table of marks.
 ghost use mathlib.Core.Path.{_≡_};
 ghost use mathlib.Core.Bool.{true};
-ghost use Prim.Native.Nat.{_<_};
-ghost use lib.ListN.{length};
-ghost use Rattle.rules.specs.Parameters.{allowed};
+ghost use mathlib.Core.List.{List};
+ghost use Prim.Native.Nat.{ℕ};
 ghost use Rattle.rules.specs.Regions.{viewOf};
 ghost use Rattle.rules.specs.Tables.{boardOf};
 ghost use Rattle.rules.specs.Write.{planOf};
-ghost use Rattle.why.specs.Asked.{ForecastAsked};
-ghost use Rattle.why.specs.Why.{Small, forecastNumbers, frameNumbers, numbersOf, placeNumbers, planNumbers, whyOf};
+ghost use Rattle.marks.specs.Marks.{marksOf};
+ghost use Rattle.reading.specs.Lookup.{Within};
+ghost use Rattle.why.specs.Asked.{ForecastAsked, PlaceAsked};
+ghost use Rattle.why.specs.Why.{Small, forecastNumbers, holderOf, markedWhy, numbersOf, placeNumbers, planNumbers};
 use broken::Rule;
+use reading::Found;
 use rules::Cluster;
 use rules::PBlock;
 use rules::Params;
@@ -34,7 +36,7 @@ pub enum Forecast {
     Reclaims(VBlock, usize),
 }
 
-// Why a sector reads so: the call is refused, or the state is not orderly, by its first broken rule; or no frame is held, or one is held there.
+// Why a sector reads so: the call is refused, or the state or its marks are not in order, by the first broken rule; or no frame is held, or one is held there.
 pub enum Why {
     Refused(Reply),
     Disordered(Rule),
@@ -42,38 +44,33 @@ pub enum Why {
     Held(Place, Forecast),
 }
 
-// What a write to region r would do, on a state that is known to be orderly.
-fn forecast_of(p: Params, chip: &[u8], ct: &[u16], bt: &[u16], fst: &[u16], r: usize) -> Forecast
-    requires { ⌜ ForecastAsked p (now chip) (now ct) (now bt) (now fst) r ⌝ }
-    ensures { λ fc. ⌜ forecastNumbers fc ≡ planNumbers p (viewOf p (now (chip .entry)) (now (ct .entry)) (now (bt .entry)) (now (fst .entry)) r) (planOf p (viewOf p (now (chip .entry)) (now (ct .entry)) (now (bt .entry)) (now (fst .entry)) r)) ⌝ }
+// What a write to region r would do, on a state that is known to be orderly: where it reclaims, the marks of the virtual block are counted.
+fn forecast_of(p: Params, chip: &[u8], bt: &[u16], fst: &[u16], marks: &[u64], r: usize) -> Forecast
+    requires { ⌜ ForecastAsked p (now chip) (now bt) (now fst) (now marks) r ⌝ }
+    ensures { λ fc. ⌜ ((ct bst wear : List ℕ) → now (marks .entry) ≡ marksOf p (boardOf (now (chip .entry)) ct (now (bt .entry)) (now (fst .entry)) bst wear)
+        → forecastNumbers fc ≡ planNumbers p (viewOf p (now (chip .entry)) ct (now (bt .entry)) (now (fst .entry)) r) (planOf p (viewOf p (now (chip .entry)) ct (now (bt .entry)) (now (fst .entry)) r))) ⌝ }
 {
-    match writing::plan_of(p, chip, ct, bt, fst, r) {
+    match writing::plan_of(p, chip, bt, fst, marks, r) {
         Planned::Continues(v, f) => Forecast::Continues(v, f),
         Planned::Opens(v) => Forecast::Opens(v),
-        Planned::Reclaims(v) => {
-            let n = tables::bt_at(p, bt, r, v);
-            Forecast::Reclaims(
-                v,
-                valid::valid_count(p, blocks::block_of(p, chip, n), ct, r, v),
-            )
-        }
+        Planned::Reclaims(v) => Forecast::Reclaims(v, marking::count_marks(p, marks, r, v)),
     }
 }
 
-// The place of cluster c, whose valid frame has this number over the chip.
-fn place_at(p: Params, ct: &[u16], c: Cluster, frame: usize) -> Place
-    requires { ⌜ allowed p ≡ true ⌝ }
-    requires { ⌜ c .0 < length (now ct) ⌝ }
-    ensures { λ at. ⌜ placeNumbers at ≡ frameNumbers p (now (ct .entry)) (c .0) frame ⌝ }
+// The place of cluster c, which the lookup found there.
+fn place_at(p: Params, ct: &[u16], bt: &[u16], c: Cluster, at: Found) -> Place
+    requires { ⌜ PlaceAsked p (now ct) (now bt) (c .0) (at .vblock .0) ⌝ }
+    ensures { λ pl. ⌜ ((chip fst bst wear : List ℕ) → at .kept ≡ true → Within p chip (now (ct .entry)) (now (bt .entry)) (c .0) (at .kept) (at .vblock .0) (at .inner)
+        → placeNumbers pl ≡ holderOf p (boardOf chip (now (ct .entry)) (now (bt .entry)) fst bst wear) (c .0)) ⌝ }
 {
-    let sg = tables::ct_at(ct, c);
-    let m = sizes::frames(p);
+    let r = rules::region_of(p, c);
+    let v = at.vblock;
     Place {
-        region: rules::region_of(p, c),
-        segment: sg,
-        vblock: rules::vblock_of(p, sg),
-        pblock: PBlock(frame / m),
-        frame: frame % m,
+        region: r,
+        segment: tables::ct_at(ct, c),
+        vblock: v,
+        pblock: tables::bt_at(p, bt, r, v),
+        frame: at.inner,
     }
 }
 
@@ -86,24 +83,25 @@ pub fn explain(
     fst: &[u16],
     bst: &[u8],
     wear: &[u32],
+    marks: &[u64],
     lba: u32,
 ) -> Why
-    ensures { λ w. ⌜ numbersOf w ≡ whyOf p (boardOf (now (chip .entry)) (now (ct .entry)) (now (bt .entry)) (now (fst .entry)) (now (bst .entry)) (now (wear .entry))) lba ⌝ }
+    ensures { λ w. ⌜ numbersOf w ≡ markedWhy p (boardOf (now (chip .entry)) (now (ct .entry)) (now (bt .entry)) (now (fst .entry)) (now (bst .entry)) (now (wear .entry))) (now (marks .entry)) lba ⌝ }
     ensures { λ w. ⌜ Small (numbersOf w) ⌝ }
 {
-    let reply = replies::why_reply(p, chip, ct, bt, fst, bst, wear, lba);
+    let reply = replies::why_reply(p, chip, ct, bt, fst, bst, wear, marks, lba);
     let n = rules::number(reply);
     if n == 7 {
-        return Why::Disordered(broken::first_broken(p, chip, bt, fst, bst));
+        return Why::Disordered(broken::broken_rule(p, chip, ct, bt, fst, bst));
     }
     if n != 0 {
         return Why::Refused(reply);
     }
     let c = rules::cluster_of(p, lba as usize);
-    let fc = forecast_of(p, chip, ct, bt, fst, rules::region_of(p, c));
+    let fc = forecast_of(p, chip, bt, fst, marks, rules::region_of(p, c));
     let at = reading::find_frame(p, chip, ct, bt, c);
     if !at.kept {
         return Why::Empty(fc);
     }
-    Why::Held(place_at(p, ct, c, at.frame), fc)
+    Why::Held(place_at(p, ct, bt, c, at), fc)
 }

@@ -109,7 +109,7 @@ module _ (p : Params) (b : Board) (q : Request) (acc : Admitted p b q) (pl : Pla
         blockElse = makes .room .blockElse;
       }
 
-  view-is : view p ready r ≡ withRoom p vw pl
+  pub view-is : view p ready r ≡ withRoom p vw pl
   view-is = own-view p b ready r v n (withRoom p vw pl) (makes .base .ready .mine) region-in effect
 
   block-is : btAt p (ready .bt) r v ≡ n

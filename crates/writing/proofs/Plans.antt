@@ -10,13 +10,12 @@ use native.Mathlib.Decide.{ℕ-discrete}
 use lib.Dec.{eqb, ltb}
 use borrow.Author.Tests.{eq-eqb, ne-eqb, lt-ltb, le-ltb, eqb-false}
 use lib.ListN.{length}
-use Rattle.lists.specs.Below.{firstBelow}
 use Rattle.lists.proofs.Parts.{next}
-use Rattle.lists.proofs.Searches.{first-spec, first-cong}
+use Rattle.lists.proofs.Searches.{first-cong}
 use Rattle.rules.specs.declared.Params.{Params}
 use Rattle.rules.specs.Parameters.{frames, blockBytes, chipBytes}
-use Rattle.rules.specs.Numbers.{vblockOf}
-use Rattle.rules.specs.Tables.{none, btAt, fstAt}
+use Rattle.rules.specs.Numbers.{placeOf, vblockOf}
+use Rattle.rules.specs.Tables.{boardOf, none, btAt, fstAt}
 use Rattle.rules.specs.Pages.{block, filled}
 use Rattle.rules.specs.Regions.{View, viewOf, bodyAt, assigned}
 use Rattle.rules.specs.Write.{continues, opens, reclaims, hasRoom, lowestUnassigned, victim, planOf}
@@ -24,9 +23,11 @@ use Rattle.rules.proofs.Sizes.{Sizes, sizes}
 use Rattle.rules.proofs.TableFacts.{chip-size}
 use Rattle.rules.proofs.Replays.{block-size}
 use Rattle.rules.proofs.Views.{some-bytes}
-use Rattle.choose.specs.Search.{lowestNone}
-use Rattle.valid.specs.Shown.{Full}
-use Rattle.writing.specs.Plans.{PlanAsked, nextIn}
+use Rattle.marks.specs.Marks.{Marks, marksOf, marksOn, tableOf}
+use Rattle.marks.proofs.Counted.{victim-counted}
+use Rattle.blocks.specs.First.{FirstFrames}
+use Rattle.choose.specs.Search.{leastMarked, lowestNone}
+use Rattle.writing.specs.Plans.{OpenFrames, PlanAsked, nextIn}
 
 module _ (p : Params) (chip bt fst : List ℕ) (r : ℕ) (a : PlanAsked p chip bt fst r) where
   z : Sizes p
@@ -54,9 +55,23 @@ module _ (p : Params) (chip bt fst : List ℕ) (r : ℕ) (a : PlanAsked p chip b
             go (inl e) = absurd ((a .opened (λ x. ne (es ∙ x))) .1 (rw (ev, es) at e))
             go (inr h) = rw en h
 
-        pub open-next : (blk : List ℕ) (f : ℕ) → blk ≡ block p chip n → f ≡ filled p blk → f ≡ nextIn p chip bt fst r
-        unfolding nextIn
-        open-next blk f eb ef = ef ∙ rw (eb, en, ev, es, ne-eqb (fstAt fst r) none (λ x. ne (es ∙ x)))
+        block-is : n ≡ btAt p bt r (vblockOf p (fstAt fst r))
+        block-is = en ∙ rw (ev, es)
+
+        frames-are : OpenFrames p (block p chip n) sg
+        frames-are = rw (block-is, es) (a .first (λ x. ne (es ∙ x)))
+
+        module _ (k from : ℕ) (ek : k ≡ placeOf p sg) (ef : from ≡ k * p .beta) where
+          at-most : from ≤ filled p (block p chip n)
+          at-most = rw (ef, ek) (frames-are .from)
+
+          pub from-low : from ≤ frames p
+          from-low = omega (arith, frames-are .front .most, at-most)
+
+          pub open-next : (blk : List ℕ) (f : ℕ) → blk ≡ block p chip n → ((m : ℕ) → from ≤ m → FirstFrames p blk m → f ≡ m) → f ≡ nextIn p chip bt fst r
+          unfolding nextIn
+          open-next blk f eb h =
+              h (filled p (block p chip n)) at-most (rw eb (frames-are .front)) ∙ rw (block-is, ne-eqb (fstAt fst r) none (λ x. ne (es ∙ x)))
 
   -- ---- the region's view
 
@@ -141,17 +156,7 @@ module _ (p : Params) (chip bt fst : List ℕ) (r : ℕ) (a : PlanAsked p chip b
       unfolding planOf
       reclaims-is e u k = rw (no-room, ← lowest-is, eq-eqb v none e, k)
 
-      -- every virtual block has a block
-      pub full : length ct ≡ p .C → v ≡ none → Full p chip ct bt r
-      full lc e =
-          record { fine = a .fine; chipLength = a .chipLength; ctLength = lc; btLength = a .btLength; low = a .low; all = λ u h. block-low u h (some u h (first-spec none (p .gamma) (λ v. eqb (btAt p bt r v) none) (omega (arith, z .gammaHigh)))) }
-        where
-          none-is : firstBelow none (p .gamma) (λ v. eqb (btAt p bt r v) none) ≡ none
-          none-is = unfold lowestNone in (sym ev ∙ e)
-
-          some : (u : ℕ) → u < p .gamma
-              → ((firstBelow none (p .gamma) (λ v. eqb (btAt p bt r v) none) ≡ none) × ((i : ℕ) → i < p .gamma → eqb (btAt p bt r i) none ≡ false))
-              ⊎ ((firstBelow none (p .gamma) (λ v. eqb (btAt p bt r v) none) < p .gamma) × (eqb (btAt p bt r (firstBelow none (p .gamma) (λ v. eqb (btAt p bt r v) none))) none ≡ true))
-              → btAt p bt r u ≡ none → ⊥
-          some u h (inl w) = eqb-false _ _ (w .1 u h)
-          some u h (inr w) = absurd (omega (arith, w .0, none-is, z .gammaHigh))
+    -- the virtual block with fewest marks is the one with fewest valid frames
+    pub victim-is : (bst wear marks : List ℕ) → marks ≡ marksOf p (boardOf chip ct bt fst bst wear) → (v : ℕ) → ((m : Marks) → marks ≡ tableOf p m → v ≡ leastMarked m r (p .gamma)) → v ≡ victim p vw
+    unfolding marksOf marksOn
+    victim-is bst wear marks e v h = h (marksOn p (boardOf chip ct bt fst bst wear)) e ∙ sym (victim-counted p (a .fine) vw)

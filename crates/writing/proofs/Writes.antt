@@ -4,11 +4,12 @@ use mathlib.Core.Path.{_≡_, refl, sym, ap, ap₂, _∙_}
 use mathlib.Core.Logic.{_⊎_, inl, inr}
 use mathlib.Core.Bool.{Bool, true, false, not, cond}
 use mathlib.Core.List.{List, [], _∷_, _++_}
-use Prim.Native.Nat.{ℕ, _+_, _*_, _≤_, _<_}
+use Prim.Native.Nat.{ℕ, _+_, _-_, _*_, _/_, _≤_, _<_}
 use native.Mathlib.Omega.{arith}
-use native.Mathlib.Nat.{mod-lt, div-lt-iff-lt-mul}
-use lib.Dec.{eqb}
-use borrow.Author.Tests.{eqb-true, not-false}
+use native.Mathlib.Decide.{decLt}
+use native.Mathlib.Nat.{mod-lt, div-lt-iff-lt-mul, div-mul-le-self}
+use lib.Dec.{eqb, ltb}
+use borrow.Author.Tests.{eqb-true, le-ltb, lt-ltb, not-false}
 use lib.ListN.{length}
 use Rattle.lists.proofs.Tests.{so}
 use Rattle.lists.proofs.Searches.{first-spec}
@@ -16,18 +17,24 @@ use Rattle.rules.specs.declared.Params.{Params}
 use Rattle.rules.specs.declared.Answer.{Answer}
 use Rattle.rules.specs.declared.Reply.the-variants.{Accepted}
 use Rattle.rules.specs.Parameters.{frames, blockBytes}
-use Rattle.rules.specs.Numbers.{clusterOf, regionOf, vblockOf}
+use Rattle.rules.specs.Numbers.{clusterOf, placeOf, regionOf, segmentOf, vblockOf}
 use Rattle.rules.specs.Tables.{Board, boardOf, none, btAt, btEntry, fstAt}
-use Rattle.rules.specs.Pages.{block, frame, held}
+use Rattle.rules.specs.Pages.{block, filled, frame, held, programmed}
 use Rattle.rules.specs.Regions.{View, view, viewOf, assigned}
 use Rattle.rules.specs.Traces.{programsIn, erasesIn}
-use Rattle.rules.specs.Write.{Request, requestCluster, requestRegion, Plan, continues, opens, reclaims, hasRoom, lowestUnassigned, victim, planOf, planVBlock, planFrame, copies, freeBlock, eraseOps, planOps, writeOps, written, writtenBy}
+use Rattle.rules.specs.Write.{Request, requestCluster, requestRegion, Plan, continues, opens, reclaims, hasRoom, lowestUnassigned, victim, planOf, planVBlock, planFrame, copies, freeBlock, eraseOps, planOps, withRoom, writeOps, written, writtenBy}
 use Rattle.rules.specs.Replies.{isAccepted, accessReply}
 use Rattle.rules.specs.Calls.{answerOf, accepts, writeCall}
 use Rattle.rules.proofs.Sizes.{Sizes}
 use Rattle.rules.proofs.Isolation.{index-low}
 use Rattle.rules.proofs.Views.{body-some, has-block, block-low, free-block, free-unnamed}
-use Rattle.rules.proofs.RegionFacts.{GoodFrame, Open, Neat, neat}
+use Rattle.rules.proofs.Frames.{erased-not, marked-programmed, seg-place}
+use Rattle.rules.proofs.RegionFacts.{GoodFrame, Open, Neat, filled-le, neat}
+use Rattle.marks.specs.Kept.{putMark, roomMarks, writtenMarks}
+use Rattle.marks.specs.Marks.{Marks, marksLength, marksOf, marksOn, tableOf}
+use Rattle.marks.proofs.Tables.{table-length}
+use Rattle.marks.proofs.WrittenMarks.{written-marks}
+use Rattle.marking.specs.Asked.{MarkAsked}
 use Rattle.rules.proofs.Admitted.{Admitted, admitted}
 use Rattle.rules.proofs.Continues.{Makes}
 use Rattle.rules.proofs.Opens.{free-fresh, fresh-frame}
@@ -35,10 +42,12 @@ use Rattle.rules.proofs.Victims.{good-at}
 use Rattle.rules.proofs.WritePromise.{makes, counts, copies-few, erase-counts}
 use Rattle.choose.specs.Search.{Pool}
 use Rattle.reclaim.specs.Moves.{FromTo}
-use Rattle.reading.specs.Lookup.{Lookup}
-use Rattle.writing.specs.Plans.{PlanAsked}
+use Rattle.reading.specs.Lookup.{Lookup, Stands, Within}
+use Rattle.writing.specs.Plans.{OpenFrames, PlanAsked}
 use Rattle.writing.specs.Rooms.{OpenAsked, ReclaimReady, RoomAsked, RoomMade}
 use Rattle.writing.specs.Clusters.{Standing, ClusterPut, acceptedAnswer, Gives}
+use Rattle.writing.specs.Keeping.{UnmarkAsked, keptMarks}
+use Rattle.writing.proofs.Keeping.{old-is, room-is, unmark-asked}
 use Rattle.writing.proofs.Made as made
 use Rattle.writing.proofs.Put.{lookup}
 
@@ -77,8 +86,9 @@ module _ (p : Params) (b : Board) (q : Request) (e : accessReply p b q ≡ Accep
   pub alpha-few : p .alpha ≤ 16
   alpha-few = z .alphaHigh
 
-  pub ct-length : length (b .ct) ≡ p .C
-  ct-length = acc .tables .ctLength
+  pub marks-long : (marks : List ℕ) → marks ≡ marksOf p b → length marks ≡ marksLength p
+  unfolding marksOf
+  marks-long marks em = rw em (table-length p (marksOn p b))
 
   abbrev r : ℕ
   r = requestRegion p q
@@ -111,6 +121,32 @@ module _ (p : Params) (b : Board) (q : Request) (e : accessReply p b q ≡ Accep
           let h : vblockOf p (vw .lastSeg) < p .gamma = div-lt-iff-lt-mul (z .segments) .1 (w .1 .low) in
           (h, has-block p z b (acc .tables) r _ region-in h (w .1 .has))
 
+  -- the open block's programmed frames, and where the segment of the last begins
+  open-frames : (o : ℕ) → o ≡ vblockOf p (vw .lastSeg) → o < p .gamma → assigned vw o ≡ true → vw .lastSeg ≡ segmentOf p o (filled p (vw .body o) - 1) → OpenFrames p (vw .body o) (vw .lastSeg)
+  open-frames o eo low has last =
+      let w = nt .blocks o low has in
+      let n : filled p (vw .body o) - 1 < frames p = omega (arith, w .0, filled-le p (vw .body o)) in
+      let at : placeOf p (vw .lastSeg) ≡ (filled p (vw .body o) - 1) / p .beta = rw last (seg-place p z o (filled p (vw .body o) - 1) n) in
+      record {
+        front = record { most = filled-le p (vw .body o); are = λ f h. first-test f h (decLt f (filled p (vw .body o))) };
+        from = rw at (omega (arith, w .0, div-mul-le-self (filled p (vw .body o) - 1) (p .beta)));
+      }
+    where
+      first-test : (f : ℕ) → f < frames p → Dec (f < filled p (vw .body o)) → programmed p (frame p (vw .body o) f) ≡ ltb f (filled p (vw .body o))
+      first-test f h (yes a) =
+          rw (lt-ltb f (filled p (vw .body o)) a) (marked-programmed p (frame p (vw .body o) f) _ (((nt .blocks o low has) .1 .front f a h) .marks 0 (z .sectors)))
+      first-test f h (no a) = rw (le-ltb f (filled p (vw .body o)) (omega arith)) (erased-not p (frame p (vw .body o) f) ((nt .blocks o low has) .1 .rest f (omega arith) h))
+
+  first-frames : (fstAt (b .fst) r ≡ none → ⊥) → OpenFrames p (block p (b .chip) (btAt p (b .bt) r (vblockOf p (fstAt (b .fst) r)))) (fstAt (b .fst) r)
+  first-frames ne = rw (← last-is) (go (nt .opened))
+    where
+      go : (((v : ℕ) → v < p .gamma → assigned vw v ≡ false) × (vw .lastSeg ≡ none)) ⊎ (((v : ℕ) × (v < p .gamma) × (assigned vw v ≡ true)) × Open p vw)
+          → OpenFrames p (block p (b .chip) (btAt p (b .bt) r (vblockOf p (vw .lastSeg)))) (vw .lastSeg)
+      go (inl w) = absurd (ne (sym last-is ∙ w .1))
+      go (inr w) =
+          let h : vblockOf p (vw .lastSeg) < p .gamma = div-lt-iff-lt-mul (z .segments) .1 (w .1 .low) in
+          rw (body-some p z b (acc .tables) r _ region-in h (has-block p z b (acc .tables) r _ region-in h (w .1 .has))) at (open-frames _ refl h (w .1 .has) (w .1 .last))
+
   pub plan-asked : (r′ : ℕ) → r′ ≡ r → PlanAsked p (b .chip) (b .bt) (b .fst) r′
   plan-asked r′ er =
       record {
@@ -121,6 +157,7 @@ module _ (p : Params) (b : Board) (q : Request) (e : accessReply p b q ≡ Accep
         low = rw er region-in;
         names = λ v h. unfold btAt in acc .tables .names (r′ * p .gamma + v) (index-low p r′ v (rw er region-in) h);
         opened = rw er opened;
+        first = rw er first-frames;
       }
 
   pool : Pool p (b .bst) (b .wear)
@@ -157,10 +194,11 @@ module _ (p : Params) (b : Board) (q : Request) (e : accessReply p b q ≡ Accep
           good = λ f m. rw (acc .tables .ctLength) ((good f m) .low);
         }
 
-  pub room-asked : (r′ : ℕ) → r′ ≡ r → (pl : Plan) → pl ≡ planOf p (viewOf p (b .chip) (b .ct) (b .bt) (b .fst) r′) → RoomAsked p (b .chip) (b .ct) (b .bt) (b .bst) (b .wear) r′ pl
-  room-asked r′ er pl ep = rw er (go pl (rw er at ep))
+  pub room-asked : (r′ : ℕ) → r′ ≡ r → (pl : Plan) → pl ≡ planOf p (viewOf p (b .chip) (b .ct) (b .bt) (b .fst) r′) → (marks : List ℕ) → length marks ≡ marksLength p
+      → RoomAsked p (b .chip) (b .ct) (b .bt) (b .bst) (b .wear) marks r′ pl
+  room-asked r′ er pl ep marks long = rw er (go pl (rw er at ep))
     where
-      go : (pl : Plan) → pl ≡ planOf p vw → RoomAsked p (b .chip) (b .ct) (b .bt) (b .bst) (b .wear) r pl
+      go : (pl : Plan) → pl ≡ planOf p vw → RoomAsked p (b .chip) (b .ct) (b .bt) (b .bst) (b .wear) marks r pl
       go (continues v f) k = tt
       go (opens v) k =
           let mk : Makes p b r (opens v) = rw (← k) at all-make in
@@ -168,7 +206,7 @@ module _ (p : Params) (b : Board) (q : Request) (e : accessReply p b q ≡ Accep
       go (reclaims v) k =
           let mk : Makes p b r (reclaims v) = rw (← k) at all-make in
           let h : v < p .gamma = unfold planVBlock in mk .base .ready .mine in
-          record { taking = open-asked v h; ctLength = acc .tables .ctLength; blocks = from-to v h (reclaiming p vw v (sym k)) }
+          record { taking = open-asked v h; words = record { fine = acc .fine; long = long; region = region-in; vblock = h }; blocks = from-to v h (reclaiming p vw v (sym k)) }
 
   -- ---- what the write leaves
 
@@ -211,3 +249,28 @@ module _ (p : Params) (b : Board) (q : Request) (e : accessReply p b q ≡ Accep
         → Gives (writeCall p b q) a (boardOf chip ct bt₁ fst bst₁ wear₁)
     unfolding writeCall accepts isAccepted
     gives chip ct fst a x y = record { answer = y ∙ answer-is ∙ rw e; board = board-is chip ct fst x ∙ rw e }
+
+    -- ---- and the marks
+
+    pub mark-asked : (marks : List ℕ) → length marks ≡ marksLength p → MarkAsked p marks r′ v f
+    mark-asked marks long =
+        rw (er, m-r .vblock, m-r .frame)
+        (record { words = record { fine = acc .fine; long = long; region = region-in; vblock = mk .base .ready .mine }; frame = omega (arith, mk .base .ready .low, z .short) })
+
+    module _ (c kept-fr : ℕ) (ec : c ≡ requestCluster p q) (kept : Bool) (u g : ℕ) (s : Stands p chip₁ ct₁ bt₁ c kept kept-fr) (w : Within p chip₁ ct₁ bt₁ c kept u g) where
+      pub old-asked : (marks : List ℕ) → length marks ≡ marksLength p → UnmarkAsked p marks r′ kept u g
+      old-asked marks long = unmark-asked p chip₁ ct₁ bt₁ c (lookup-made c ec) kept kept-fr u g s w marks long r′ (er ∙ rw ec)
+
+      -- the view with room is the one that the lookup went by
+      view-made : viewOf p chip₁ ct₁ bt₁ (b .fst) r ≡ withRoom p vw pl
+      view-made = rw (m-r .chipIs, m-r .ctIs, m-r .btIs) (made.view-is p b q acc pl mk)
+
+      kept-are : (m : Marks) → keptMarks m r′ v f copied erases kept u g ≡ writtenMarks p b q m
+      unfolding writtenMarks
+      kept-are m =
+          let old = old-is p chip₁ ct₁ bt₁ c (lookup-made c ec) kept kept-fr u g s w (b .fst) (roomMarks p vw r pl m) in
+          rw (er, room-is p b r pl v copied erases (m-r .vblock) (m-r .count) (m-r .erases) m, ← ep-r, ← view-made, m-r .vblock, m-r .frame) (ap (λ (k : Marks). putMark k r (planVBlock pl) (planFrame p vw pl) true) (rw ec at old))
+
+      pub marks-kept : (marks marks′ : List ℕ) → marks ≡ marksOf p b → ((m : Marks) → marks ≡ tableOf p m → marks′ ≡ tableOf p (keptMarks m r′ v f copied erases kept u g)) → marks′ ≡ marksOf p (written p b q)
+      unfolding marksOf
+      marks-kept marks marks′ em h = h (marksOn p b) em ∙ ap (tableOf p) (kept-are (marksOn p b)) ∙ sym (written-marks p b q e)

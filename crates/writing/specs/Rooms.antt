@@ -7,9 +7,10 @@ use Prim.Native.Nat.{ℕ, _+_, _*_, _<_}
 use lib.ListN.{length, set}
 use Rattle.rules.specs.declared.Params.{Params}
 use Rattle.rules.specs.Tables.{Board, btAt}
-use Rattle.rules.specs.Regions.{View, view}
+use Rattle.rules.specs.Regions.{view}
 use Rattle.rules.specs.Traces.{erase, erasesIn, replayChip, replayWear, framesOps}
 use Rattle.rules.specs.Write.{Plan, continues, opens, reclaims, planVBlock, planFrame, copies, freeBlock, planBlock, eraseOps, roomOps, followCt, planBst}
+use Rattle.marking.specs.Asked.{WordsAsked}
 use Rattle.choose.specs.Search.{Pool}
 use Rattle.reclaim.specs.Moves.{FromTo, Reclaimed}
 
@@ -27,22 +28,22 @@ pub record Opened (p : Params) (bt bst wear : List ℕ) (r v : ℕ) (bt′ bst�
   pub bstIs : bst′ ≡ set bst (freeBlock p bst wear) 1
 
 -- and virtual block v has another block, whose frames can be copied there
-pub record ReclaimReady (p : Params) (chip ct bt bst wear : List ℕ) (r v : ℕ) : Type 0 where
+pub record ReclaimReady (p : Params) (chip ct bt bst wear marks : List ℕ) (r v : ℕ) : Type 0 where
   pub taking : OpenAsked p bt bst wear r v
-  pub ctLength : length ct ≡ p .C
+  pub words : WordsAsked p marks r v
   pub blocks : FromTo p chip ct (btAt p bt r v) (freeBlock p bst wear) v
 
--- its frames that are valid in the view are copied, it is erased and free, and BT names the other, which is used
-pub record BlockReclaimed (p : Params) (chip ct bt bst wear : List ℕ) (r v : ℕ) (vw : View) (chip′ ct′ bt′ bst′ wear′ : List ℕ) (k : ℕ) : Type 0 where
-  pub moved : Reclaimed p chip ct wear (btAt p bt r v) (freeBlock p bst wear) v (copies p vw (reclaims v)) chip′ ct′ wear′ k
+-- the frames xs, which are its marked ones, are copied, it is erased and free, and BT names the other, which is used
+pub record BlockReclaimed (p : Params) (chip ct bt bst wear : List ℕ) (r v : ℕ) (xs : List (List ℕ)) (chip′ ct′ bt′ bst′ wear′ : List ℕ) (k : ℕ) : Type 0 where
+  pub moved : Reclaimed p chip ct wear (btAt p bt r v) (freeBlock p bst wear) v xs chip′ ct′ wear′ k
   pub btIs : bt′ ≡ set bt (r * p .gamma + v) (freeBlock p bst wear)
   pub bstIs : bst′ ≡ set (set bst (freeBlock p bst wear) 1) (btAt p bt r v) 0
 
 -- by the plan
-abbrev pub RoomAsked : Params → List ℕ → List ℕ → List ℕ → List ℕ → List ℕ → ℕ → Plan → Type 0
-RoomAsked p chip ct bt bst wear r (continues v f) = Unit {0}
-RoomAsked p chip ct bt bst wear r (opens v) = OpenAsked p bt bst wear r v
-RoomAsked p chip ct bt bst wear r (reclaims v) = ReclaimReady p chip ct bt bst wear r v
+abbrev pub RoomAsked : Params → List ℕ → List ℕ → List ℕ → List ℕ → List ℕ → List ℕ → ℕ → Plan → Type 0
+RoomAsked p chip ct bt bst wear marks r (continues v f) = Unit {0}
+RoomAsked p chip ct bt bst wear marks r (opens v) = OpenAsked p bt bst wear r v
+RoomAsked p chip ct bt bst wear marks r (reclaims v) = ReclaimReady p chip ct bt bst wear marks r v
 
 -- the plan's room: the rules' operations are made, and the tables follow
 pub record RoomMade (p : Params) (b : Board) (r : ℕ) (pl : Plan) (v f copied erased : ℕ) (chip′ ct′ bt′ bst′ wear′ : List ℕ) : Type 0 where

@@ -1,9 +1,7 @@
 -- `bench::answer`: by the line; each call leaves the board that the line's turn says.
 -- Assumes nothing.
-use mathlib.Core.Path.{sym}
 use borrow.Author.Needs.{needs}
-use Rattle.lines.specs.Session.{turn}
-use Rattle.bench.proofs.Turns.{read-keeps}
+use Rattle.bench.proofs.Turns.{other-turned, read-turned}
 use Rattle.bench.proofs.answer.Statement.{statement}
 use Rattle.bench.proofs.answer.Tie as tie
 
@@ -43,11 +41,11 @@ same-length-5 c = search needs
 same-length-6 : tie.Need-same-length-6
 same-length-6 c = search needs
 
-returns : tie.Need-returns
-returns c = rw (c .before .before .before .before .before .before .before .before .before .before .before .before .before .before .before .before .before .before .before .before .line .given .1) (c .before .before .before .before .before .before .before .before .before .before .before .before .write .ensures)
-
 same-length-7 : tie.Need-same-length-7
 same-length-7 c = search needs
+
+returns : tie.Need-returns
+returns c = rw (c .before .before .before .before .before .before .before .before .before .before .before .before .before .before .before .before .before .before .before .before .before .before .before .line .given .1) (c .before .before .before .before .before .before .before .before .before .before .before .before .before .before .write .ensures)
 
 same-length-8 : tie.Need-same-length-8
 same-length-8 c = search needs
@@ -64,13 +62,17 @@ same-length-11 c = search needs
 same-length-12 : tie.Need-same-length-12
 same-length-12 c = search needs
 
+same-length-13 : tie.Need-same-length-13
+same-length-13 c = search needs
+
+same-length-14 : tie.Need-same-length-14
+same-length-14 c = search needs
+
 returns-2 : tie.Need-returns-2
-unfolding turn
-returns-2 c = rw (c .before .before .before .before .before .before .before .before .line2 .given .1) (sym (read-keeps _ _ _))
+returns-2 c = rw (c .before .before .before .before .before .before .before .before .before .line2 .given .1) (read-turned _ _ _ _)
 
 returns-3 : tie.Need-returns-3
-unfolding turn
-returns-3 c = rw (c .before .enum-told .given .1)
+returns-3 c = rw (c .before .enum-told .given .1) (other-turned _ _)
 
 pub answer-spec : {M : Type 1} → statement M
 answer-spec =
@@ -88,12 +90,14 @@ answer-spec =
     same-length-4
     same-length-5
     same-length-6
-    returns
     same-length-7
+    returns
     same-length-8
     same-length-9
     same-length-10
     same-length-11
     same-length-12
+    same-length-13
+    same-length-14
     returns-2
     returns-3)

@@ -1,8 +1,7 @@
 -- `bench::start`: the format of Board T.
 -- Assumes nothing.
-use mathlib.Core.Path.{ap}
 use borrow.Author.Needs.{needs}
-use Rattle.rules.specs.Calls.{Outcome}
+use Rattle.bench.proofs.Turns.{started}
 use Rattle.bench.proofs.start.Statement.{statement}
 use Rattle.bench.proofs.start.Tie as tie
 
@@ -33,8 +32,11 @@ same-length-5 c = search needs
 same-length-6 : tie.Need-same-length-6
 same-length-6 c = search needs
 
+same-length-7 : tie.Need-same-length-7
+same-length-7 c = search needs
+
 returns : tie.Need-returns
-returns c = rw (c .before .before .before .before .before .before .before .before .before .before .before .before .before .before .before .before .before .before .before .before .board .ensures) at (ap (λ (o : Outcome). o .board) (c .before .before .before .before .before .before .before .before .before .before .before .before .before .format .ensures))
+returns c = started _ _ _ _ (c .before .before .before .before .before .before .before .before .before .before .before .before .before .before .before .before .before .before .before .before .before .before .before .before .before .before .before .before .before .before .before .pre) (rw (c .before .before .before .before .before .before .before .before .before .before .before .before .before .before .before .before .before .before .before .before .before .before .before .board .ensures) at (c .before .before .before .before .before .before .before .before .before .before .before .before .before .before .before .format .ensures))
 
 pub start-spec : {M : Type 1} → statement M
 start-spec =
@@ -49,4 +51,5 @@ start-spec =
     same-length-4
     same-length-5
     same-length-6
+    same-length-7
     returns)

@@ -8,10 +8,10 @@ use Rattle.bench.proofs.take_input.Statement.{statement}
 use Rattle.bench.proofs.take_input.Tie as tie
 
 abbrev Inv-loop : tie.InvT-loop
-Inv-loop chip₀ ct₀ bt₀ fst₀ bst₀ wear₀ held₀ chunk₀ turns₀ chip ct bt fst bst wear held chunk turns = (length chip ≡ length chip₀) × (length ct ≡ length ct₀) × (length bt ≡ length bt₀) × (length fst ≡ length fst₀) × (length bst ≡ length bst₀) × (length wear ≡ length wear₀)
+Inv-loop chip₀ ct₀ bt₀ fst₀ bst₀ wear₀ marks₀ held₀ chunk₀ turns₀ chip ct bt fst bst wear marks held chunk turns = (length chip ≡ length chip₀) × (length ct ≡ length ct₀) × (length bt ≡ length bt₀) × (length fst ≡ length fst₀) × (length bst ≡ length bst₀) × (length wear ≡ length wear₀) × (length marks ≡ length marks₀)
 
 abbrev μ-loop : tie.MeasureT-loop
-μ-loop chip₀ ct₀ bt₀ fst₀ bst₀ wear₀ held₀ chunk₀ turns₀ chip ct bt fst bst wear held chunk turns = turns
+μ-loop chip₀ ct₀ bt₀ fst₀ bst₀ wear₀ marks₀ held₀ chunk₀ turns₀ chip ct bt fst bst wear marks held chunk turns = turns
 
 none-requires : tie.Need-none-requires Inv-loop μ-loop
 none-requires c κs = search needs
@@ -23,7 +23,7 @@ slice-aggregate-chunk : tie.Need-slice-aggregate-chunk Inv-loop μ-loop
 slice-aggregate-chunk c = search needs
 
 loop-holds : tie.Need-loop-holds Inv-loop μ-loop
-loop-holds c = (refl, refl, refl, refl, refl, refl)
+loop-holds c = (refl, refl, refl, refl, refl, refl, refl)
 
 read-requires : tie.Need-read-requires Inv-loop μ-loop
 read-requires c κs = search needs
@@ -49,6 +49,9 @@ same-length-5 c = c .before .before .before .before .before .before .before .bef
 same-length-6 : tie.Need-same-length-6 Inv-loop μ-loop
 same-length-6 c = c .before .before .before .before .before .before .before .before .before .loop .inv .5
 
+same-length-7 : tie.Need-same-length-7 Inv-loop μ-loop
+same-length-7 c = c .before .before .before .before .before .before .before .before .before .loop .inv .6
+
 returns : tie.Need-returns Inv-loop μ-loop
 returns c = search needs
 
@@ -62,33 +65,36 @@ take-all-requires : tie.Need-take-all-requires Inv-loop μ-loop
 take-all-requires c κs = search needs
 
 sub-turns : tie.Need-sub-turns Inv-loop μ-loop
-sub-turns c = omega (arith, c .before .before .before .before .before .before .before .before .before .before .before .before .before .before .before .before .before .before .before .before .before .before .before .before .before .before .before .loop-test .taken)
+sub-turns c = omega (arith, c .before .before .before .before .before .before .before .before .before .before .before .before .before .before .before .before .before .before .before .before .before .before .before .before .before .before .before .before .before .before .loop-test .taken)
 
 loop-less : tie.Need-loop-less Inv-loop μ-loop
-loop-less c = omega (arith, c .before .before .before .before .before .before .before .before .before .before .before .before .before .before .before .before .before .before .before .before .before .before .before .before .before .before .before .loop-test .taken)
+loop-less c = omega (arith, c .before .before .before .before .before .before .before .before .before .before .before .before .before .before .before .before .before .before .before .before .before .before .before .before .before .before .before .before .before .before .loop-test .taken)
 
 loop-again : tie.Need-loop-again Inv-loop μ-loop
-loop-again c = let w = c .before .before .before .before .before .before .before .before .before .before .before .before .before .before .before .before .before .before .before .before .before .before .before .before .before .before .before .before .loop .inv in
-    let k = c .before .before .before .before .before .before .before .before .before .before .before .before .take-all .kept in
-    (k .0 ∙ w .0, k .1 .0 ∙ w .1, k .1 .1 .0 ∙ w .2, k .1 .1 .1 .0 ∙ w .3, k .1 .1 .1 .1 .0 ∙ w .4, k .1 .1 .1 .1 .1 .0 ∙ w .5)
-
-same-length-7 : tie.Need-same-length-7 Inv-loop μ-loop
-same-length-7 c = c .before .before .loop .inv .0
+loop-again c = let w = c .before .before .before .before .before .before .before .before .before .before .before .before .before .before .before .before .before .before .before .before .before .before .before .before .before .before .before .before .before .before .before .loop .inv in
+    let k = c .before .before .before .before .before .before .before .before .before .before .before .before .before .before .take-all .kept in
+    (k .0 ∙ w .0, k .1 .0 ∙ w .1, k .1 .1 .0 ∙ w .2, k .1 .1 .1 .0 ∙ w .3, k .1 .1 .1 .1 .0 ∙ w .4, k .1 .1 .1 .1 .1 .0 ∙ w .5, k .1 .1 .1 .1 .1 .1 .0 ∙ w .6)
 
 same-length-8 : tie.Need-same-length-8 Inv-loop μ-loop
-same-length-8 c = c .before .before .loop .inv .1
+same-length-8 c = c .before .before .loop .inv .0
 
 same-length-9 : tie.Need-same-length-9 Inv-loop μ-loop
-same-length-9 c = c .before .before .loop .inv .2
+same-length-9 c = c .before .before .loop .inv .1
 
 same-length-10 : tie.Need-same-length-10 Inv-loop μ-loop
-same-length-10 c = c .before .before .loop .inv .3
+same-length-10 c = c .before .before .loop .inv .2
 
 same-length-11 : tie.Need-same-length-11 Inv-loop μ-loop
-same-length-11 c = c .before .before .loop .inv .4
+same-length-11 c = c .before .before .loop .inv .3
 
 same-length-12 : tie.Need-same-length-12 Inv-loop μ-loop
-same-length-12 c = c .before .before .loop .inv .5
+same-length-12 c = c .before .before .loop .inv .4
+
+same-length-13 : tie.Need-same-length-13 Inv-loop μ-loop
+same-length-13 c = c .before .before .loop .inv .5
+
+same-length-14 : tie.Need-same-length-14 Inv-loop μ-loop
+same-length-14 c = c .before .before .loop .inv .6
 
 returns-2 : tie.Need-returns-2 Inv-loop μ-loop
 returns-2 c = search needs
@@ -111,6 +117,7 @@ take-input-spec =
     same-length-4
     same-length-5
     same-length-6
+    same-length-7
     returns
     slice-reshare-prefix-take-all
     slice-aggregate-take-all
@@ -118,10 +125,11 @@ take-input-spec =
     sub-turns
     loop-less
     loop-again
-    same-length-7
     same-length-8
     same-length-9
     same-length-10
     same-length-11
     same-length-12
+    same-length-13
+    same-length-14
     returns-2)

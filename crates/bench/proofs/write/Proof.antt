@@ -1,14 +1,13 @@
 -- `bench::write`: the part that is lent is within the cluster's bytes, and is what the line's turn asks to be written.
 -- Assumes nothing.
-use mathlib.Core.Path.{ap, sym, _∙_}
+use mathlib.Core.Path.{sym}
 use Prim.Native.Nat.{_≤_}
 use lib.ListN.{length, length-replicate}
 use lib.Seq.{length-take-le}
 use native.Mathlib.Omega.{arith}
 use borrow.Author.Needs.{needs}
-use Rattle.rules.specs.Calls.{Outcome, writeCall}
-use Rattle.lines.specs.Session.{requested, turn}
-use Rattle.bench.proofs.Turns.{sent}
+use Rattle.lines.specs.Session.{requested}
+use Rattle.bench.proofs.Turns.{sent, write-turned}
 use Rattle.bench.proofs.write.Statement.{statement}
 use Rattle.bench.proofs.write.Tie as tie
 
@@ -25,7 +24,7 @@ array-share-prefix-bytes : tie.Need-array-share-prefix-bytes
 array-share-prefix-bytes c = search needs
 
 slice-aggregate-write : tie.Need-slice-aggregate-write
-slice-aggregate-write c = sym (length-take-le _ _ (rw (c .before .before .before .before .before .before .before .before .before .filled .ensures, c .before .before .before .before .before .before .before .before .lent .ensures, length-replicate) (omega arith)))
+slice-aggregate-write c = sym (length-take-le _ _ (rw (c .before .before .before .before .before .before .before .before .before .before .filled .ensures, c .before .before .before .before .before .before .before .before .before .lent .ensures, length-replicate) (omega arith)))
 
 write-requires : tie.Need-write-requires
 write-requires c κs = search needs
@@ -51,9 +50,14 @@ same-length-5 c = search needs
 same-length-6 : tie.Need-same-length-6
 same-length-6 c = search needs
 
+same-length-7 : tie.Need-same-length-7
+same-length-7 c = search needs
+
 returns : tie.Need-returns
-unfolding turn requested
-returns c = rw (c .before .before .before .before .before .before .before .before .before .before .before .before .before .before .before .before .before .before .before .before .before .board .ensures, sent _ _ _ _ (c .before .before .before .before .before .before .before .before .before .before .before .before .before .before .before .before .before .before .before .before .before .before .lent .ensures) (c .before .before .before .before .before .before .before .before .before .before .before .before .before .before .before .before .before .before .before .before .before .before .before .filled .ensures)) at (ap (λ (o : Outcome). o .board) (c .before .before .before .before .before .before .before .before .before .before .before .before .before .write .ensures))
+unfolding requested
+returns c =
+    write-turned _ _ _ _ _ _ _
+    (rw (c .before .before .before .before .before .before .before .before .before .before .before .before .before .before .before .before .before .before .before .before .before .before .before .before .board .ensures, sent _ _ _ _ (c .before .before .before .before .before .before .before .before .before .before .before .before .before .before .before .before .before .before .before .before .before .before .before .before .before .lent .ensures) (c .before .before .before .before .before .before .before .before .before .before .before .before .before .before .before .before .before .before .before .before .before .before .before .before .before .before .filled .ensures)) at (c .before .before .before .before .before .before .before .before .before .before .before .before .before .before .before .write .ensures))
 
 pub write-spec : {M : Type 1} → statement M
 write-spec =
@@ -72,4 +76,5 @@ write-spec =
     same-length-4
     same-length-5
     same-length-6
+    same-length-7
     returns)

@@ -2,7 +2,7 @@
 -- Assumes nothing.
 use borrow.Author.Needs.{needs}
 use Rattle.rules.specs.Tables.{Board, boardOf}
-use Rattle.cnftl.proofs.Words.{release-few, release-given}
+use Rattle.cnftl.proofs.Words.{few, given}
 use Rattle.cnftl.proofs.cnftl_release.Statement.{statement}
 use Rattle.cnftl.proofs.cnftl_release.Tie as tie
 
@@ -16,13 +16,16 @@ release-requires : tie.Need-release-requires
 release-requires c κs = search needs
 
 pack-requires : tie.Need-pack-requires
-pack-requires c κs = release-few _ _ (c .before .before .before .before .params .ensures) _ _ (board (c .before .before .before .before .before .before .before .before .before .before .before)) _ _ (c .before .before .release .ensures)
+pack-requires c κs = few _ _ (c .before .before .before .before .before .before .before .params .ensures) _ _ (board (c .before .before .before .before .before .before .before .before .before .before .before .before .before .before .before)) _ _ _ _ (c .before .before .before .before .release .ensures)
 
 same-length : tie.Need-same-length
-same-length c = search needs
+same-length c = c .before .before .before .before .ct .given
+
+same-length-2 : tie.Need-same-length-2
+same-length-2 c = c .before .before .marks .given
 
 returns : tie.Need-returns
-returns c = release-given _ _ (c .before .before .before .before .before .params .ensures) _ _ (board (c .before .before .before .before .before .before .before .before .before .before .before .before)) _ _ (c .before .before .before .release .ensures) _ (c .pack .ensures)
+returns c = given _ _ (c .before .before .before .before .before .before .before .before .params .ensures) _ _ (board (c .before .before .before .before .before .before .before .before .before .before .before .before .before .before .before .before)) _ _ _ _ (c .before .before .before .before .before .release .ensures) _ (c .pack .ensures)
 
 pub cnftl-release-spec : {M : Type 1} → statement M
-cnftl-release-spec = tie.close (tie.spec params-requires release-requires pack-requires same-length returns)
+cnftl-release-spec = tie.close (tie.spec params-requires release-requires pack-requires same-length same-length-2 returns)

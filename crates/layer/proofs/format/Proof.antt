@@ -1,11 +1,13 @@
--- `layer::format`: refused by the reply's number, or every block formatted and every entry cleared.
+-- `layer::format`: refused by the reply's number, or every block formatted, every entry cleared and every mark gone.
 -- Assumes nothing.
-use mathlib.Core.Path.{refl}
 use borrow.Author.Needs.{needs}
-use Rattle.rules.specs.Tables.{boardOf}
-use Rattle.layer.proofs.Calls.{format-refused, blocks-asked, few, format-done}
+use Rattle.rules.specs.Tables.{Board, boardOf}
+use Rattle.layer.proofs.Calls.{format-is, format-refused, blocks-asked, few, format-done}
 use Rattle.layer.proofs.format.Statement.{statement}
 use Rattle.layer.proofs.format.Tie as tie
+
+abbrev board : tie.Start → Board
+board a = boardOf (a .args .chip .now) (a .args .ct .now) (a .args .bt .now) (a .args .fst .now) (a .args .bst .now) (a .args .wear .now)
 
 format-reply-requires : tie.Need-format-reply-requires
 format-reply-requires c κs = search needs
@@ -34,8 +36,11 @@ same-length-5 c = search needs
 same-length-6 : tie.Need-same-length-6
 same-length-6 c = search needs
 
+same-length-7 : tie.Need-same-length-7
+same-length-7 c = search needs
+
 returns : tie.Need-returns
-returns c = format-refused _ (boardOf (c .before .before .before .before .before .before .before .before .before .before .before .before .before .before .before .before .args .chip .now) (c .before .before .before .before .before .before .before .before .before .before .before .before .before .before .before .before .args .ct .now) (c .before .before .before .before .before .before .before .before .before .before .before .before .before .before .before .before .args .bt .now) (c .before .before .before .before .before .before .before .before .before .before .before .before .before .before .before .before .args .fst .now) (c .before .before .before .before .before .before .before .before .before .before .before .before .before .before .before .before .args .bst .now) (c .before .before .before .before .before .before .before .before .before .before .before .before .before .before .before .before .args .wear .now)) _ (c .before .before .before .format-reply .ensures) _ (c .before .before .number .ensures) (c .before .if1 .taken) _ (c .idle .ensures)
+returns c = format-refused _ (board (c .before .before .before .before .before .before .before .before .before .before .before .before .before .before .before .before .before .before)) _ _ (c .before .before .before .format-reply .ensures) _ (c .before .before .number .ensures) (c .before .if1 .taken) _ (c .idle .ensures)
 
 clear-requires : tie.Need-clear-requires
 clear-requires c κs = search needs
@@ -46,14 +51,14 @@ clear-requires-2 c κs = search needs
 clear-requires-3 : tie.Need-clear-requires-3
 clear-requires-3 c κs = search needs
 
+clear-all-requires : tie.Need-clear-all-requires
+clear-all-requires c κs = search needs
+
 format-blocks-requires : tie.Need-format-blocks-requires
-format-blocks-requires c κs = blocks-asked _ (boardOf (c .before .before .before .before .before .before .before .before .before .before .before .before .before .before .before .before .before .before .before .before .before .before .before .before .before .before .before .before .before .before .args .chip .now) (c .before .before .before .before .before .before .before .before .before .before .before .before .before .before .before .before .before .before .before .before .before .before .before .before .before .before .before .before .before .before .args .ct .now) (c .before .before .before .before .before .before .before .before .before .before .before .before .before .before .before .before .before .before .before .before .before .before .before .before .before .before .before .before .before .before .args .bt .now) (c .before .before .before .before .before .before .before .before .before .before .before .before .before .before .before .before .before .before .before .before .before .before .before .before .before .before .before .before .before .before .args .fst .now) (c .before .before .before .before .before .before .before .before .before .before .before .before .before .before .before .before .before .before .before .before .before .before .before .before .before .before .before .before .before .before .args .bst .now) (c .before .before .before .before .before .before .before .before .before .before .before .before .before .before .before .before .before .before .before .before .before .before .before .before .before .before .before .before .before .before .args .wear .now)) _ (c .before .before .before .before .before .before .before .before .before .before .before .before .before .before .before .before .before .format-reply .ensures) _ (c .before .before .before .before .before .before .before .before .before .before .before .before .before .before .before .before .number .ensures) (c .before .before .before .before .before .before .before .before .before .before .before .before .before .before .before .if1 .left)
+format-blocks-requires c κs = blocks-asked _ (board (c .before .before .before .before .before .before .before .before .before .before .before .before .before .before .before .before .before .before .before .before .before .before .before .before .before .before .before .before .before .before .before .before .before .before .before .before)) (format-is _ (board (c .before .before .before .before .before .before .before .before .before .before .before .before .before .before .before .before .before .before .before .before .before .before .before .before .before .before .before .before .before .before .before .before .before .before .before .before)) _ _ (c .before .before .before .before .before .before .before .before .before .before .before .before .before .before .before .before .before .before .before .before .before .format-reply .ensures) _ (c .before .before .before .before .before .before .before .before .before .before .before .before .before .before .before .before .before .before .before .before .number .ensures) (c .before .before .before .before .before .before .before .before .before .before .before .before .before .before .before .before .before .before .before .if1 .left))
 
-cast-t22 : tie.Need-cast-t22
-cast-t22 c = record { fits = few _ (boardOf (c .before .before .before .before .before .before .before .before .before .before .before .before .before .before .before .before .before .before .before .before .before .before .before .before .before .before .before .before .before .before .before .before .before .before .before .before .before .args .chip .now) (c .before .before .before .before .before .before .before .before .before .before .before .before .before .before .before .before .before .before .before .before .before .before .before .before .before .before .before .before .before .before .before .before .before .before .before .before .before .args .ct .now) (c .before .before .before .before .before .before .before .before .before .before .before .before .before .before .before .before .before .before .before .before .before .before .before .before .before .before .before .before .before .before .before .before .before .before .before .before .before .args .bt .now) (c .before .before .before .before .before .before .before .before .before .before .before .before .before .before .before .before .before .before .before .before .before .before .before .before .before .before .before .before .before .before .before .before .before .before .before .before .before .args .fst .now) (c .before .before .before .before .before .before .before .before .before .before .before .before .before .before .before .before .before .before .before .before .before .before .before .before .before .before .before .before .before .before .before .before .before .before .before .before .before .args .bst .now) (c .before .before .before .before .before .before .before .before .before .before .before .before .before .before .before .before .before .before .before .before .before .before .before .before .before .before .before .before .before .before .before .before .before .before .before .before .before .args .wear .now)) _ (c .before .before .before .before .before .before .before .before .before .before .before .before .before .before .before .before .before .before .before .before .before .before .before .before .format-reply .ensures) _ (c .before .before .before .before .before .before .before .before .before .before .before .before .before .before .before .before .before .before .before .before .before .before .before .number .ensures) (c .before .before .before .before .before .before .before .before .before .before .before .before .before .before .before .before .before .before .before .before .before .before .if1 .left) _ (c .before .before .before .before .before .before .format-blocks .ensures .few) }
-
-same-length-7 : tie.Need-same-length-7
-same-length-7 c = search needs
+cast-t25 : tie.Need-cast-t25
+cast-t25 c = record { fits = few _ (board (c .before .before .before .before .before .before .before .before .before .before .before .before .before .before .before .before .before .before .before .before .before .before .before .before .before .before .before .before .before .before .before .before .before .before .before .before .before .before .before .before .before .before .before)) (format-is _ (board (c .before .before .before .before .before .before .before .before .before .before .before .before .before .before .before .before .before .before .before .before .before .before .before .before .before .before .before .before .before .before .before .before .before .before .before .before .before .before .before .before .before .before .before)) _ _ (c .before .before .before .before .before .before .before .before .before .before .before .before .before .before .before .before .before .before .before .before .before .before .before .before .before .before .before .before .format-reply .ensures) _ (c .before .before .before .before .before .before .before .before .before .before .before .before .before .before .before .before .before .before .before .before .before .before .before .before .before .before .before .number .ensures) (c .before .before .before .before .before .before .before .before .before .before .before .before .before .before .before .before .before .before .before .before .before .before .before .before .before .before .if1 .left)) _ (c .before .before .before .before .before .before .format-blocks .ensures .few) }
 
 same-length-8 : tie.Need-same-length-8
 same-length-8 c = search needs
@@ -70,32 +75,14 @@ same-length-11 c = search needs
 same-length-12 : tie.Need-same-length-12
 same-length-12 c = search needs
 
+same-length-13 : tie.Need-same-length-13
+same-length-13 c = search needs
+
+same-length-14 : tie.Need-same-length-14
+same-length-14 c = search needs
+
 returns-2 : tie.Need-returns-2
-returns-2 c = format-done _ (boardOf (c .before .before .before .before .before .before .before .before .before .before .before .before .before .before .before .before .before .before .before .before .before .before .before .before .before .before .before .before .before .before .before .before .before .before .before .before .before .args .chip .now) (c .before .before .before .before .before .before .before .before .before .before .before .before .before .before .before .before .before .before .before .before .before .before .before .before .before .before .before .before .before .before .before .before .before .before .before .before .before .args .ct .now) (c .before .before .before .before .before .before .before .before .before .before .before .before .before .before .before .before .before .before .before .before .before .before .before .before .before .before .before .before .before .before .before .before .before .before .before .before .before .args .bt .now) (c .before .before .before .before .before .before .before .before .before .before .before .before .before .before .before .before .before .before .before .before .before .before .before .before .before .before .before .before .before .before .before .before .before .before .before .before .before .args .fst .now) (c .before .before .before .before .before .before .before .before .before .before .before .before .before .before .before .before .before .before .before .before .before .before .before .before .before .before .before .before .before .before .before .before .before .before .before .before .before .args .bst .now) (c .before .before .before .before .before .before .before .before .before .before .before .before .before .before .before .before .before .before .before .before .before .before .before .before .before .before .before .before .before .before .before .before .before .before .before .before .before .args .wear .now)) _ (c .before .before .before .before .before .before .before .before .before .before .before .before .before .before .before .before .before .before .before .before .before .before .before .before .format-reply .ensures) _ (c .before .before .before .before .before .before .before .before .before .before .before .before .before .before .before .before .before .before .before .before .before .before .before .number .ensures) (c .before .before .before .before .before .before .before .before .before .before .before .before .before .before .before .before .before .before .before .before .before .before .if1 .left) _ _ _ _ _ _ _ (c .before .before .before .before .before .before .before .before .before .before .before .before .before .before .before .before .before .before .before .before .clear .ensures) (c .before .before .before .before .before .before .before .before .before .before .before .before .before .before .before .before .clear2 .ensures) (c .before .before .before .before .before .before .before .before .before .before .before .before .clear3 .ensures) (c .before .before .before .before .before .before .format-blocks .ensures)
+returns-2 c = format-done _ (board (c .before .before .before .before .before .before .before .before .before .before .before .before .before .before .before .before .before .before .before .before .before .before .before .before .before .before .before .before .before .before .before .before .before .before .before .before .before .before .before .before .before .before .before)) _ _ (c .before .before .before .before .before .before .before .before .before .before .before .before .before .before .before .before .before .before .before .before .before .before .before .before .before .before .before .before .format-reply .ensures) _ (c .before .before .before .before .before .before .before .before .before .before .before .before .before .before .before .before .before .before .before .before .before .before .before .before .before .before .before .number .ensures) (c .before .before .before .before .before .before .before .before .before .before .before .before .before .before .before .before .before .before .before .before .before .before .before .before .before .before .if1 .left) _ _ _ _ _ _ _ _ (c .before .before .before .before .before .before .before .before .before .before .before .before .before .before .before .before .before .before .before .before .before .before .before .before .clear .ensures) (c .before .before .before .before .before .before .before .before .before .before .before .before .before .before .before .before .before .before .before .before .clear2 .ensures) (c .before .before .before .before .before .before .before .before .before .before .before .before .before .before .before .before .clear3 .ensures) (c .before .before .before .before .before .before .before .before .before .before .before .before .clear-all .ensures) (c .before .before .before .before .before .before .format-blocks .ensures)
 
 pub format-spec : {M : Type 1} → statement M
-format-spec =
-    tie.close
-    (tie.spec
-    format-reply-requires
-    number-requires
-    idle-requires
-    same-length
-    same-length-2
-    same-length-3
-    same-length-4
-    same-length-5
-    same-length-6
-    returns
-    clear-requires
-    clear-requires-2
-    clear-requires-3
-    format-blocks-requires
-    cast-t22
-    same-length-7
-    same-length-8
-    same-length-9
-    same-length-10
-    same-length-11
-    same-length-12
-    returns-2)
+format-spec = tie.close (tie.spec format-reply-requires number-requires idle-requires same-length same-length-2 same-length-3 same-length-4 same-length-5 same-length-6 same-length-7 returns clear-requires clear-requires-2 clear-requires-3 clear-all-requires format-blocks-requires cast-t25 same-length-8 same-length-9 same-length-10 same-length-11 same-length-12 same-length-13 same-length-14 returns-2)

@@ -2,11 +2,14 @@
 -- Assumes nothing.
 use mathlib.Core.Path.{refl}
 use borrow.Author.Needs.{needs}
-use Rattle.rules.specs.Tables.{boardOf}
+use Rattle.rules.specs.Tables.{Board, boardOf}
 use Rattle.reading.specs.Sectors.{requestOf}
 use Rattle.layer.proofs.Calls.{asked, read-refused, read-done}
 use Rattle.layer.proofs.read.Statement.{statement}
 use Rattle.layer.proofs.read.Tie as tie
+
+abbrev board : tie.Start → Board
+board a = boardOf (a .args .chip .now) (a .args .ct .now) (a .args .bt .now) (a .args .fst .now) (a .args .bst .now) (a .args .wear .now)
 
 access-reply-requires : tie.Need-access-reply-requires
 access-reply-requires c κs = search needs
@@ -18,10 +21,10 @@ idle-requires : tie.Need-idle-requires
 idle-requires c κs = search needs
 
 returns : tie.Need-returns
-returns c = read-refused _ (boardOf (c .before .before .before .before .before .before .before .before .before .before .before .args .chip .now) (c .before .before .before .before .before .before .before .before .before .before .before .args .ct .now) (c .before .before .before .before .before .before .before .before .before .before .before .args .bt .now) (c .before .before .before .before .before .before .before .before .before .before .before .args .fst .now) (c .before .before .before .before .before .before .before .before .before .before .before .args .bst .now) (c .before .before .before .before .before .before .before .before .before .before .before .args .wear .now)) (requestOf (c .before .before .before .before .before .before .before .before .before .before .before .args .lba) (c .before .before .before .before .before .before .before .before .before .before .before .args .count) (c .before .before .before .before .before .before .before .before .before .before .before .args .bytes .now)) _ (c .before .before .before .access-reply .ensures (requestOf (c .before .before .before .before .before .before .before .before .before .before .before .args .lba) (c .before .before .before .before .before .before .before .before .before .before .before .args .count) (c .before .before .before .before .before .before .before .before .before .before .before .args .bytes .now)) refl refl refl) _ (c .before .before .number .ensures) (c .before .if1 .taken) _ (c .idle .ensures)
+returns c = read-refused _ (board (c .before .before .before .before .before .before .before .before .before .before .before .before)) _ (requestOf (c .before .before .before .before .before .before .before .before .before .before .before .before .args .lba) (c .before .before .before .before .before .before .before .before .before .before .before .before .args .count) (c .before .before .before .before .before .before .before .before .before .before .before .before .args .bytes .now)) _ (c .before .before .before .access-reply .ensures (requestOf (c .before .before .before .before .before .before .before .before .before .before .before .before .args .lba) (c .before .before .before .before .before .before .before .before .before .before .before .before .args .count) (c .before .before .before .before .before .before .before .before .before .before .before .before .args .bytes .now)) refl refl refl) _ (c .before .before .number .ensures) (c .before .if1 .taken) _ (c .idle .ensures)
 
 read-sectors-requires : tie.Need-read-sectors-requires
-read-sectors-requires c κs = asked _ (boardOf (c .before .before .before .before .before .before .before .before .before .before .before .args .chip .now) (c .before .before .before .before .before .before .before .before .before .before .before .args .ct .now) (c .before .before .before .before .before .before .before .before .before .before .before .args .bt .now) (c .before .before .before .before .before .before .before .before .before .before .before .args .fst .now) (c .before .before .before .before .before .before .before .before .before .before .before .args .bst .now) (c .before .before .before .before .before .before .before .before .before .before .before .args .wear .now)) (requestOf (c .before .before .before .before .before .before .before .before .before .before .before .args .lba) (c .before .before .before .before .before .before .before .before .before .before .before .args .count) (c .before .before .before .before .before .before .before .before .before .before .before .args .bytes .now)) _ (c .before .before .before .access-reply .ensures (requestOf (c .before .before .before .before .before .before .before .before .before .before .before .args .lba) (c .before .before .before .before .before .before .before .before .before .before .before .args .count) (c .before .before .before .before .before .before .before .before .before .before .before .args .bytes .now)) refl refl refl) _ (c .before .before .number .ensures) (c .before .if1 .left)
+read-sectors-requires c κs = asked _ (board (c .before .before .before .before .before .before .before .before .before .before .before .before)) _ (requestOf (c .before .before .before .before .before .before .before .before .before .before .before .before .args .lba) (c .before .before .before .before .before .before .before .before .before .before .before .before .args .count) (c .before .before .before .before .before .before .before .before .before .before .before .before .args .bytes .now)) _ (c .before .before .before .access-reply .ensures (requestOf (c .before .before .before .before .before .before .before .before .before .before .before .before .args .lba) (c .before .before .before .before .before .before .before .before .before .before .before .before .args .count) (c .before .before .before .before .before .before .before .before .before .before .before .before .args .bytes .now)) refl refl refl) _ (c .before .before .number .ensures) (c .before .if1 .left)
 
 idle-requires-2 : tie.Need-idle-requires-2
 idle-requires-2 c κs = search needs
@@ -30,17 +33,7 @@ same-length : tie.Need-same-length
 same-length c = search needs
 
 returns-2 : tie.Need-returns-2
-returns-2 c = read-done _ (boardOf (c .before .before .before .before .before .before .before .before .before .before .before .before .before .before .before .args .chip .now) (c .before .before .before .before .before .before .before .before .before .before .before .before .before .before .before .args .ct .now) (c .before .before .before .before .before .before .before .before .before .before .before .before .before .before .before .args .bt .now) (c .before .before .before .before .before .before .before .before .before .before .before .before .before .before .before .args .fst .now) (c .before .before .before .before .before .before .before .before .before .before .before .before .before .before .before .args .bst .now) (c .before .before .before .before .before .before .before .before .before .before .before .before .before .before .before .args .wear .now)) (requestOf (c .before .before .before .before .before .before .before .before .before .before .before .before .before .before .before .args .lba) (c .before .before .before .before .before .before .before .before .before .before .before .before .before .before .before .args .count) (c .before .before .before .before .before .before .before .before .before .before .before .before .before .before .before .args .bytes .now)) _ (c .before .before .before .before .before .before .before .access-reply .ensures (requestOf (c .before .before .before .before .before .before .before .before .before .before .before .before .before .before .before .args .lba) (c .before .before .before .before .before .before .before .before .before .before .before .before .before .before .before .args .count) (c .before .before .before .before .before .before .before .before .before .before .before .before .before .before .before .args .bytes .now)) refl refl refl) _ (c .before .before .before .before .before .before .number .ensures) (c .before .before .before .before .before .if1 .left) _ (c .before .before .before .read-sectors .ensures _ _ _) _ (c .idle2 .ensures)
+returns-2 c = read-done _ (board (c .before .before .before .before .before .before .before .before .before .before .before .before .before .before .before .before)) _ (requestOf (c .before .before .before .before .before .before .before .before .before .before .before .before .before .before .before .before .args .lba) (c .before .before .before .before .before .before .before .before .before .before .before .before .before .before .before .before .args .count) (c .before .before .before .before .before .before .before .before .before .before .before .before .before .before .before .before .args .bytes .now)) _ (c .before .before .before .before .before .before .before .access-reply .ensures (requestOf (c .before .before .before .before .before .before .before .before .before .before .before .before .before .before .before .before .args .lba) (c .before .before .before .before .before .before .before .before .before .before .before .before .before .before .before .before .args .count) (c .before .before .before .before .before .before .before .before .before .before .before .before .before .before .before .before .args .bytes .now)) refl refl refl) _ (c .before .before .before .before .before .before .number .ensures) (c .before .before .before .before .before .if1 .left) _ (c .before .before .before .read-sectors .ensures _ _ _) _ (c .idle2 .ensures)
 
 pub read-spec : {M : Type 1} → statement M
-read-spec =
-    tie.close
-    (tie.spec
-    access-reply-requires
-    number-requires
-    idle-requires
-    returns
-    read-sectors-requires
-    idle-requires-2
-    same-length
-    returns-2)
+read-spec = tie.close (tie.spec access-reply-requires number-requires idle-requires returns read-sectors-requires idle-requires-2 same-length returns-2)

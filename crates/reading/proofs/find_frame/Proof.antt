@@ -4,7 +4,7 @@ use mathlib.Core.Path.{_≡_, sym, _∙_}
 use native.Mathlib.Nat.{mod-lt}
 use borrow.Author.Needs.{needs}
 use Rattle.rules.proofs.Sizes.{sizes}
-use Rattle.reading.proofs.Frames.{chip-length, not-kept, region-low, vblock-low, block-low, frame-low, kept-at}
+use Rattle.reading.proofs.Frames.{chip-length, not-kept, nowhere, region-low, vblock-low, block-low, frame-low, kept-at, within}
 use Rattle.reading.proofs.find_frame.Statement.{statement}
 use Rattle.reading.proofs.find_frame.Tie as tie
 
@@ -12,7 +12,8 @@ ct-at-requires : tie.Need-ct-at-requires
 ct-at-requires c κs = search needs
 
 returns : tie.Need-returns
-returns c = not-kept _ _ _ _ _ (c .before .before .before .before .before .before .pre) _ (c .before .before .ct-at .ensures .0) (c .if1 .taken)
+returns c =
+    (not-kept _ _ _ _ _ (c .before .before .before .before .before .before .pre) _ (c .before .before .ct-at .ensures .0) (c .if1 .taken), nowhere _ _ _ _ _ (c .before .before .before .before .before .before .pre) _ (c .before .before .ct-at .ensures .0))
 
 region-of-requires : tie.Need-region-of-requires
 region-of-requires c κs = (sizes _ (c .before .before .before .before .before .before .pre .fine)) .regions
@@ -49,8 +50,10 @@ frame-at-requires c κs = (
 )
 
 returns-2 : tie.Need-returns-2
-returns-2 c =
-    kept-at _ _ _ _ _ (c .before .before .before .before .before .before .before .before .before .before .before .before .before .pre) _ (c .before .before .before .before .before .before .before .before .before .ct-at .ensures .0) (c .before .before .before .before .before .before .before .if1 .left) _ _ (c .before .before .before .before .before .before .region-of .ensures) (c .before .before .before .before .before .vblock-of .ensures) _ (c .before .before .before .before .bt-at .ensures .0) _ (c .before .before .block-of .ensures .0) _ _ (c .before .before .before .place-of .ensures) (c .before .last-in .ensures) _ (c .frame-at .ensures)
+returns-2 c = (
+  kept-at _ _ _ _ _ (c .before .before .before .before .before .before .before .before .before .before .before .before .before .pre) _ (c .before .before .before .before .before .before .before .before .before .ct-at .ensures .0) (c .before .before .before .before .before .before .before .if1 .left) _ _ (c .before .before .before .before .before .before .region-of .ensures) (c .before .before .before .before .before .vblock-of .ensures) _ (c .before .before .before .before .bt-at .ensures .0) _ (c .before .before .block-of .ensures .0) _ _ (c .before .before .before .place-of .ensures) (c .before .last-in .ensures) _ (c .frame-at .ensures),
+  within _ _ _ _ _ (c .before .before .before .before .before .before .before .before .before .before .before .before .before .pre) _ (c .before .before .before .before .before .before .before .before .before .ct-at .ensures .0) (c .before .before .before .before .before .before .before .if1 .left) _ _ (c .before .before .before .before .before .before .region-of .ensures) (c .before .before .before .before .before .vblock-of .ensures) _ (c .before .before .before .before .bt-at .ensures .0) _ (c .before .before .block-of .ensures .0) _ _ (c .before .before .before .place-of .ensures) (c .before .last-in .ensures),
+)
 
 pub find-frame-spec : {M : Type 1} → statement M
 find-frame-spec =

@@ -3,7 +3,7 @@
 use mathlib.Core.Path.{_≡_}
 use native.Mathlib.Omega.{arith}
 use borrow.Author.Needs.{needs}
-use Rattle.reclaim.proofs.Places.{target-few, page-small, segment-few, copy-asked, moved}
+use Rattle.reclaim.proofs.Places.{frame-few, segment-few, page-small, copy-asked, moved}
 use Rattle.reclaim.proofs.move_frame.Statement.{statement}
 use Rattle.reclaim.proofs.move_frame.Tie as tie
 
@@ -23,10 +23,14 @@ copy-frame-requires : tie.Need-copy-frame-requires
 copy-frame-requires c κs = copy-asked _ _ _ _ _ _ _ _ (c .before .before .before .before .before .before .before .before .pre) _ _ (c .before .before .before .frame-at .ensures) (c .before .before .frame-at2 .ensures)
 
 segment-of-requires : tie.Need-segment-of-requires
-segment-of-requires c κs = (c .before .before .before .before .before .before .before .before .before .before .before .before .pre .from .whole .fine, (c .before .before .before .before .before .before .before .before .before .before .before .before .pre .low, target-few _ _ _ _ _ _ _ _ (c .before .before .before .before .before .before .before .before .before .before .before .before .pre)))
+segment-of-requires c κs =
+    let a = c .before .before .before .before .before .before .before .before .before .before .before .before .pre in
+    (a .to .whole .fine, (a .low, frame-few _ _ _ _ (a .to)))
 
 set-ct-requires : tie.Need-set-ct-requires
-set-ct-requires c κs = (rw (c .before .before .before .before .before .before .before .before .before .cluster-at .ensures) (c .before .before .before .before .before .before .before .before .before .before .before .before .before .pre .cluster), segment-few _ _ _ _ _ _ _ _ (c .before .before .before .before .before .before .before .before .before .before .before .before .before .pre) _ (c .segment-of .ensures))
+set-ct-requires c κs =
+    let a = c .before .before .before .before .before .before .before .before .before .before .before .before .before .pre in
+    (rw (c .before .before .before .before .before .before .before .before .before .cluster-at .ensures) (a .cluster), segment-few _ _ _ _ (a .to) _ _ (a .low) (c .segment-of .ensures))
 
 same-length : tie.Need-same-length
 same-length c = search needs

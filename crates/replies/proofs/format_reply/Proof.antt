@@ -1,12 +1,15 @@
 -- `replies::format_reply`: each return is the reply of the first row that applies.
 -- Assumes nothing.
-use mathlib.Core.Path.{sym, _∙_}
+use mathlib.Core.Path.{_∙_}
 use native.Mathlib.Omega.{arith}
 use borrow.Author.Needs.{needs}
+use borrow.Author.Tests.{le-ltb, lt-ltb}
 use Rattle.rules.specs.Replies.{formatReply}
 use Rattle.rules.specs.Tables.{Board, boardOf}
+use Rattle.rules.proofs.Sizes.{sizes}
 use Rattle.rules.proofs.TableFacts.{chip-size}
-use Rattle.replies.proofs.Rows.{format-0, format-6, head-passes, head-refuses, lengths, vblocks-low}
+use Rattle.agree.proofs.Agree.{lengths-in}
+use Rattle.replies.proofs.Rows.{asks-nothing, few-is, head-passes, head-refuses, here, otherwise, row-refuses, skip}
 use Rattle.replies.proofs.format_reply.Statement.{statement}
 use Rattle.replies.proofs.format_reply.Tie as tie
 
@@ -21,22 +24,39 @@ number-requires c κs = search needs
 
 returns : tie.Need-returns
 unfolding formatReply
-returns c = head-refuses _ (board (c .before .before .before .before .before .before .before .before .before)) _ (c .before .before .board-reply .ensures) _ (c .before .number .ensures) (c .if1 .taken) _
+returns c = head-refuses _ (board (c .before .before .before .before .before .before .before .before .before .before)) _ _ (c .before .before .board-reply .ensures) _ (c .before .number .ensures) (c .if1 .taken) _ _
 
 count-good-requires : tie.Need-count-good-requires
-count-good-requires c κs = let l = lengths _ (board (c .before .before .before .before .before .before .before .before .before)) (head-passes _ (board (c .before .before .before .before .before .before .before .before .before)) _ (c .before .before .board-reply .ensures) _ (c .before .number .ensures) (c .if1 .left)) in (l .fine, l .chipLength ∙ chip-size _)
+count-good-requires c κs =
+    let a = c .before .before .before .before .before .before .before .before .before .before in
+    let h = head-passes _ (board a) _ _ (c .before .before .board-reply .ensures) _ (c .before .number .ensures) (c .if1 .left) in
+    (h .fine, (lengths-in _ (board a) (h .fine) (h .fits)) .chipLength ∙ chip-size _)
 
 mul-if2 : tie.Need-mul-if2
-mul-if2 c = omega (arith, vblocks-low _ ((head-passes _ (board (c .before .before .before .before .before .before .before .before .before .before .before)) _ (c .before .before .before .before .board-reply .ensures) _ (c .before .before .before .number .ensures) (c .before .before .if1 .left)) .fine))
+mul-if2 c =
+    let a = c .before .before .before .before .before .before .before .before .before .before .before .before in
+    let h = head-passes _ (board a) _ _ (c .before .before .before .before .board-reply .ensures) _ (c .before .before .before .number .ensures) (c .before .before .if1 .left) in
+    omega (arith, (sizes _ (h .fine)) .tableHigh)
 
 add-if2 : tie.Need-add-if2
-add-if2 c = omega (arith, vblocks-low _ ((head-passes _ (board (c .before .before .before .before .before .before .before .before .before .before .before)) _ (c .before .before .before .before .board-reply .ensures) _ (c .before .before .before .number .ensures) (c .before .before .if1 .left)) .fine))
+add-if2 c =
+    let a = c .before .before .before .before .before .before .before .before .before .before .before .before in
+    let h = head-passes _ (board a) _ _ (c .before .before .before .before .board-reply .ensures) _ (c .before .before .before .number .ensures) (c .before .before .if1 .left) in
+    omega (arith, (sizes _ (h .fine)) .tableHigh)
 
 returns-2 : tie.Need-returns-2
-returns-2 c = format-6 _ (board (c .before .before .before .before .before .before .before .before .before .before .before .before)) (head-passes _ (board (c .before .before .before .before .before .before .before .before .before .before .before .before)) _ (c .before .before .before .before .before .board-reply .ensures) _ (c .before .before .before .before .number .ensures) (c .before .before .before .if1 .left)) _ (c .before .before .count-good .ensures) (c .if2 .taken)
+unfolding formatReply
+returns-2 c =
+    let a = c .before .before .before .before .before .before .before .before .before .before .before .before .before in
+    let h = head-passes _ (board a) _ _ (c .before .before .before .before .before .board-reply .ensures) _ (c .before .before .before .before .number .ensures) (c .before .before .before .if1 .left) in
+    row-refuses _ (board a) _ h _ _ _ (λ x. omega arith) (here _ _ _ _ (few-is _ (board a) _ (c .before .before .count-good .ensures)) (lt-ltb _ _ (c .if2 .taken)))
 
 returns-3 : tie.Need-returns-3
-returns-3 c = format-0 _ (board (c .before .before .before .before .before .before .before .before .before .before .before .before)) (head-passes _ (board (c .before .before .before .before .before .before .before .before .before .before .before .before)) _ (c .before .before .before .before .before .board-reply .ensures) _ (c .before .before .before .before .number .ensures) (c .before .before .before .if1 .left)) _ (c .before .before .count-good .ensures) (c .if2 .left)
+unfolding formatReply
+returns-3 c =
+    let a = c .before .before .before .before .before .before .before .before .before .before .before .before .before in
+    let h = head-passes _ (board a) _ _ (c .before .before .before .before .before .board-reply .ensures) _ (c .before .before .before .before .number .ensures) (c .before .before .before .if1 .left) in
+    asks-nothing _ (board a) _ h _ _ (skip _ _ _ _ _ (few-is _ (board a) _ (c .before .before .count-good .ensures)) (le-ltb _ _ (c .if2 .left)) otherwise)
 
 pub format-reply-spec : {M : Type 1} → statement M
 format-reply-spec = tie.close (tie.spec board-reply-requires number-requires returns count-good-requires mul-if2 add-if2 returns-2 returns-3)

@@ -1,10 +1,12 @@
 -- `replies::release_reply`: each return is the reply of the first row that applies.
 -- Assumes nothing.
-use mathlib.Core.Path.{sym, _∙_}
+use mathlib.Core.Path.{refl}
+use native.Mathlib.Omega.{arith}
 use borrow.Author.Needs.{needs}
 use Rattle.rules.specs.Replies.{releaseReply}
 use Rattle.rules.specs.Tables.{Board, boardOf}
-use Rattle.replies.proofs.Rows.{head-passes, head-refuses, lengths, release-4, release-last}
+use Rattle.agree.proofs.Agree.{lengths-in}
+use Rattle.replies.proofs.Rows.{head-passes, head-refuses, here, row-refuses, skip, state-last}
 use Rattle.replies.proofs.release_reply.Statement.{statement}
 use Rattle.replies.proofs.release_reply.Tie as tie
 
@@ -19,19 +21,30 @@ number-requires c κs = search needs
 
 returns : tie.Need-returns
 unfolding releaseReply
-returns c = head-refuses _ (board (c .before .before .before .before .before .before .before .before .before)) _ (c .before .before .board-reply .ensures) _ (c .before .number .ensures) (c .if1 .taken) _
+returns c = head-refuses _ (board (c .before .before .before .before .before .before .before .before .before .before)) _ _ (c .before .before .board-reply .ensures) _ (c .before .number .ensures) (c .if1 .taken) _ _
 
 bad-cluster-requires : tie.Need-bad-cluster-requires
 bad-cluster-requires c κs = search needs
 
 returns-2 : tie.Need-returns-2
-returns-2 c = release-4 _ (board (c .before .before .before .before .before .before .before .before .before .before .before)) _ (head-passes _ (board (c .before .before .before .before .before .before .before .before .before .before .before)) _ (c .before .before .before .before .board-reply .ensures) _ (c .before .before .before .number .ensures) (c .before .before .if1 .left)) (sym (c .before .bad-cluster .ensures) ∙ c .if2 .taken)
+unfolding releaseReply
+returns-2 c =
+    let a = c .before .before .before .before .before .before .before .before .before .before .before .before in
+    let h = head-passes _ (board a) _ _ (c .before .before .before .before .board-reply .ensures) _ (c .before .before .before .number .ensures) (c .before .before .if1 .left) in
+    row-refuses _ (board a) _ h _ _ _ (λ x. omega arith) (here _ _ _ _ (c .before .bad-cluster .ensures) (c .if2 .taken))
 
 state-reply-requires : tie.Need-state-reply-requires
-state-reply-requires c κs = lengths _ (board (c .before .before .before .before .before .before .before .before .before .before .before)) (head-passes _ (board (c .before .before .before .before .before .before .before .before .before .before .before)) _ (c .before .before .before .before .board-reply .ensures) _ (c .before .before .before .number .ensures) (c .before .before .if1 .left))
+state-reply-requires c κs =
+    let a = c .before .before .before .before .before .before .before .before .before .before .before .before in
+    let h = head-passes _ (board a) _ _ (c .before .before .before .before .board-reply .ensures) _ (c .before .before .before .number .ensures) (c .before .before .if1 .left) in
+    (lengths-in _ (board a) (h .fine) (h .fits), h .long)
 
 returns-3 : tie.Need-returns-3
-returns-3 c = release-last _ (board (c .before .before .before .before .before .before .before .before .before .before .before .before)) _ (head-passes _ (board (c .before .before .before .before .before .before .before .before .before .before .before .before)) _ (c .before .before .before .before .before .board-reply .ensures) _ (c .before .before .before .before .number .ensures) (c .before .before .before .if1 .left)) (sym (c .before .before .bad-cluster .ensures) ∙ c .before .if2 .left) _ (c .state-reply .ensures _)
+unfolding releaseReply
+returns-3 c =
+    let a = c .before .before .before .before .before .before .before .before .before .before .before .before .before in
+    let h = head-passes _ (board a) _ _ (c .before .before .before .before .before .board-reply .ensures) _ (c .before .before .before .before .number .ensures) (c .before .before .before .if1 .left) in
+    state-last _ (board a) _ h _ _ (skip _ _ _ _ _ (c .before .before .bad-cluster .ensures) (c .before .if2 .left) refl) (c .state-reply .ensures _)
 
 pub release-reply-spec : {M : Type 1} → statement M
 release-reply-spec = tie.close (tie.spec board-reply-requires number-requires returns bad-cluster-requires returns-2 state-reply-requires returns-3)

@@ -1,9 +1,12 @@
 -- `replies::why_reply`: each return is the reply of the first row that applies.
 -- Assumes nothing.
+use mathlib.Core.Path.{refl}
+use native.Mathlib.Omega.{arith}
 use borrow.Author.Needs.{needs}
 use Rattle.rules.specs.Replies.{whyReply}
 use Rattle.rules.specs.Tables.{Board, boardOf}
-use Rattle.replies.proofs.Rows.{head-passes, head-refuses, lengths, why-4, why-last}
+use Rattle.agree.proofs.Agree.{lengths-in}
+use Rattle.replies.proofs.Rows.{address-is, head-passes, head-refuses, here, row-refuses, skip, state-last}
 use Rattle.replies.proofs.why_reply.Statement.{statement}
 use Rattle.replies.proofs.why_reply.Tie as tie
 
@@ -18,19 +21,33 @@ number-requires c κs = search needs
 
 returns : tie.Need-returns
 unfolding whyReply
-returns c = head-refuses _ (board (c .before .before .before .before .before .before .before .before .before)) _ (c .before .before .board-reply .ensures) _ (c .before .number .ensures) (c .if1 .taken) _
+returns c = head-refuses _ (board (c .before .before .before .before .before .before .before .before .before .before)) _ _ (c .before .before .board-reply .ensures) _ (c .before .number .ensures) (c .if1 .taken) _ _
 
 bad-address-requires : tie.Need-bad-address-requires
-bad-address-requires c κs = (head-passes _ (board (c .before .before .before .before .before .before .before .before .before)) _ (c .before .before .board-reply .ensures) _ (c .before .number .ensures) (c .if1 .left)) .fine
+bad-address-requires c κs =
+    let a = c .before .before .before .before .before .before .before .before .before .before in
+    let h = head-passes _ (board a) _ _ (c .before .before .board-reply .ensures) _ (c .before .number .ensures) (c .if1 .left) in
+    h .fine
 
 returns-2 : tie.Need-returns-2
-returns-2 c = why-4 _ (board (c .before .before .before .before .before .before .before .before .before .before .before)) _ (head-passes _ (board (c .before .before .before .before .before .before .before .before .before .before .before)) _ (c .before .before .before .before .board-reply .ensures) _ (c .before .before .before .number .ensures) (c .before .before .if1 .left)) _ (c .before .bad-address .ensures) (c .if2 .taken)
+unfolding whyReply
+returns-2 c =
+    let a = c .before .before .before .before .before .before .before .before .before .before .before .before in
+    let h = head-passes _ (board a) _ _ (c .before .before .before .before .board-reply .ensures) _ (c .before .before .before .number .ensures) (c .before .before .if1 .left) in
+    row-refuses _ (board a) _ h _ _ _ (λ x. omega arith) (here _ _ _ _ (address-is _ _ _ (c .before .bad-address .ensures)) (c .if2 .taken))
 
 state-reply-requires : tie.Need-state-reply-requires
-state-reply-requires c κs = lengths _ (board (c .before .before .before .before .before .before .before .before .before .before .before)) (head-passes _ (board (c .before .before .before .before .before .before .before .before .before .before .before)) _ (c .before .before .before .before .board-reply .ensures) _ (c .before .before .before .number .ensures) (c .before .before .if1 .left))
+state-reply-requires c κs =
+    let a = c .before .before .before .before .before .before .before .before .before .before .before .before in
+    let h = head-passes _ (board a) _ _ (c .before .before .before .before .board-reply .ensures) _ (c .before .before .before .number .ensures) (c .before .before .if1 .left) in
+    (lengths-in _ (board a) (h .fine) (h .fits), h .long)
 
 returns-3 : tie.Need-returns-3
-returns-3 c = why-last _ (board (c .before .before .before .before .before .before .before .before .before .before .before .before)) _ (head-passes _ (board (c .before .before .before .before .before .before .before .before .before .before .before .before)) _ (c .before .before .before .before .before .board-reply .ensures) _ (c .before .before .before .before .number .ensures) (c .before .before .before .if1 .left)) _ (c .before .before .bad-address .ensures) (c .before .if2 .left) _ (c .state-reply .ensures _)
+unfolding whyReply
+returns-3 c =
+    let a = c .before .before .before .before .before .before .before .before .before .before .before .before .before in
+    let h = head-passes _ (board a) _ _ (c .before .before .before .before .before .board-reply .ensures) _ (c .before .before .before .before .number .ensures) (c .before .before .before .if1 .left) in
+    state-last _ (board a) _ h _ _ (skip _ _ _ _ _ (address-is _ _ _ (c .before .before .bad-address .ensures)) (c .before .if2 .left) refl) (c .state-reply .ensures _)
 
 pub why-reply-spec : {M : Type 1} → statement M
 why-reply-spec = tie.close (tie.spec board-reply-requires number-requires returns bad-address-requires returns-2 state-reply-requires returns-3)

@@ -1,9 +1,8 @@
 -- `valid::is_valid`: test by test, each a law of the rule.
 -- Assumes nothing.
 use mathlib.Core.Path.{sym, _∙_}
-use native.Mathlib.Omega.{arith}
 use borrow.Author.Tests.{not-true, not-false}
-use Rattle.valid.proofs.Tested.{place-is-low, unprogrammed, high, elsewhere, stale, last}
+use Rattle.valid.proofs.Tested.{cluster-low, place-is-low, unprogrammed, stale, last}
 use Rattle.valid.proofs.is_valid.Statement.{statement}
 use Rattle.valid.proofs.is_valid.Tie as tie
 
@@ -14,53 +13,30 @@ is-programmed-requires : tie.Need-is-programmed-requires
 is-programmed-requires c κs = (c .before .before .before .pre .0 .block .fine, c .frame-of .ensures .1)
 
 returns : tie.Need-returns
-returns c = λ vw s. unprogrammed _ _ _ _ _ (c .before .before .before .before .before .pre .0) _ vw s _ (c .before .before .frame-of .ensures .0) (sym (c .before .is-programmed .ensures) ∙ not-true _ (c .if1 .taken))
+returns c = λ r vw s. unprogrammed _ _ _ _ _ (c .before .before .before .before .before .pre .0) r vw s _ (c .before .before .frame-of .ensures .0) (sym (c .before .is-programmed .ensures) ∙ not-true _ (c .if1 .taken))
 
 cluster-in-requires : tie.Need-cluster-in-requires
 cluster-in-requires c κs = (c .before .before .before .before .before .pre .0 .block .fine, c .before .before .frame-of .ensures .1)
 
-returns-2 : tie.Need-returns-2
-returns-2 c =
-    λ vw s. high _ _ _ _ _ (c .before .before .before .before .before .before .before .before .before .pre .0) _ vw s _ (c .before .before .before .before .before .before .frame-of .ensures .0) (sym (c .before .before .before .before .before .is-programmed .ensures) ∙ not-false _ (c .before .before .before .before .if1 .left)) _ (c .before .before .before .cluster-in .ensures .0) (c .if2 .taken)
-
 ct-at-requires : tie.Need-ct-at-requires
-ct-at-requires c κs = omega (arith, c .if2 .left, c .before .before .before .before .before .before .before .before .before .pre .0 .block .ctLength)
+ct-at-requires c κs = cluster-low _ _ _ _ _ (c .before .before .before .before .before .before .pre .0) _ (c .before .before .before .frame-of .ensures .0) (sym (c .before .before .is-programmed .ensures) ∙ not-false _ (c .before .if1 .left)) _ (c .cluster-in .ensures .0)
 
 segment-in-requires : tie.Need-segment-in-requires
-segment-in-requires c κs = let a = c .before .before .before .before .before .before .before .before .before .before .pre in (a .0 .block .fine, (a .0 .block .low, place-is-low _ _ _ _ _ (a .0) _ (a .1)))
+segment-in-requires c κs = let a = c .before .before .before .before .before .before .before .pre in (a .0 .block .fine, (a .0 .block .low, place-is-low _ _ _ _ _ (a .0) _ (a .1)))
+
+returns-2 : tie.Need-returns-2
+returns-2 c =
+    λ r vw s. stale _ _ _ _ _ (c .before .before .before .before .before .before .before .before .before .before .before .pre .0) r vw s _ (c .before .before .before .before .before .before .before .before .frame-of .ensures .0) (sym (c .before .before .before .before .before .before .before .is-programmed .ensures) ∙ not-false _ (c .before .before .before .before .before .before .if1 .left)) _ (c .before .before .before .before .before .cluster-in .ensures .0) _ _ _ (c .before .before .before .before .before .before .before .before .before .before .before .pre .1) (c .before .before .before .before .ct-at .ensures .0) (c .before .before .before .segment-in .ensures) (c .if2 .taken)
+
+last-in-requires : tie.Need-last-in-requires
+last-in-requires c κs = let a = c .before .before .before .before .before .before .before .before .before .before .before .pre in (a .0 .block .fine, (a .0 .block .size, place-is-low _ _ _ _ _ (a .0) _ (a .1)))
 
 returns-3 : tie.Need-returns-3
 returns-3 c =
-    λ vw s. stale _ _ _ _ _ (c .before .before .before .before .before .before .before .before .before .before .before .before .before .before .pre .0) _ vw s _ (c .before .before .before .before .before .before .before .before .before .before .before .frame-of .ensures .0) (sym (c .before .before .before .before .before .before .before .before .before .before .is-programmed .ensures) ∙ not-false _ (c .before .before .before .before .before .before .before .before .before .if1 .left)) _ (c .before .before .before .before .before .before .before .before .cluster-in .ensures .0) _ _ _ (c .before .before .before .before .before .before .before .before .before .before .before .before .before .before .pre .1) (c .before .before .before .before .ct-at .ensures .0) (c .before .before .before .segment-in .ensures) (c .if3 .taken)
-
-region-of-requires : tie.Need-region-of-requires
-region-of-requires c κs = (c .before .before .before .before .before .before .before .before .before .before .before .before .before .before .pre .0 .block .fine, c .before .before .before .before .before .before .before .before .cluster-in .ensures .1)
-
-returns-4 : tie.Need-returns-4
-returns-4 c =
-    λ vw s. elsewhere _ _ _ _ _ (c .before .before .before .before .before .before .before .before .before .before .before .before .before .before .before .before .pre .0) _ vw s _ (c .before .before .before .before .before .before .before .before .before .before .before .before .before .frame-of .ensures .0) (sym (c .before .before .before .before .before .before .before .before .before .before .before .before .is-programmed .ensures) ∙ not-false _ (c .before .before .before .before .before .before .before .before .before .before .before .if1 .left)) _ (c .before .before .before .before .before .before .before .before .before .before .cluster-in .ensures .0) _ (c .before .region-of .ensures) (c .if4 .taken)
-
-last-in-requires : tie.Need-last-in-requires
-last-in-requires c κs = let a = c .before .before .before .before .before .before .before .before .before .before .before .before .before .before .before .before .pre in (a .0 .block .fine, (a .0 .block .size, place-is-low _ _ _ _ _ (a .0) _ (a .1)))
-
-returns-5 : tie.Need-returns-5
-returns-5 c =
-    λ vw s. last _ _ _ _ _ (c .before .before .before .before .before .before .before .before .before .before .before .before .before .before .before .before .before .pre .0) _ vw s _ (c .before .before .before .before .before .before .before .before .before .before .before .before .before .before .frame-of .ensures .0) (sym (c .before .before .before .before .before .before .before .before .before .before .before .before .before .is-programmed .ensures) ∙ not-false _ (c .before .before .before .before .before .before .before .before .before .before .before .before .if1 .left)) _ (c .before .before .before .before .before .before .before .before .before .before .before .cluster-in .ensures .0) _ _ _ _ _ (c .before .before .before .before .before .before .before .before .before .before .before .before .before .before .before .before .before .pre .1)
-    (c .before .before .region-of .ensures) (c .before .if4 .left) (c .before .before .before .before .before .before .before .ct-at .ensures .0) (c .before .before .before .before .before .before .segment-in .ensures) (c .before .before .before .if3 .left) (c .last-in .ensures)
+    λ r vw s. last _ _ _ _ _ (c .before .before .before .before .before .before .before .before .before .before .before .before .pre .0) r vw s _ (c .before .before .before .before .before .before .before .before .before .frame-of .ensures .0) (sym (c .before .before .before .before .before .before .before .before .is-programmed .ensures) ∙ not-false _ (c .before .before .before .before .before .before .before .if1 .left)) _ (c .before .before .before .before .before .before .cluster-in .ensures .0) _ _ _ _ (c .before .before .before .before .before .before .before .before .before .before .before .before .pre .1)
+    (c .before .before .before .before .before .ct-at .ensures .0) (c .before .before .before .before .segment-in .ensures) (c .before .if2 .left) (c .last-in .ensures)
 
 pub is-valid-spec : {M : Type 1} → statement M
 is-valid-spec =
     tie.close
-    (tie.spec
-    frame-of-requires
-    is-programmed-requires
-    returns
-    cluster-in-requires
-    returns-2
-    ct-at-requires
-    segment-in-requires
-    returns-3
-    region-of-requires
-    returns-4
-    last-in-requires
-    returns-5)
+    (tie.spec frame-of-requires is-programmed-requires returns cluster-in-requires ct-at-requires segment-in-requires returns-2 last-in-requires returns-3)

@@ -2,7 +2,7 @@
 -- Assumes nothing.
 use borrow.Author.Needs.{needs}
 use Rattle.rules.proofs.Sizes.{sizes}
-use Rattle.writing.proofs.Plans.{continues-is, opens-is, reclaims-is, full}
+use Rattle.writing.proofs.Plans.{continues-is, opens-is, reclaims-is, victim-is}
 use Rattle.writing.proofs.plan_of.Statement.{statement}
 use Rattle.writing.proofs.plan_of.Tie as tie
 
@@ -19,19 +19,21 @@ vblock-of-requires : tie.Need-vblock-of-requires
 vblock-of-requires c κs = (sizes _ (c .before .before .before .before .before .before .before .before .pre .0 .fine)) .segments
 
 returns : tie.Need-returns
-returns c = continues-is _ _ _ _ _ (c .before .before .before .before .before .before .before .before .before .pre .0) _ _ _ _ _ (c .before .before .before .before .next-frame .ensures) (c .before .before .before .frames .ensures) (c .before .before .if1 .taken) (c .before .fst-at .ensures .0) (c .vblock-of .ensures)
+returns c = λ ct bst wear e. continues-is _ _ _ _ _ (c .before .before .before .before .before .before .before .before .before .pre .0) ct _ _ _ _ (c .before .before .before .before .next-frame .ensures) (c .before .before .before .frames .ensures) (c .before .before .if1 .taken) (c .before .fst-at .ensures .0) (c .vblock-of .ensures)
 
 lowest-unassigned-requires : tie.Need-lowest-unassigned-requires
 lowest-unassigned-requires c κs = (c .before .before .before .before .before .before .before .pre .0 .fine, (c .before .before .before .before .before .before .before .pre .0 .btLength, c .before .before .before .before .before .before .before .pre .0 .low))
 
 returns-2 : tie.Need-returns-2
-returns-2 c = opens-is _ _ _ _ _ (c .before .before .before .before .before .before .before .before .before .before .pre .0) _ _ _ (c .before .before .before .before .before .next-frame .ensures) (c .before .before .before .before .frames .ensures) (c .before .before .before .if1 .left) _ (c .before .before .lowest-unassigned .ensures) (c .if2 .taken)
+returns-2 c = λ ct bst wear e. opens-is _ _ _ _ _ (c .before .before .before .before .before .before .before .before .before .before .pre .0) ct _ _ (c .before .before .before .before .before .next-frame .ensures) (c .before .before .before .before .frames .ensures) (c .before .before .before .if1 .left) _ (c .before .before .lowest-unassigned .ensures) (c .if2 .taken)
 
 victim-requires : tie.Need-victim-requires
-victim-requires c κs = full _ _ _ _ _ (c .before .before .before .before .before .before .before .before .before .before .pre .0) _ _ _ (c .before .before .before .before .before .next-frame .ensures) (c .before .before .before .before .frames .ensures) (c .before .before .before .if1 .left) _ (c .before .before .lowest-unassigned .ensures) (c .before .before .before .before .before .before .before .before .before .before .pre .1) (c .if2 .left)
+victim-requires c κs = record { fine = c .before .before .before .before .before .before .before .before .before .before .pre .0 .fine; long = c .before .before .before .before .before .before .before .before .before .before .pre .1; region = c .before .before .before .before .before .before .before .before .before .before .pre .0 .low }
 
 returns-3 : tie.Need-returns-3
-returns-3 c = reclaims-is _ _ _ _ _ (c .before .before .before .before .before .before .before .before .before .before .before .pre .0) _ _ _ (c .before .before .before .before .before .before .next-frame .ensures) (c .before .before .before .before .before .frames .ensures) (c .before .before .before .before .if1 .left) _ (c .before .before .before .lowest-unassigned .ensures) (c .before .if2 .left) _ (c .victim .ensures _)
+returns-3 c =
+    λ ct bst wear e. reclaims-is _ _ _ _ _ (c .before .before .before .before .before .before .before .before .before .before .before .pre .0) ct _ _ (c .before .before .before .before .before .before .next-frame .ensures) (c .before .before .before .before .before .frames .ensures) (c .before .before .before .before .if1 .left) _ (c .before .before .before .lowest-unassigned .ensures) (c .before .if2 .left) _
+    (victim-is _ _ _ _ _ (c .before .before .before .before .before .before .before .before .before .before .before .pre .0) ct bst wear _ e _ (c .victim .ensures))
 
 pub plan-of-spec : {M : Type 1} → statement M
 plan-of-spec =

@@ -1,71 +1,87 @@
--- `writing::write_orderly`: the plan of the state at entry, its room, the old frame found there, and the cluster put there.
+-- `writing::write_orderly`: the plan of the state at entry, its room, the old frame found there, the cluster put there, and the marks that follow.
 -- Assumes nothing.
 use mathlib.Core.Path.{_≡_, ap, _∙_}
-use borrow.Author.Needs.{needs}
 use Rattle.rules.specs.Numbers.{regionOf}
-use Rattle.writing.proofs.Writes.{sectors, regions, ct-length, alpha-few, plan-asked, room-asked, lookup-made, standing, copied-few, gives}
+use Rattle.writing.proofs.Writes.{sectors, regions, alpha-few, marks-long, plan-asked, room-asked, lookup-made, standing, copied-few, gives, mark-asked, old-asked, marks-kept}
 use Rattle.writing.proofs.write_orderly.Statement.{statement}
 use Rattle.writing.proofs.write_orderly.Tie as tie
 
 cluster-of-requires : tie.Need-cluster-of-requires
-cluster-of-requires c κs = sectors _ _ _ (c .before .before .before .before .before .before .before .pre)
+cluster-of-requires c κs = sectors _ _ _ (c .before .before .before .before .before .before .before .before .pre .1)
 
 region-of-requires : tie.Need-region-of-requires
-region-of-requires c κs = regions _ _ _ (c .before .before .before .before .before .before .before .before .pre)
+region-of-requires c κs = regions _ _ _ (c .before .before .before .before .before .before .before .before .before .pre .1)
 
 plan-of-requires : tie.Need-plan-of-requires
-plan-of-requires c κs = (plan-asked _ _ _ (c .before .before .before .before .before .before .before .before .before .before .before .before .before .pre) _ (c .before .before .before .before .region-of .ensures ∙ ap (regionOf (c .before .before .before .before .before .before .before .before .before .before .before .before .before .args .p)) (c .before .before .before .before .before .cluster-of .ensures)), ct-length _ _ _ (c .before .before .before .before .before .before .before .before .before .before .before .before .before .pre))
+plan-of-requires c κs =
+    (plan-asked _ _ _ (c .before .before .before .before .before .before .before .before .before .before .before .before .before .before .pre .1) _ (c .before .before .before .before .region-of .ensures ∙ ap (regionOf (c .before .before .before .before .before .before .before .before .before .before .before .before .before .before .args .p)) (c .before .before .before .before .before .cluster-of .ensures)), marks-long _ _ _ (c .before .before .before .before .before .before .before .before .before .before .before .before .before .before .pre .1) _ (c .before .before .before .before .before .before .before .before .before .before .before .before .before .before .pre .0))
 
 -- ---- from here on d is the place after the plan
 
 make-room-requires : tie.Need-make-room-requires
 make-room-requires c κs =
-    let d = c .before .before .before .before .before in
-    room-asked _ _ _ (d .before .before .before .before .before .before .before .before .before .before .before .before .before .before .pre) _ (d .before .before .before .before .before .region-of .ensures ∙ ap (regionOf (d .before .before .before .before .before .before .before .before .before .before .before .before .before .before .args .p)) (d .before .before .before .before .before .before .cluster-of .ensures)) _ (d .plan-of .ensures)
+    let d = c .before .before .before .before .before .before in
+    room-asked _ _ _ (d .before .before .before .before .before .before .before .before .before .before .before .before .before .before .before .pre .1) _ (d .before .before .before .before .before .region-of .ensures ∙ ap (regionOf (d .before .before .before .before .before .before .before .before .before .before .before .before .before .before .before .args .p)) (d .before .before .before .before .before .before .cluster-of .ensures)) _ (d .plan-of .ensures _ _ _ (d .before .before .before .before .before .before .before .before .before .before .before .before .before .before .before .pre .0)) _ (marks-long _ _ _ (d .before .before .before .before .before .before .before .before .before .before .before .before .before .before .before .pre .1) _ (d .before .before .before .before .before .before .before .before .before .before .before .before .before .before .before .pre .0))
 
 find-frame-requires : tie.Need-find-frame-requires
 find-frame-requires c κs =
-    let d = c .before .before .before .before .before .before .before .before .before .before .before .before .before .before .before .before .before .before .before in
-    lookup-made _ _ _ (d .before .before .before .before .before .before .before .before .before .before .before .before .before .before .pre) _ (d .before .before .before .before .before .region-of .ensures ∙ ap (regionOf (d .before .before .before .before .before .before .before .before .before .before .before .before .before .before .args .p)) (d .before .before .before .before .before .before .cluster-of .ensures)) _ (d .plan-of .ensures) _ _ _ _ _ _ _ _ _ (c .before .before .before .before .before .before .before .before .before .before .before .before .before .make-room .ensures _)
+    let d = c .before .before .before .before .before .before .before .before .before .before .before .before .before .before .before .before .before .before .before .before in
+    lookup-made _ _ _ (d .before .before .before .before .before .before .before .before .before .before .before .before .before .before .before .pre .1) _ (d .before .before .before .before .before .region-of .ensures ∙ ap (regionOf (d .before .before .before .before .before .before .before .before .before .before .before .before .before .before .before .args .p)) (d .before .before .before .before .before .before .cluster-of .ensures)) _ (d .plan-of .ensures _ _ _ (d .before .before .before .before .before .before .before .before .before .before .before .before .before .before .before .pre .0)) _ _ _ _ _ _ _ _ _ (c .before .before .before .before .before .before .before .before .before .before .before .before .before .make-room .ensures _ (d .before .before .before .before .before .before .before .before .before .before .before .before .before .before .before .pre .0))
     _ (d .before .before .before .before .before .before .cluster-of .ensures)
 
 put-cluster-requires : tie.Need-put-cluster-requires
 put-cluster-requires c κs =
-    let d = c .before .before .before .before .before .before .before .before .before .before .before .before .before .before .before .before .before .before .before .before .before .before .before .before in (
-      standing _ _ _ (d .before .before .before .before .before .before .before .before .before .before .before .before .before .before .pre) _ (d .before .before .before .before .before .region-of .ensures ∙ ap (regionOf (d .before .before .before .before .before .before .before .before .before .before .before .before .before .before .args .p)) (d .before .before .before .before .before .before .cluster-of .ensures)) _ (d .plan-of .ensures) _ _ _ _ _ _ _ _ _ (c .before .before .before .before .before .before .before .before .before .before .before .before .before .before .before .before .before .before .make-room .ensures _),
-      rw (d .before .before .before .before .before .before .cluster-of .ensures) at (c .before .before .before .before .find-frame .ensures),
+    let d = c .before .before .before .before .before .before .before .before .before .before .before .before .before .before .before .before .before .before .before .before .before .before .before .before .before in (
+      standing _ _ _ (d .before .before .before .before .before .before .before .before .before .before .before .before .before .before .before .pre .1) _ (d .before .before .before .before .before .region-of .ensures ∙ ap (regionOf (d .before .before .before .before .before .before .before .before .before .before .before .before .before .before .before .args .p)) (d .before .before .before .before .before .before .cluster-of .ensures)) _ (d .plan-of .ensures _ _ _ (d .before .before .before .before .before .before .before .before .before .before .before .before .before .before .before .pre .0)) _ _ _ _ _ _ _ _ _ (c .before .before .before .before .before .before .before .before .before .before .before .before .before .before .before .before .before .before .make-room .ensures _ (d .before .before .before .before .before .before .before .before .before .before .before .before .before .before .before .pre .0)),
+      rw (d .before .before .before .before .before .before .cluster-of .ensures) at (c .before .before .before .before .find-frame .ensures .0),
+    )
+
+keep-marks-requires : tie.Need-keep-marks-requires
+keep-marks-requires c κs =
+    let d = c .before .before .before .before .before .before .before .before .before .before .before .before .before .before .before .before .before .before .before .before .before .before .before .before .before .before .before .before .before .before .before .before .before in
+    let found = c .before .before .before .before .before .before .before .before .before .before .before .before .find-frame .ensures in (
+      mark-asked _ _ _ (d .before .before .before .before .before .before .before .before .before .before .before .before .before .before .before .pre .1) _ (d .before .before .before .before .before .region-of .ensures ∙ ap (regionOf (d .before .before .before .before .before .before .before .before .before .before .before .before .before .before .before .args .p)) (d .before .before .before .before .before .before .cluster-of .ensures)) _ (d .plan-of .ensures _ _ _ (d .before .before .before .before .before .before .before .before .before .before .before .before .before .before .before .pre .0)) _ _ _ _ _ _ _ _ _ (c .before .before .before .before .before .before .before .before .before .before .before .before .before .before .before .before .before .before .before .before .before .before .before .before .before .before .make-room .ensures _ (d .before .before .before .before .before .before .before .before .before .before .before .before .before .before .before .pre .0)) _ (marks-long _ _ _ (d .before .before .before .before .before .before .before .before .before .before .before .before .before .before .before .pre .1) _ (d .before .before .before .before .before .before .before .before .before .before .before .before .before .before .before .pre .0)),
+      old-asked _ _ _ (d .before .before .before .before .before .before .before .before .before .before .before .before .before .before .before .pre .1) _ (d .before .before .before .before .before .region-of .ensures ∙ ap (regionOf (d .before .before .before .before .before .before .before .before .before .before .before .before .before .before .before .args .p)) (d .before .before .before .before .before .before .cluster-of .ensures)) _ (d .plan-of .ensures _ _ _ (d .before .before .before .before .before .before .before .before .before .before .before .before .before .before .before .pre .0)) _ _ _ _ _ _ _ _ _ (c .before .before .before .before .before .before .before .before .before .before .before .before .before .before .before .before .before .before .before .before .before .before .before .before .before .before .make-room .ensures _ (d .before .before .before .before .before .before .before .before .before .before .before .before .before .before .before .pre .0)) _ _ (d .before .before .before .before .before .before .cluster-of .ensures) _ _ _ (found .0) (found .1) _ (marks-long _ _ _ (d .before .before .before .before .before .before .before .before .before .before .before .before .before .before .before .pre .1) _ (d .before .before .before .before .before .before .before .before .before .before .before .before .before .before .before .pre .0)),
     )
 
 answered-requires : tie.Need-answered-requires
 answered-requires c κs =
-    let d = c .before .before .before .before .before .before .before .before .before .before .before .before .before .before .before .before .before .before .before .before .before .before .before .before .before .before .before .before .before .before .before in (
-      alpha-few _ _ _ (d .before .before .before .before .before .before .before .before .before .before .before .before .before .before .pre),
-      copied-few _ _ _ (d .before .before .before .before .before .before .before .before .before .before .before .before .before .before .pre) _ (d .before .before .before .before .before .region-of .ensures ∙ ap (regionOf (d .before .before .before .before .before .before .before .before .before .before .before .before .before .before .args .p)) (d .before .before .before .before .before .before .cluster-of .ensures)) _ (d .plan-of .ensures) _ _ _ _ _ _ _ _ _ (c .before .before .before .before .before .before .before .before .before .before .before .before .before .before .before .before .before .before .before .before .before .before .before .before .before .make-room .ensures _),
+    let d = c .before .before .before .before .before .before .before .before .before .before .before .before .before .before .before .before .before .before .before .before .before .before .before .before .before .before .before .before .before .before .before .before .before .before .before .before in (
+      alpha-few _ _ _ (d .before .before .before .before .before .before .before .before .before .before .before .before .before .before .before .pre .1),
+      copied-few _ _ _ (d .before .before .before .before .before .before .before .before .before .before .before .before .before .before .before .pre .1) _ (d .before .before .before .before .before .region-of .ensures ∙ ap (regionOf (d .before .before .before .before .before .before .before .before .before .before .before .before .before .before .before .args .p)) (d .before .before .before .before .before .before .cluster-of .ensures)) _ (d .plan-of .ensures _ _ _ (d .before .before .before .before .before .before .before .before .before .before .before .before .before .before .before .pre .0)) _ _ _ _ _ _ _ _ _ (c .before .before .before .before .before .before .before .before .before .before .before .before .before .before .before .before .before .before .before .before .before .before .before .before .before .before .before .before .before .make-room .ensures _ (d .before .before .before .before .before .before .before .before .before .before .before .before .before .before .before .pre .0)),
     )
 
+-- each lent slice comes back as long as it was
+
 same-length : tie.Need-same-length
-same-length c = search needs
+same-length c = c .before .before .before .before .before .before .before .before .before .before .chip2 .given ∙ c .before .before .before .before .before .before .before .before .before .before .before .before .before .before .before .before .before .before .before .before .before .before .before .before .before .before .before .before .before .chip .given
 
 same-length-2 : tie.Need-same-length-2
-same-length-2 c = search needs
+same-length-2 c = c .before .before .before .before .before .before .before .before .ct2 .given ∙ c .before .before .before .before .before .before .before .before .before .before .before .before .before .before .before .before .before .before .before .before .before .before .before .before .before .before .before .ct .given
 
 same-length-3 : tie.Need-same-length-3
-same-length-3 c = search needs
+same-length-3 c = c .before .before .before .before .before .before .before .before .before .before .before .before .before .before .before .before .before .before .before .before .before .before .before .before .before .bt .given
 
 same-length-4 : tie.Need-same-length-4
-same-length-4 c = search needs
+same-length-4 c = c .before .before .before .before .before .before .fst .given
 
 same-length-5 : tie.Need-same-length-5
-same-length-5 c = search needs
+same-length-5 c = c .before .before .before .before .before .before .before .before .before .before .before .before .before .before .before .before .before .before .before .before .before .before .before .bst .given
 
 same-length-6 : tie.Need-same-length-6
-same-length-6 c = search needs
+same-length-6 c = c .before .before .before .before .before .before .before .before .before .before .before .before .before .before .before .before .before .before .before .before .before .wear .given
+
+same-length-7 : tie.Need-same-length-7
+same-length-7 c = c .before .before .marks .given
 
 returns : tie.Need-returns
 returns c =
-    let d = c .before .before .before .before .before .before .before .before .before .before .before .before .before .before .before .before .before .before .before .before .before .before .before .before .before .before .before .before .before .before .before .before in
-    gives _ _ _ (d .before .before .before .before .before .before .before .before .before .before .before .before .before .before .pre) _ (d .before .before .before .before .before .region-of .ensures ∙ ap (regionOf (d .before .before .before .before .before .before .before .before .before .before .before .before .before .before .args .p)) (d .before .before .before .before .before .before .cluster-of .ensures)) _ (d .plan-of .ensures) _ _ _ _ _ _ _ _ _ (c .before .before .before .before .before .before .before .before .before .before .before .before .before .before .before .before .before .before .before .before .before .before .before .before .before .before .make-room .ensures _)
-    _ _ _ _ (c .before .before .before .before .before .before .before .put-cluster .ensures) (c .answered .ensures)
+    let d = c .before .before .before .before .before .before .before .before .before .before .before .before .before .before .before .before .before .before .before .before .before .before .before .before .before .before .before .before .before .before .before .before .before .before .before .before .before in
+    let found = c .before .before .before .before .before .before .before .before .before .before .before .before .before .before .before .before .find-frame .ensures in (
+      gives _ _ _ (d .before .before .before .before .before .before .before .before .before .before .before .before .before .before .before .pre .1) _ (d .before .before .before .before .before .region-of .ensures ∙ ap (regionOf (d .before .before .before .before .before .before .before .before .before .before .before .before .before .before .before .args .p)) (d .before .before .before .before .before .before .cluster-of .ensures)) _ (d .plan-of .ensures _ _ _ (d .before .before .before .before .before .before .before .before .before .before .before .before .before .before .before .pre .0)) _ _ _ _ _ _ _ _ _ (c .before .before .before .before .before .before .before .before .before .before .before .before .before .before .before .before .before .before .before .before .before .before .before .before .before .before .before .before .before .before .make-room .ensures _ (d .before .before .before .before .before .before .before .before .before .before .before .before .before .before .before .pre .0))
+          _ _ _ _ (c .before .before .before .before .before .before .before .before .before .before .before .put-cluster .ensures) (c .answered .ensures),
+      marks-kept _ _ _ (d .before .before .before .before .before .before .before .before .before .before .before .before .before .before .before .pre .1) _ (d .before .before .before .before .before .region-of .ensures ∙ ap (regionOf (d .before .before .before .before .before .before .before .before .before .before .before .before .before .before .before .args .p)) (d .before .before .before .before .before .before .cluster-of .ensures)) _ (d .plan-of .ensures _ _ _ (d .before .before .before .before .before .before .before .before .before .before .before .before .before .before .before .pre .0)) _ _ _ _ _ _ _ _ _ (c .before .before .before .before .before .before .before .before .before .before .before .before .before .before .before .before .before .before .before .before .before .before .before .before .before .before .before .before .before .before .make-room .ensures _ (d .before .before .before .before .before .before .before .before .before .before .before .before .before .before .before .pre .0)) _ _ (d .before .before .before .before .before .before .cluster-of .ensures) _ _ _ (found .0) (found .1) _ _ (d .before .before .before .before .before .before .before .before .before .before .before .before .before .before .before .pre .0) (c .before .before .before .keep-marks .ensures),
+    )
 
 pub write-orderly-spec : {M : Type 1} → statement M
 write-orderly-spec =
@@ -77,6 +93,7 @@ write-orderly-spec =
     make-room-requires
     find-frame-requires
     put-cluster-requires
+    keep-marks-requires
     answered-requires
     same-length
     same-length-2
@@ -84,4 +101,5 @@ write-orderly-spec =
     same-length-4
     same-length-5
     same-length-6
+    same-length-7
     returns)

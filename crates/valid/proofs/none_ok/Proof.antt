@@ -1,0 +1,42 @@
+-- `valid::none_ok`: every word passed is 0, which is the word without a mark.
+-- Assumes nothing.
+use mathlib.Core.Path.{sym, _∙_, _≡_}
+use mathlib.Core.Bool.{false, true}
+use Prim.Native.Nat.{_-_, _≤_}
+use native.Mathlib.Omega.{arith}
+use Rattle.lists.specs.Below.{allBelow}
+use Rattle.loops.proofs.Below.{all-end, all-fails, all-more, all-start}
+use Rattle.valid.specs.Shown.{wordsAre}
+use Rattle.valid.proofs.Words.{no-word, word-is, word-not}
+use Rattle.valid.proofs.none_ok.Statement.{statement}
+use Rattle.valid.proofs.none_ok.Tie as tie
+
+abbrev Inv-loop : tie.InvT-loop
+Inv-loop p marks r v w₀ w = (w ≤ 4) × (allBelow w (wordsAre p marks r (v .0) (λ f. false)) ≡ true)
+
+abbrev μ-loop : tie.MeasureT-loop
+μ-loop p marks r v w₀ w = 4 - w
+
+loop-holds : tie.Need-loop-holds Inv-loop μ-loop
+loop-holds c = (omega arith, all-start _)
+
+word-at-requires : tie.Need-word-at-requires Inv-loop μ-loop
+word-at-requires c κs = (c .before .before .before .pre, c .loop-test .taken)
+
+returns : tie.Need-returns Inv-loop μ-loop
+returns c = sym (all-fails _ (c .before .before .before .loop .w) _ (c .before .before .loop-test .taken) (word-not _ _ _ _ _ _ _ _ (c .before .word-at .ensures) (no-word _) (c .if1 .taken)))
+
+add-w : tie.Need-add-w Inv-loop μ-loop
+add-w c = omega arith
+
+loop-less : tie.Need-loop-less Inv-loop μ-loop
+loop-less c = omega arith
+
+loop-again : tie.Need-loop-again Inv-loop μ-loop
+loop-again c = (omega arith, all-more _ _ (c .before .before .before .loop .inv .1) (word-is _ _ _ _ _ _ _ _ (c .before .word-at .ensures) (no-word _) (c .if1 .left)))
+
+returns-2 : tie.Need-returns-2 Inv-loop μ-loop
+returns-2 c = sym (all-end _ _ _ (omega arith) (c .before .loop .inv .1))
+
+pub none-ok-spec : {M : Type 1} → statement M
+none-ok-spec = tie.close (tie.spec Inv-loop μ-loop loop-holds word-at-requires returns add-w loop-less loop-again returns-2)
