@@ -47,7 +47,8 @@ static struct cnftl_board new_board(struct cnftl_params p)
     struct cnftl_board b = {
         p, room(cnftl_chip_bytes(&p), 255), room(2 * (size_t)p.c, 255),
         room(2 * (size_t)p.mu * p.gamma, 255), room(2 * (size_t)p.mu, 255),
-        room(p.n, 0), room(4 * (size_t)p.n, 0)
+        room(p.n, 0), room(4 * (size_t)p.n, 0),
+        room(8 * cnftl_marks_entries(&p), 0)
     };
 
     return b;
@@ -61,6 +62,7 @@ static void drop(struct cnftl_board *b)
     free(b->fst);
     free(b->bst);
     free(b->wear);
+    free(b->marks);
 }
 
 /* Programs frame f of block n with cluster c. */
@@ -79,7 +81,8 @@ static void program(struct cnftl_board *b, size_t n, size_t f, size_t c)
     }
 }
 
-/* Fills every virtual block of a region with its clusters in turn. */
+/* Fills every virtual block of a region with its clusters in turn.  The last
+   round of them is valid. */
 static void fill(struct cnftl_board *b, size_t r)
 {
     const struct cnftl_params *p = &b->params;
@@ -92,6 +95,9 @@ static void fill(struct cnftl_board *b, size_t r)
         b->bt[r * p->gamma + v] = (uint16_t)n;
         b->bst[n] = 1;
         b->ct[c] = (uint16_t)(v * p->d + f / p->beta);
+        if (i + own >= p->gamma * in_block)
+            b->marks[CNFTL_MARK_WORDS * (r * p->gamma + v) + f / 64]
+                |= UINT64_C(1) << f % 64;
         program(b, n, f, c);
     }
     b->fst[r] = (uint16_t)(p->gamma * p->d - 1);
@@ -185,6 +191,9 @@ static void state_check(const char *name, int full)
            "%6.3f ms (ratio %.2f), model for speed %6.3f ms (ratio %.2f)\n",
            name, product * 1e3, check * 1e3, product / check, fast * 1e3,
            product / fast);
+    b.marks[0] ^= 1;
+    assert(product_read(&b) == CNFTL_NOT_ORDERLY && !plain_orderly(&b));
+    b.marks[0] ^= 1;
     b.chip[cnftl_chip_bytes(&p) - 1] ^= 1;
     assert(product_read(&b) == CNFTL_NOT_ORDERLY && !plain_orderly(&b));
     drop(&b);

@@ -1,5 +1,5 @@
 /*
- * model_fast.c - document 01 in plain C, written for speed.
+ * model_fast.c - document 01 with 02's marks in plain C, written for speed.
  *
  * The orderly check passes once over the chip.  It reads only the spare bytes
  * of programmed pages, compares erased pages by words, and searches nothing:
@@ -8,15 +8,20 @@
  *   - If all named blocks are used and differ, then "used exactly if named"
  *     says that as many blocks are used as are named.
  *   - A cluster has at most one valid frame, and that frame's segment is the
- *     one in CT.  So CT is orderly exactly if there are as many valid frames
- *     as entries that are not none.
+ *     one in CT.  So there are at most as many valid frames as CT entries that
+ *     are not none.  Where each marked frame is valid, and there are as many
+ *     marks as such entries, all valid frames are marked and CT is orderly:
+ *     the frames without a mark need no look at CT.
+ *
+ * A write keeps the marks: it sets the new frame's and clears the old one's,
+ * and after a reclaim the copies have the first marks of their block.
  */
 #include "model_fast.h"
 
 #include <stdbool.h>
 #include <string.h>
 
-enum { SPARE = 16, NONE = 65535, FREE = 0, USED = 1, RESERVED = 2 };
+enum { SPARE = 16, NONE = 65535, FREE = 0, USED = 1, RESERVED = 2, WORDS = 4 };
 enum {
     ACCEPTED, BAD_PARAMETER, WRONG_LENGTH, BAD_COUNT, BAD_ADDRESS, WRONG_DATA,
     TOO_FEW_BLOCKS, NOT_ORDERLY
@@ -31,6 +36,7 @@ struct board {
     const uint16_t *ct, *bt, *fst;
     const uint8_t *bst;
     const uint32_t *wear;
+    const uint64_t *marks;
 };
 
 /* The state as format and write change it. */
@@ -39,6 +45,7 @@ struct lent {
     uint16_t *ct, *bt, *fst;
     uint8_t *bst;
     uint32_t *wear;
+    uint64_t *marks;
 };
 
 /* Whether all bytes are 255, by words of eight. */
@@ -90,6 +97,41 @@ static const uint8_t *spare_at(const struct board *b, uint32_t block,
     return b->chip + frame_at(b, block, frame) + b->s;
 }
 
+/* ==== Marks ============================================================ */
+
+/* Where the words of a virtual block begin. */
+static size_t words_at(const struct board *b, uint32_t region,
+                       uint32_t virtual_block)
+{
+    return WORDS * ((size_t)region * b->gamma + virtual_block);
+}
+
+/* The first k marks of a word and no other; k may be below 0 or above 64. */
+static uint64_t first_marks(int k)
+{
+    return k <= 0 ? 0 : k >= 64 ? UINT64_MAX : (UINT64_C(1) << k) - 1;
+}
+
+/* The ones in the words of a virtual block. */
+static uint32_t ones(const uint64_t *words)
+{
+    return (uint32_t)(__builtin_popcountll(words[0])
+                      + __builtin_popcountll(words[1])
+                      + __builtin_popcountll(words[2])
+                      + __builtin_popcountll(words[3]));
+}
+
+/* The ones below a frame's mark. */
+static uint32_t ones_below(const uint64_t *words, uint32_t frame)
+{
+    uint32_t sum = 0;
+
+    for (int w = 0; w < WORDS; w++)
+        sum += (uint32_t)__builtin_popcountll(
+            words[w] & first_marks((int)frame - 64 * w));
+    return sum;
+}
+
 /* ==== The orderly check ================================================ */
 
 /* Whether all pages of a frame have the spare bytes of the cluster. */
@@ -108,31 +150,50 @@ static bool spares_right(const struct board *b, const uint8_t *spare,
     return true;
 }
 
-/* How many of a segment's first k frames, with these clusters, are valid. */
-static uint32_t valid_in_segment(const struct board *b, const uint32_t *cluster,
-                                 uint32_t k, uint32_t segment)
+/* Whether each marked one of a segment's first k frames, with these clusters,
+   is valid; the first frame's mark is the lowest bit. */
+static bool marked_valid(const struct board *b, const uint32_t *cluster,
+                         uint32_t k, uint32_t segment, uint64_t bits)
 {
-    uint32_t valid = 0;
-
     for (uint32_t i = 0; i < k; i++) {
-        uint32_t later = i + 1;
-
-        if (b->ct[cluster[i]] != segment)
+        if (!(bits >> i & 1))
             continue;
-        while (later < k && cluster[later] != cluster[i])
-            later++;
-        valid += later == k;
+        if (b->ct[cluster[i]] != segment)
+            return false;
+        for (uint32_t later = i + 1; later < k; later++)
+            if (cluster[later] == cluster[i])
+                return false;
     }
-    return valid;
+    return true;
 }
 
-/* The programmed frames of a used block, or 0 if it is not orderly.  Adds its
-   valid frames to *valid. */
-static uint32_t check_used_block(const struct board *b, uint32_t region,
-                                 uint32_t virtual_block, uint32_t block,
-                                 uint32_t *valid)
+/* The marks of a segment from a frame on, the first of them the lowest bit. */
+static uint64_t marks_from(const uint64_t *words, uint32_t frame)
 {
-    uint32_t cluster[16], k, held = 0;
+    uint64_t low = words[frame / 64] >> frame % 64;
+
+    if (frame % 64 == 0 || frame / 64 == WORDS - 1)
+        return low;
+    return low | words[frame / 64 + 1] << (64 - frame % 64);
+}
+
+/* Whether no frame from k on has a mark. */
+static bool no_marks_from(const uint64_t *words, uint32_t k)
+{
+    uint64_t rest = 0;
+
+    for (int w = 0; w < WORDS; w++)
+        rest |= words[w] & ~first_marks((int)k - 64 * w);
+    return rest == 0;
+}
+
+/* The programmed frames of a used block, or 0 if it or a mark of it is not
+   orderly. */
+static uint32_t check_used_block(const struct board *b, uint32_t region,
+                                 uint32_t virtual_block, uint32_t block)
+{
+    const uint64_t *words = b->marks + words_at(b, region, virtual_block);
+    uint32_t cluster[16], k, held = 0, segment = virtual_block * b->d;
 
     for (k = 0; k < b->frames; k++) {
         const uint8_t *spare = spare_at(b, block, k);
@@ -144,23 +205,28 @@ static uint32_t check_used_block(const struct board *b, uint32_t region,
             return 0;
         cluster[held++] = x;
         if (held == b->beta) {
-            *valid += valid_in_segment(b, cluster, held,
-                                       virtual_block * b->d + k / b->beta);
+            if (!marked_valid(b, cluster, held, segment,
+                              marks_from(words, k + 1 - held)))
+                return 0;
             held = 0;
+            segment++;
         }
     }
-    if (held > 0)
-        *valid += valid_in_segment(b, cluster, held,
-                                   virtual_block * b->d + k / b->beta);
-    if (!all_ones(b->chip + frame_at(b, block, k), (b->frames - k) * b->frame))
+    if (held > 0
+        && !marked_valid(b, cluster, held, segment,
+                         marks_from(words, k - held)))
+        return 0;
+    if (!no_marks_from(words, k)
+        || !all_ones(b->chip + frame_at(b, block, k),
+                     (b->frames - k) * b->frame))
         return 0;
     return k;
 }
 
-/* Whether a region's blocks and its FST entry are orderly.  Adds its blocks to
-   *named and its valid frames to *valid. */
+/* Whether a region's blocks, their marks and its FST entry are orderly.  Adds
+   its blocks to *named and its marks to *marked. */
 static bool check_region(const struct board *b, uint32_t region,
-                         uint32_t *named, uint32_t *valid)
+                         uint32_t *named, uint32_t *marked)
 {
     const uint16_t *bt = b->bt + (size_t)region * b->gamma;
     uint32_t segment = b->fst[region], open = segment / b->d;
@@ -168,21 +234,23 @@ static bool check_region(const struct board *b, uint32_t region,
     bool found = false;
 
     for (uint32_t v = 0; v < b->gamma; v++) {
+        const uint64_t *words = b->marks + words_at(b, region, v);
         uint32_t k;
 
-        if (bt[v] == NONE)
+        if (bt[v] == NONE && no_marks_from(words, 0))
             continue;
         if (bt[v] >= b->n || b->bst[bt[v]] != USED)
             return false;
         for (uint32_t u = 0; u < v; u++)
             if (bt[u] == bt[v])
                 return false;
-        k = check_used_block(b, region, v, bt[v], valid);
+        k = check_used_block(b, region, v, bt[v]);
         if (k == 0 || (k < b->frames && v != open))
             return false;
         if (v == open && segment == v * b->d + (k - 1) / b->beta)
             found = true;
         blocks++;
+        *marked += ones(words);
     }
     *named += blocks;
     return blocks == 0 ? segment == NONE : found;
@@ -218,12 +286,12 @@ static uint32_t ct_entries(const struct board *b)
 /* Whether the state is orderly. */
 static bool orderly(const struct board *b)
 {
-    uint32_t named = 0, valid = 0;
+    uint32_t named = 0, marked = 0;
 
     for (uint32_t r = 0; r < b->mu; r++)
-        if (!check_region(b, r, &named, &valid))
+        if (!check_region(b, r, &named, &marked))
             return false;
-    return valid == ct_entries(b) && check_blocks(b, named);
+    return marked == ct_entries(b) && check_blocks(b, named);
 }
 
 /* ==== Refusals ========================================================= */
@@ -241,13 +309,15 @@ static bool parameters_allowed(const struct board *b)
 /* The reply to parameters and lengths. */
 static uint32_t refuse_board(const struct board *b, size_t chip_len,
                              size_t ct_len, size_t bt_len, size_t fst_len,
-                             size_t bst_len, size_t wear_len)
+                             size_t bst_len, size_t wear_len,
+                             size_t marks_len)
 {
     if (!parameters_allowed(b))
         return BAD_PARAMETER;
     if (chip_len != (uint64_t)b->n * (b->alpha * b->frames) * (b->s + SPARE)
         || ct_len != b->c || bt_len != b->mu * b->gamma || fst_len != b->mu
-        || bst_len != b->n || wear_len != b->n)
+        || bst_len != b->n || wear_len != b->n
+        || marks_len != WORDS * b->mu * b->gamma)
         return WRONG_LENGTH;
     return ACCEPTED;
 }
@@ -288,18 +358,27 @@ static uint64_t answer(uint32_t reply, uint32_t programs, uint32_t erases)
 
 /* ==== Steps ============================================================ */
 
-/* Offset of the cluster's valid frame, or SIZE_MAX if CT has none. */
-static size_t valid_frame(const struct board *b, uint32_t cluster)
+/* A cluster's valid frame; at is its offset, or SIZE_MAX if CT has none. */
+struct holder {
+    size_t at;
+    uint32_t virtual_block, frame;
+};
+
+/* Finds it. */
+static struct holder valid_frame(const struct board *b, uint32_t cluster)
 {
-    uint32_t segment = b->ct[cluster], block, frame;
+    struct holder h = { SIZE_MAX, 0, 0 };
+    uint32_t segment = b->ct[cluster], block;
 
     if (segment == NONE)
-        return SIZE_MAX;
-    block = b->bt[(size_t)(cluster % b->mu) * b->gamma + segment / b->d];
-    frame = segment % b->d * b->beta + b->beta - 1;
-    while (cluster_in(spare_at(b, block, frame)) != cluster)
-        frame--;
-    return frame_at(b, block, frame);
+        return h;
+    h.virtual_block = segment / b->d;
+    block = b->bt[(size_t)(cluster % b->mu) * b->gamma + h.virtual_block];
+    h.frame = segment % b->d * b->beta + b->beta - 1;
+    while (cluster_in(spare_at(b, block, h.frame)) != cluster)
+        h.frame--;
+    h.at = frame_at(b, block, h.frame);
+    return h;
 }
 
 /* Erases a block and counts it. */
@@ -321,65 +400,42 @@ static uint32_t free_block(const struct board *b)
     return best;
 }
 
-/* Lists the valid frames of a full virtual block in order; returns how many. */
-static uint32_t list_valid(const struct board *b, uint32_t region,
-                           uint32_t virtual_block, uint8_t *list)
-{
-    uint32_t block = b->bt[(size_t)region * b->gamma + virtual_block];
-    uint32_t cluster[16], valid = 0;
-
-    for (uint32_t first = 0; first < b->frames; first += b->beta) {
-        uint32_t segment = virtual_block * b->d + first / b->beta;
-
-        for (uint32_t i = 0; i < b->beta; i++)
-            cluster[i] = cluster_in(spare_at(b, block, first + i));
-        for (uint32_t i = 0; i < b->beta; i++) {
-            uint32_t later = i + 1;
-
-            if (b->ct[cluster[i]] != segment)
-                continue;
-            while (later < b->beta && cluster[later] != cluster[i])
-                later++;
-            if (later == b->beta)
-                list[valid++] = (uint8_t)(first + i);
-        }
-    }
-    return valid;
-}
-
-/* The virtual block with fewest valid frames, which are listed. */
+/* The virtual block with fewest valid frames, and how many these are. */
 static uint32_t choose_victim(const struct board *b, uint32_t region,
-                              uint8_t list[256], uint32_t *valid)
+                              uint32_t *valid)
 {
-    uint8_t other[256];
+    const uint64_t *words = b->marks + words_at(b, region, 0);
     uint32_t victim = 0;
 
-    *valid = list_valid(b, region, 0, list);
+    *valid = ones(words);
     for (uint32_t v = 1; v < b->gamma; v++) {
-        uint32_t here = list_valid(b, region, v, other);
+        uint32_t here = ones(words + WORDS * v);
 
         if (here < *valid) {
             victim = v;
             *valid = here;
-            memcpy(list, other, here);
         }
     }
     return victim;
 }
 
-/* Copies the victim's valid frames, with their spare bytes, to a block; CT
+/* Copies the victim's marked frames, with their spare bytes, to a block; CT
    follows. */
 static void copy_frames(const struct board *b, const struct lent *l,
                         uint32_t victim, uint32_t old, uint32_t new_block,
-                        const uint8_t *list, uint32_t copied)
+                        const uint64_t *words)
 {
-    for (uint32_t i = 0; i < copied; i++) {
-        uint32_t cluster = cluster_in(spare_at(b, old, list[i]));
+    uint32_t i = 0;
 
-        memcpy(l->chip + frame_at(b, new_block, i),
-               b->chip + frame_at(b, old, list[i]), b->frame);
-        l->ct[cluster] = (uint16_t)(victim * b->d + i / b->beta);
-    }
+    for (uint32_t w = 0; w < WORDS; w++)
+        for (uint64_t bits = words[w]; bits != 0; bits &= bits - 1, i++) {
+            uint32_t frame = 64 * w + (uint32_t)__builtin_ctzll(bits);
+            uint32_t cluster = cluster_in(spare_at(b, old, frame));
+
+            memcpy(l->chip + frame_at(b, new_block, i),
+                   b->chip + frame_at(b, old, frame), b->frame);
+            l->ct[cluster] = (uint16_t)(victim * b->d + i / b->beta);
+        }
 }
 
 /* Where a write goes, and what it takes. */
@@ -406,14 +462,31 @@ static bool open_frame(const struct board *b, uint32_t region,
     return t->frame < b->frames;
 }
 
+/* The copies of a reclaim, which then have the first marks of their virtual
+   block; the holder's mark is followed. */
+static void reclaim(const struct board *b, const struct lent *l,
+                    uint32_t region, struct target *t, struct holder *old)
+{
+    uint64_t *words;
+
+    t->virtual_block = choose_victim(b, region, &t->copied);
+    t->victim_block = b->bt[(size_t)region * b->gamma + t->virtual_block];
+    t->frame = t->copied;
+    words = l->marks + words_at(b, region, t->virtual_block);
+    copy_frames(b, l, t->virtual_block, t->victim_block, t->block, words);
+    if (old->virtual_block == t->virtual_block)
+        old->frame = ones_below(words, old->frame);
+    for (int w = 0; w < WORDS; w++)
+        words[w] = first_marks((int)t->copied - 64 * w);
+}
+
 /* Finds the frame of a write: in the open block, in a new one, or after the
    copies of a reclaim. */
 static struct target find_target(const struct board *b, const struct lent *l,
-                                 uint32_t region)
+                                 uint32_t region, struct holder *old)
 {
     struct target t = { 0, NONE, 0, 0, NONE };
     uint16_t *bt = l->bt + (size_t)region * b->gamma;
-    uint8_t list[256];
 
     if (open_frame(b, region, &t))
         return t;
@@ -421,16 +494,24 @@ static struct target find_target(const struct board *b, const struct lent *l,
     t.frame = t.virtual_block = 0;
     while (t.virtual_block < b->gamma && bt[t.virtual_block] != NONE)
         t.virtual_block++;
-    if (t.virtual_block == b->gamma) {
-        t.virtual_block = choose_victim(b, region, list, &t.copied);
-        t.victim_block = bt[t.virtual_block];
-        t.frame = t.copied;
-        copy_frames(b, l, t.virtual_block, t.victim_block, t.block, list,
-                    t.copied);
-    }
+    if (t.virtual_block == b->gamma)
+        reclaim(b, l, region, &t, old);
     bt[t.virtual_block] = (uint16_t)t.block;
     l->bst[t.block] = USED;
     return t;
+}
+
+/* Clears the old frame's mark, if there is one, and sets the new one's. */
+static void move_mark(const struct board *b, const struct lent *l,
+                      uint32_t region, const struct holder *old,
+                      const struct target *t)
+{
+    uint64_t *from = l->marks + words_at(b, region, old->virtual_block);
+    uint64_t *to = l->marks + words_at(b, region, t->virtual_block);
+
+    if (old->at != SIZE_MAX)
+        from[old->frame / 64] &= ~(UINT64_C(1) << old->frame % 64);
+    to[t->frame / 64] |= UINT64_C(1) << t->frame % 64;
 }
 
 /* Programs an erased frame with the old cluster, or with the spare bytes alone
@@ -456,11 +537,11 @@ static uint64_t write_steps(const struct board *b, const struct lent *l,
                             uint32_t lba, uint32_t count, const uint8_t *data)
 {
     uint32_t cluster = lba / b->alpha, region = cluster % b->mu, segment;
-    size_t old = valid_frame(b, cluster);
-    struct target t = find_target(b, l, region);
+    struct holder old = valid_frame(b, cluster);
+    struct target t = find_target(b, l, region, &old);
     uint8_t *to = l->chip + frame_at(b, t.block, t.frame);
 
-    put_cluster(b, to, old == SIZE_MAX ? NULL : b->chip + old, cluster);
+    put_cluster(b, to, old.at == SIZE_MAX ? NULL : b->chip + old.at, cluster);
     for (uint32_t i = 0; i < count; i++)
         memcpy(to + (lba % b->alpha + i) * b->page, data + (size_t)i * b->s,
                b->s);
@@ -469,6 +550,7 @@ static uint64_t write_steps(const struct board *b, const struct lent *l,
     segment = t.virtual_block * b->d + t.frame / b->beta;
     l->ct[cluster] = (uint16_t)segment;
     l->fst[region] = (uint16_t)segment;
+    move_mark(b, l, region, &old, &t);
     return answer(ACCEPTED, b->alpha * (t.copied + 1), t.victim_block != NONE);
 }
 
@@ -491,12 +573,13 @@ uint64_t fast_format(uint32_t s, uint32_t alpha, uint32_t beta, uint32_t d,
                      uint16_t *bt, size_t bt_len,
                      uint16_t *fst, size_t fst_len,
                      uint8_t *bst, size_t bst_len,
-                     uint32_t *wear, size_t wear_len)
+                     uint32_t *wear, size_t wear_len,
+                     uint64_t *marks, size_t marks_len)
 {
     struct board b = make_board(s, alpha, beta, d, mu, gamma, c, n);
-    struct lent l = { chip, ct, bt, fst, bst, wear };
+    struct lent l = { chip, ct, bt, fst, bst, wear, marks };
     uint32_t reply = refuse_board(&b, chip_len, ct_len, bt_len, fst_len,
-                                  bst_len, wear_len), good = 0;
+                                  bst_len, wear_len, marks_len), good = 0;
 
     if (reply != ACCEPTED)
         return answer(reply, 0, 0);
@@ -513,6 +596,7 @@ uint64_t fast_format(uint32_t s, uint32_t alpha, uint32_t beta, uint32_t d,
     memset(ct, 255, ct_len * sizeof *ct);
     memset(bt, 255, bt_len * sizeof *bt);
     memset(fst, 255, fst_len * sizeof *fst);
+    memset(marks, 0, marks_len * sizeof *marks);
     return answer(ACCEPTED, 0, good);
 }
 
@@ -525,12 +609,13 @@ uint64_t fast_read(uint32_t s, uint32_t alpha, uint32_t beta, uint32_t d,
                    const uint16_t *fst, size_t fst_len,
                    const uint8_t *bst, size_t bst_len,
                    const uint32_t *wear, size_t wear_len,
+                   const uint64_t *marks, size_t marks_len,
                    uint32_t lba, uint32_t count,
                    uint8_t *data, size_t data_len)
 {
     struct board b = make_board(s, alpha, beta, d, mu, gamma, c, n);
     uint32_t reply = refuse_board(&b, chip_len, ct_len, bt_len, fst_len,
-                                  bst_len, wear_len);
+                                  bst_len, wear_len, marks_len);
     size_t frame;
 
     b.chip = chip;
@@ -539,11 +624,12 @@ uint64_t fast_read(uint32_t s, uint32_t alpha, uint32_t beta, uint32_t d,
     b.fst = fst;
     b.bst = bst;
     b.wear = wear;
+    b.marks = marks;
     if (reply == ACCEPTED)
         reply = refuse_request(&b, lba, count, data_len);
     if (reply != ACCEPTED)
         return answer(reply, 0, 0);
-    frame = valid_frame(&b, lba / alpha);
+    frame = valid_frame(&b, lba / alpha).at;
     if (frame == SIZE_MAX)
         memset(data, 255, data_len);
     for (uint32_t i = 0; i < count && frame != SIZE_MAX; i++)
@@ -561,13 +647,14 @@ uint64_t fast_write(uint32_t s, uint32_t alpha, uint32_t beta, uint32_t d,
                     uint16_t *fst, size_t fst_len,
                     uint8_t *bst, size_t bst_len,
                     uint32_t *wear, size_t wear_len,
+                    uint64_t *marks, size_t marks_len,
                     uint32_t lba, uint32_t count,
                     const uint8_t *data, size_t data_len)
 {
     struct board b = make_board(s, alpha, beta, d, mu, gamma, c, n);
-    struct lent l = { chip, ct, bt, fst, bst, wear };
+    struct lent l = { chip, ct, bt, fst, bst, wear, marks };
     uint32_t reply = refuse_board(&b, chip_len, ct_len, bt_len, fst_len,
-                                  bst_len, wear_len);
+                                  bst_len, wear_len, marks_len);
 
     b.chip = chip;
     b.ct = ct;
@@ -575,6 +662,7 @@ uint64_t fast_write(uint32_t s, uint32_t alpha, uint32_t beta, uint32_t d,
     b.fst = fst;
     b.bst = bst;
     b.wear = wear;
+    b.marks = marks;
     if (reply == ACCEPTED)
         reply = refuse_request(&b, lba, count, data_len);
     if (reply != ACCEPTED)

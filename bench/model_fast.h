@@ -1,5 +1,6 @@
 /*
- * model_fast.h - document 01's calls in plain C, written for speed.
+ * model_fast.h - document 01's calls with 02's marks in plain C, written for
+ * speed.
  *
  * The three calls have the signatures of cnftl.h under the prefix fast_ and
  * the same outcome.  They are what the product's speed is measured against.

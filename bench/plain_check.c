@@ -177,6 +177,58 @@ static bool good_region(const struct cnftl_board *b, size_t r)
     return true;
 }
 
+/* Does the cluster of frame f of a block read from it? It is programmed, CT
+   names its segment, and no later frame of the segment holds its cluster. */
+static bool is_valid(const struct cnftl_board *b, size_t v,
+                     const uint8_t *block, size_t f)
+{
+    const struct cnftl_params *p = &b->params;
+    const uint8_t *frame = block + f * frame_bytes(p);
+    size_t c = held(p, frame);
+
+    if (frame[p->s + 6] != 0 || b->ct[c] != v * p->d + f / p->beta)
+        return false;
+    for (f++; f % p->beta != 0; f++) {
+        frame += frame_bytes(p);
+        if (frame[p->s + 6] == 0 && held(p, frame) == c)
+            return false;
+    }
+    return true;
+}
+
+/* Do the words of a virtual block mark its valid frames and no other? */
+static bool good_words(const struct cnftl_board *b, size_t v, size_t n,
+                       const uint64_t *words)
+{
+    const uint8_t *block = n == CNFTL_NONE ? NULL : block_of(b, n);
+
+    for (size_t w = 0; w < CNFTL_MARK_WORDS; w++) {
+        uint64_t word = 0;
+
+        for (size_t i = 0; i < 64 && block; i++)
+            if (64 * w + i < frames(&b->params)
+                && is_valid(b, v, block, 64 * w + i))
+                word |= UINT64_C(1) << i;
+        if (words[w] != word)
+            return false;
+    }
+    return true;
+}
+
+/* The marks of a region. */
+static bool good_marks(const struct cnftl_board *b, size_t r)
+{
+    const struct cnftl_params *p = &b->params;
+
+    for (size_t v = 0; v < p->gamma; v++) {
+        size_t e = r * p->gamma + v;
+
+        if (!good_words(b, v, b->bt[e], b->marks + CNFTL_MARK_WORDS * e))
+            return false;
+    }
+    return true;
+}
+
 bool plain_orderly(const struct cnftl_board *b)
 {
     const struct cnftl_params *p = &b->params;
@@ -189,6 +241,9 @@ bool plain_orderly(const struct cnftl_board *b)
             return false;
     for (size_t r = 0; r < p->mu; r++)
         if (!good_region(b, r))
+            return false;
+    for (size_t r = 0; r < p->mu; r++)
+        if (!good_marks(b, r))
             return false;
     return true;
 }

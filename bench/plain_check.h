@@ -1,6 +1,6 @@
 /*
  * plain_check.h - the product's state check in plain C: the same passes in the
- * same order, with memcmp where it compares bytes.
+ * same order, with memcmp where it compares bytes, and the marks last.
  */
 #ifndef PLAIN_CHECK_H
 #define PLAIN_CHECK_H

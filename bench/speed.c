@@ -6,6 +6,9 @@
  * median time of a call, the ratio product/C of the medians, and the ratio of
  * the best times, which other work on the machine disturbs less.  Answers and
  * boards must be equal in the end.
+ *
+ * The last row is the work of a write with reclaim without the check of the
+ * state, on a board of the largest blocks and regions: F = 256, gamma = 16.
  */
 #define _POSIX_C_SOURCE 200809L
 #undef NDEBUG
@@ -76,11 +79,17 @@ static double clock_cost(void)
 /* ==== The calls of both sides ========================================== */
 
 static struct cnftl_board product, plain;
-static struct times of_product[2], of_plain[2];
+static struct times of_product[3], of_plain[3];
 static uint8_t data[2][16 * 512];
 
-/* One call on both sides, timed; writes with a reclaim are kept apart. */
-static void time_call(char kind, uint32_t lba)
+/* What one call on both sides took, and the erases that it reported. */
+struct timed {
+    double product, plain;
+    uint32_t erases;
+};
+
+/* One call on both sides, timed. */
+static struct timed timed_call(char kind, uint32_t lba)
 {
     size_t len = product.params.s;
     double start = now(), middle, end;
@@ -96,8 +105,16 @@ static void time_call(char kind, uint32_t lba)
     end = now();
     assert(a == b && cnftl_reply_of(a) == CNFTL_ACCEPTED);
     assert(memcmp(data[0], data[1], len) == 0);
-    add_time(&of_product[kind == 'W' && cnftl_erases_of(a)], middle - start);
-    add_time(&of_plain[kind == 'W' && cnftl_erases_of(a)], end - middle);
+    return (struct timed){ middle - start, end - middle, cnftl_erases_of(a) };
+}
+
+/* The same, for a row; writes with a reclaim are kept apart. */
+static void time_call(char kind, uint32_t lba)
+{
+    struct timed t = timed_call(kind, lba);
+
+    add_time(&of_product[kind == 'W' && t.erases], t.product);
+    add_time(&of_plain[kind == 'W' && t.erases], t.plain);
 }
 
 /* ==== The boards ======================================================= */
@@ -118,7 +135,7 @@ static void *get_memory(size_t bytes)
 /* A new chip and its tables. */
 static struct cnftl_board new_board(const struct cnftl_params *p)
 {
-    struct cnftl_board b = { *p, NULL, NULL, NULL, NULL, NULL, NULL };
+    struct cnftl_board b = { *p, NULL, NULL, NULL, NULL, NULL, NULL, NULL };
 
     b.chip = get_memory(cnftl_chip_bytes(p));
     b.ct = get_memory(cnftl_ct_entries(p) * sizeof *b.ct);
@@ -126,6 +143,7 @@ static struct cnftl_board new_board(const struct cnftl_params *p)
     b.fst = get_memory(cnftl_fst_entries(p) * sizeof *b.fst);
     b.bst = get_memory(cnftl_bst_entries(p));
     b.wear = get_memory(cnftl_wear_entries(p) * sizeof *b.wear);
+    b.marks = get_memory(cnftl_marks_entries(p) * sizeof *b.marks);
     memset(b.chip, 255, cnftl_chip_bytes(p));
     memset(b.wear, 0, cnftl_wear_entries(p) * sizeof *b.wear);
     return b;
@@ -140,6 +158,7 @@ static void free_board(struct cnftl_board *b)
     free(b->fst);
     free(b->bst);
     free(b->wear);
+    free(b->marks);
 }
 
 /* Programs one frame of a formatted board. */
@@ -163,8 +182,17 @@ static void put_frame(const struct cnftl_board *b, uint32_t block,
     }
 }
 
+/* Marks a frame of a BT entry as valid. */
+static void put_mark(const struct cnftl_board *b, uint32_t entry,
+                     uint32_t frame)
+{
+    b->marks[CNFTL_MARK_WORDS * (size_t)entry + frame / 64]
+        |= UINT64_C(1) << frame % 64;
+}
+
 /* Fills a region of a formatted board with its clusters in turn.  All of its
-   blocks are full but the last, which has this many frames. */
+   blocks are full but the last, which has this many frames.  The last round of
+   clusters is valid. */
 static void fill_region(const struct cnftl_board *b, uint32_t region,
                         uint32_t last)
 {
@@ -180,6 +208,8 @@ static void fill_region(const struct cnftl_board *b, uint32_t region,
         b->ct[cluster] = (uint16_t)(i / p->beta);
         b->bt[block] = (uint16_t)block;
         b->bst[block] = CNFTL_BLOCK_USED;
+        if (i + clusters >= all)
+            put_mark(b, block, i % frames);
     }
     b->fst[region] = (uint16_t)((all - 1) / p->beta);
 }
@@ -206,7 +236,8 @@ static int same_boards(void)
         && memcmp(product.bt, plain.bt, cnftl_bt_entries(p) * 2) == 0
         && memcmp(product.fst, plain.fst, cnftl_fst_entries(p) * 2) == 0
         && memcmp(product.bst, plain.bst, cnftl_bst_entries(p)) == 0
-        && memcmp(product.wear, plain.wear, cnftl_wear_entries(p) * 4) == 0;
+        && memcmp(product.wear, plain.wear, cnftl_wear_entries(p) * 4) == 0
+        && memcmp(product.marks, plain.marks, cnftl_marks_entries(p) * 8) == 0;
 }
 
 /* ==== Rows ============================================================= */
@@ -249,7 +280,7 @@ static void print_row(const char *board, const char *call, int sort,
 /* Begins a row. */
 static double begin_row(void)
 {
-    for (int i = 0; i < 2; i++)
+    for (int i = 0; i < 3; i++)
         of_product[i].calls = of_plain[i].calls = 0;
     return now() + row_seconds;
 }
@@ -326,6 +357,59 @@ static void time_board(const char *name, const struct cnftl_params *p,
     free_board(&plain);
 }
 
+/* A read, and then a write with reclaim on the same state.  Both check the
+   whole state first, and a read does next to nothing else.  So the difference
+   of the two, the third time, is the work of a write on a state known to be
+   orderly. */
+static void time_work(void)
+{
+    uint32_t lba = some_sector(0);
+    struct timed read = timed_call('R', lba), write;
+
+    memset(data, (int)below(256), sizeof data);
+    write = timed_call('W', lba);
+    assert(write.erases == 1);
+    add_time(&of_product[0], read.product);
+    add_time(&of_plain[0], read.plain);
+    add_time(&of_product[1], write.product);
+    add_time(&of_plain[1], write.plain);
+    add_time(&of_product[2], write.product - read.product);
+    add_time(&of_plain[2], write.plain - read.plain);
+}
+
+/* The row of the work: the medians of the differences, which a look at the
+   clock drops out of.  The smallest difference is that of the slowest read and
+   says nothing. */
+static void print_work(const char *board)
+{
+    double a = median(&of_product[2]), b = median(&of_plain[2]);
+
+    printf("%-8s  %-22s  %12.3f us  %12.3f us  %7.2f  %7s  %7lu\n", board,
+           "work of such a write", 1e6 * a, 1e6 * b, a / b, "-",
+           (unsigned long)of_product[2].calls);
+}
+
+/* The board of the largest blocks and regions, with as many clusters as
+   allowed: each write reclaims a block of F - 1 valid frames. */
+static void time_largest(const char *name, double look)
+{
+    struct cnftl_params p = { 16, 1, 16, 16, 1, 16, 16 * 256 - 1, 17 };
+    double end;
+
+    product = new_board(&p);
+    plain = new_board(&p);
+    fill_boards(p.beta * p.d);
+    end = begin_row() + 2 * row_seconds;
+    while (goes_on(2, end))
+        time_work();
+    print_row(name, "read", 0, look);
+    print_row(name, "write with reclaim", 1, look);
+    print_work(name);
+    assert(same_boards());
+    free_board(&product);
+    free_board(&plain);
+}
+
 /* A board of at most this many bytes of chip, with as many regions as fit and
    seven eighths of their frames for clusters. */
 static struct cnftl_params board_of(size_t bytes)
@@ -351,5 +435,6 @@ int main(void)
     time_board("Board T", &t, look);
     time_board("1 MiB", &one, look);
     time_board("64 MiB", &large, look);
+    time_largest("F = 256", look);
     return 0;
 }

@@ -8,8 +8,8 @@
  * the frames that it speaks of.
  *
  * Exit status: 0 a diagnosis was given, also of a board that is not orderly,
- * 1 the layer refused the question, 2 wrong use, or the file is missing or no
- * board image or cannot be read.
+ * 1 the layer refused the question, 2 wrong use, or the file is missing, no
+ * board image of this version, or cannot be read.
  */
 #include "image.h"
 
@@ -146,7 +146,8 @@ static const char *rule_text(uint32_t rule)
         "  and go on erased",
         "an FST entry does not name the last programmed segment of the open\n"
         "  block, or another block of the region is not full",
-        "a CT entry names a segment that does not hold its cluster"
+        "a CT entry names a segment that does not hold its cluster",
+        "a mark is not that of its frame: 1 if the frame is valid, else 0"
     };
 
     return rule < sizeof text / sizeof text[0] ? text[rule] : "unknown rule";

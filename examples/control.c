@@ -9,8 +9,8 @@
  * back, and writes the image.
  *
  * Exit status: 0 done, 1 wrong use, 2 the file cannot be read or written,
- * 3 the file is no board image, 4 the image is too short or too long, 5 the
- * layer refused a call, 6 a serial did not read back.
+ * 3 the file is no board image of this version, 4 the image is too short or
+ * too long, 5 the layer refused a call, 6 a serial did not read back.
  */
 #include "image.h"
 

@@ -8,20 +8,26 @@
 #include <stdlib.h>
 #include <string.h>
 
-enum { VERSION = 1, HEADER_BYTES = 44 };
+enum { VERSION = 2, HEADER_BYTES = 44 };
 
 /* A little-endian number of a few bytes. */
-static uint32_t get_number(const uint8_t *from, int bytes)
+static uint64_t get_long(const uint8_t *from, int bytes)
 {
-    uint32_t value = 0;
+    uint64_t value = 0;
 
     while (bytes-- > 0)
         value = value << 8 | from[bytes];
     return value;
 }
 
-/* The same, put down. */
-static void put_number(uint8_t *to, int bytes, uint32_t value)
+/* The same, of at most four bytes. */
+static uint32_t get_number(const uint8_t *from, int bytes)
+{
+    return (uint32_t)get_long(from, bytes);
+}
+
+/* A number of a few bytes, put down. */
+static void put_number(uint8_t *to, int bytes, uint64_t value)
 {
     for (int i = 0; i < bytes; i++)
         to[i] = (uint8_t)(value >> 8 * i);
@@ -46,7 +52,8 @@ static uint64_t image_bytes(const struct cnftl_params *p)
     return (uint64_t)HEADER_BYTES + cnftl_chip_bytes(p)
          + 2 * ((uint64_t)cnftl_ct_entries(p) + cnftl_bt_entries(p)
                 + cnftl_fst_entries(p))
-         + cnftl_bst_entries(p) + 4 * (uint64_t)cnftl_wear_entries(p);
+         + cnftl_bst_entries(p) + 4 * (uint64_t)cnftl_wear_entries(p)
+         + 8 * (uint64_t)cnftl_marks_entries(p);
 }
 
 /* Memory, or the end of the program. */
@@ -62,7 +69,7 @@ static void *get_memory(size_t bytes)
 /* The memory of a board of these parameters. */
 struct cnftl_board image_new_board(const struct cnftl_params *p)
 {
-    struct cnftl_board b = { *p, NULL, NULL, NULL, NULL, NULL, NULL };
+    struct cnftl_board b = { *p, NULL, NULL, NULL, NULL, NULL, NULL, NULL };
 
     b.chip = get_memory(cnftl_chip_bytes(p));
     b.ct = get_memory(cnftl_ct_entries(p) * sizeof *b.ct);
@@ -70,6 +77,7 @@ struct cnftl_board image_new_board(const struct cnftl_params *p)
     b.fst = get_memory(cnftl_fst_entries(p) * sizeof *b.fst);
     b.bst = get_memory(cnftl_bst_entries(p));
     b.wear = get_memory(cnftl_wear_entries(p) * sizeof *b.wear);
+    b.marks = get_memory(cnftl_marks_entries(p) * sizeof *b.marks);
     return b;
 }
 
@@ -82,6 +90,7 @@ void image_free_board(struct cnftl_board *b)
     free(b->fst);
     free(b->bst);
     free(b->wear);
+    free(b->marks);
 }
 
 /* Takes bytes from the image; its length was checked before. */
@@ -102,6 +111,17 @@ static void take_words(FILE *f, const char *path, uint16_t *to, size_t entries)
     }
 }
 
+/* Ends the program unless the image is of the version that is read here. */
+static void check_version(const char *path, uint32_t version)
+{
+    if (version == 1)
+        fail(IMAGE_NO_BOARD, "%s: board image of version 1, which has no table "
+             "of marks; only version %d is read", path, VERSION);
+    if (version != VERSION)
+        fail(IMAGE_NO_BOARD, "%s: board image of version %lu, not %d", path,
+             (unsigned long)version, VERSION);
+}
+
 /* Takes the header and checks it. */
 static struct cnftl_params take_header(FILE *f, const char *path)
 {
@@ -117,9 +137,7 @@ static struct cnftl_params take_header(FILE *f, const char *path)
              path, (unsigned long)got);
     if (memcmp(header, "CNFTLIMG", 8) != 0)
         fail(IMAGE_NO_BOARD, "%s: not a board image", path);
-    if (get_number(header + 8, 4) != VERSION)
-        fail(IMAGE_NO_BOARD, "%s: board image of version %lu, not %d", path,
-             (unsigned long)get_number(header + 8, 4), VERSION);
+    check_version(path, get_number(header + 8, 4));
     list_params(&p, list);
     for (int i = 0; i < 8; i++)
         *list[i] = get_number(header + 12 + 4 * i, 4);
@@ -147,7 +165,7 @@ static struct cnftl_board load(FILE *f, const char *path)
 {
     struct cnftl_params p = take_header(f, path);
     struct cnftl_board b;
-    uint8_t four[4];
+    uint8_t four[4], eight[8];
 
     check_size(f, path, &p);
     b = image_new_board(&p);
@@ -159,6 +177,10 @@ static struct cnftl_board load(FILE *f, const char *path)
     for (size_t i = 0; i < cnftl_wear_entries(&p); i++) {
         take(f, path, four, sizeof four);
         b.wear[i] = get_number(four, 4);
+    }
+    for (size_t i = 0; i < cnftl_marks_entries(&p); i++) {
+        take(f, path, eight, sizeof eight);
+        b.marks[i] = get_long(eight, 8);
     }
     return b;
 }
@@ -206,7 +228,7 @@ static void put_header(FILE *f, struct cnftl_params p)
 static void put_board(FILE *f, const struct cnftl_board *b)
 {
     const struct cnftl_params *p = &b->params;
-    uint8_t four[4];
+    uint8_t four[4], eight[8];
 
     put_header(f, *p);
     fwrite(b->chip, 1, cnftl_chip_bytes(p), f);
@@ -217,6 +239,10 @@ static void put_board(FILE *f, const struct cnftl_board *b)
     for (size_t i = 0; i < cnftl_wear_entries(p); i++) {
         put_number(four, 4, b->wear[i]);
         fwrite(four, 1, sizeof four, f);
+    }
+    for (size_t i = 0; i < cnftl_marks_entries(p); i++) {
+        put_number(eight, 8, b->marks[i]);
+        fwrite(eight, 1, sizeof eight, f);
     }
 }
 

@@ -9,7 +9,7 @@
 /* What can be wrong with an image. */
 enum image_fault {
     IMAGE_NO_FILE = 2,   /* the file cannot be read or written, or no memory */
-    IMAGE_NO_BOARD = 3,  /* the file is no board image                       */
+    IMAGE_NO_BOARD = 3,  /* the file is no board image, or an older one      */
     IMAGE_WRONG_SIZE = 4 /* the image is too short or too long               */
 };
 

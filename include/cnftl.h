@@ -2,9 +2,9 @@
  * cnftl.h - C interface of the Bishtarev CNFTL flash translation layer.
  *
  * The layer makes a raw NAND chip look like numbered sectors.  It keeps
- * nothing of its own: a board is a chip image and five tables (CT, BT, FST,
- * BST and wear) in memory that the caller owns and lends for the length of
- * one call.  To keep a board, keep these six arrays and its parameters.
+ * nothing of its own: a board is a chip image and six tables (CT, BT, FST,
+ * BST, wear and marks) in memory that the caller owns and lends for the length
+ * of one call.  To keep a board, keep these seven arrays and its parameters.
  *
  * There are five calls: cnftl_format, cnftl_read, cnftl_write, cnftl_release
  * and cnftl_why.  Each one returns for every request and for every content of
@@ -14,7 +14,19 @@
  *
  * A slice passes as a pointer and then a length in ELEMENTS (bytes for chip,
  * bst and data; 16-bit entries for ct, bt and fst; 32-bit entries for wear and
- * list).
+ * list; 64-bit entries for marks).
+ *
+ * What the tables say (regions, virtual blocks and frames count from 0):
+ *   - ct: for each cluster its segment.  bt: for each region and virtual block,
+ *     region first, its physical block.  fst: for each region the segment last
+ *     written.  CNFTL_NONE is none in all three.
+ *   - bst: for each physical block a cnftl_block_state.  wear: for each
+ *     physical block the erases so far.
+ *   - marks: one bit for each frame, 1 exactly if the frame is valid, that is,
+ *     if it holds what its cluster reads as.  Each region and virtual block has
+ *     CNFTL_MARK_WORDS words, region first: frame f of virtual block v of
+ *     region r is bit f % 64, UINT64_C(1) << f % 64, of entry
+ *     CNFTL_MARK_WORDS*(r*gamma + v) + f/64.  All other bits are 0.
  *
  * What the caller answers for:
  *   - Every pointer is non-null and aligned for its element type, even when
@@ -33,8 +45,9 @@
  *   static uint16_t ct[6], bt[4], fst[2];
  *   static uint8_t  bst[5];
  *   static uint32_t wear[5];             // 0: no block was erased yet
+ *   static uint64_t marks[16];           // cnftl_marks_entries
  *   static const struct cnftl_board board = {
- *       { 16, 2, 1, 2, 2, 2, 6, 5 }, chip, ct, bt, fst, bst, wear
+ *       { 16, 2, 1, 2, 2, 2, 6, 5 }, chip, ct, bt, fst, bst, wear, marks
  *   };
  *   uint8_t  sector[16];
  *   uint64_t a;
@@ -63,6 +76,9 @@ extern "C" {
 
 /* "None" in CT, BT and FST. */
 #define CNFTL_NONE 65535u
+
+/* Words of 64 marks for each region and virtual block. */
+#define CNFTL_MARK_WORDS 4u
 
 /*
  * The eight parameters of a board.  With F = beta*d frames in a block and
@@ -135,8 +151,10 @@ enum cnftl_rule {
                                   as they should be, the rest erased        */
     CNFTL_RULE_FST = 8,        /* FST names the open block's last segment,
                                   and the region's others are full          */
-    CNFTL_RULE_CT = 9          /* CT is none or names a segment that holds
+    CNFTL_RULE_CT = 9,         /* CT is none or names a segment that holds
                                   the cluster                               */
+    CNFTL_RULE_MARKS = 10      /* a frame's mark is 1 exactly if the frame is
+                                  valid, and all other marks are 0          */
 };
 
 /* What a write would do for its frame. */
@@ -150,8 +168,8 @@ enum cnftl_why_write {
  * Format.  A block is bad if spare byte 5 of its first page, or of its second
  * page where a block has two, is not 255: it becomes reserved and is not
  * touched.  All others are erased and become
- * free, and their wear goes up by one.  CT, BT and FST become none.  The wear
- * lent must be the board's wear so far (0 for a new chip).
+ * free, and their wear goes up by one.  CT, BT and FST become none, and all
+ * marks 0.  The wear lent must be the board's wear so far (0 for a new chip).
  * Replies 1, 2, 6, 0.  Counts: 0 programs, one erase for each block not bad.
  */
 uint64_t cnftl_format(uint32_t s, uint32_t alpha, uint32_t beta, uint32_t d,
@@ -161,7 +179,8 @@ uint64_t cnftl_format(uint32_t s, uint32_t alpha, uint32_t beta, uint32_t d,
                       uint16_t *bt, size_t bt_len,
                       uint16_t *fst, size_t fst_len,
                       uint8_t *bst, size_t bst_len,
-                      uint32_t *wear, size_t wear_len);
+                      uint32_t *wear, size_t wear_len,
+                      uint64_t *marks, size_t marks_len);
 
 /*
  * Read count sectors from sector lba on into data.  They must lie in one
@@ -178,6 +197,7 @@ uint64_t cnftl_read(uint32_t s, uint32_t alpha, uint32_t beta, uint32_t d,
                     const uint16_t *fst, size_t fst_len,
                     const uint8_t *bst, size_t bst_len,
                     const uint32_t *wear, size_t wear_len,
+                    const uint64_t *marks, size_t marks_len,
                     uint32_t lba, uint32_t count,
                     uint8_t *data, size_t data_len);
 
@@ -195,6 +215,7 @@ uint64_t cnftl_write(uint32_t s, uint32_t alpha, uint32_t beta, uint32_t d,
                      uint16_t *fst, size_t fst_len,
                      uint8_t *bst, size_t bst_len,
                      uint32_t *wear, size_t wear_len,
+                     uint64_t *marks, size_t marks_len,
                      uint32_t lba, uint32_t count,
                      const uint8_t *data, size_t data_len);
 
@@ -203,7 +224,7 @@ uint64_t cnftl_write(uint32_t s, uint32_t alpha, uint32_t beta, uint32_t d,
  * 255 throughout until they are written again, and no reclaim copies it.
  * Where it is none already nothing changes.
  * Replies 1, 2, 4 (cluster is c or more), 7, 0.  Counts: 0 and 0.  Writes ct
- * only.
+ * and marks only.
  */
 uint64_t cnftl_release(uint32_t s, uint32_t alpha, uint32_t beta, uint32_t d,
                        uint32_t mu, uint32_t gamma, uint32_t c, uint32_t n,
@@ -213,6 +234,7 @@ uint64_t cnftl_release(uint32_t s, uint32_t alpha, uint32_t beta, uint32_t d,
                        const uint16_t *fst, size_t fst_len,
                        const uint8_t *bst, size_t bst_len,
                        const uint32_t *wear, size_t wear_len,
+                       uint64_t *marks, size_t marks_len,
                        uint32_t cluster);
 
 /*
@@ -237,6 +259,7 @@ uint64_t cnftl_why(uint32_t s, uint32_t alpha, uint32_t beta, uint32_t d,
                    const uint16_t *fst, size_t fst_len,
                    const uint8_t *bst, size_t bst_len,
                    const uint32_t *wear, size_t wear_len,
+                   const uint64_t *marks, size_t marks_len,
                    uint32_t lba,
                    uint32_t *list, size_t list_len);
 
@@ -322,6 +345,11 @@ static inline size_t cnftl_wear_entries(const struct cnftl_params *p)
     return p->n;
 }
 
+static inline size_t cnftl_marks_entries(const struct cnftl_params *p)
+{
+    return (size_t)CNFTL_MARK_WORDS * p->mu * p->gamma;
+}
+
 static inline uint32_t cnftl_sectors(const struct cnftl_params *p)
 {
     return p->c * p->alpha;
@@ -339,6 +367,7 @@ struct cnftl_board {
     uint16_t *fst;
     uint8_t *bst;
     uint32_t *wear;
+    uint64_t *marks;
 };
 
 /* The parameters and the slices of a board, as each call takes them first. */
@@ -350,7 +379,8 @@ struct cnftl_board {
     (b)->bt, cnftl_bt_entries(&(b)->params),                                   \
     (b)->fst, cnftl_fst_entries(&(b)->params),                                 \
     (b)->bst, cnftl_bst_entries(&(b)->params),                                 \
-    (b)->wear, cnftl_wear_entries(&(b)->params)
+    (b)->wear, cnftl_wear_entries(&(b)->params),                               \
+    (b)->marks, cnftl_marks_entries(&(b)->params)
 
 static inline uint64_t cnftl_board_format(const struct cnftl_board *b)
 {

@@ -40,7 +40,7 @@ complains() {
 broken() {
     cp "$room/board" "$1" && printf "$3" | dd of="$1" bs=1 seek="$2" conv=notrunc 2>"$room/err"
 }
-fst=3936 bst=3940 # where the two tables begin in control's images
+fst=3936 bst=3940 marks=3990 # where these tables begin in control's images
 
 check "control builds" build control
 check "cnftl-why builds" build cnftl-why
@@ -88,6 +88,18 @@ Rule 8 is the first one broken:
   block, or another block of the region is not full.
 END
 
+check "frame 0, which is stale, gets a mark beside frames 1 and 3" broken "$room/marked" "$marks" '\013'
+check "rule 10" tells 0 "$room/marked" 5 <<'END'
+Sector 5 is at place 1 of cluster 2, in region 0.
+The board is not orderly: every read and write is refused with reply 7.
+Rule 10 is the first one broken:
+  a mark is not that of its frame: 1 if the frame is valid, else 0.
+END
+check "the mark of frame 1 is lost" broken "$room/unmarked" "$marks" '\010'
+check "rule 10 for that too" grep -q '^Rule 10 is the first one broken' <(run "$room/cnftl-why" "$room/unmarked" 5)
+check "the marks are those of frames 1 and 3" broken "$room/same" "$marks" '\012'
+check "nothing was changed by that" cmp "$room/board" "$room/same"
+
 check "all blocks full" control 6
 check "a sector in the third block, and the write reclaims the first" tells 0 "$room/board" 22 <<'END'
 Sector 22 is at place 0 of cluster 11, in region 1.
@@ -105,12 +117,17 @@ END
 check "a sector past the end" complains 1 "sector 40 is refused with reply 4" "$room/board" 40
 check "a sector far past the end" complains 1 "reply 4" "$room/board" 4294967295
 check "a missing file" complains 2 "$room/nothing: no such file" "$room/nothing" 0
-head -c 3989 "$room/board" >"$room/short"
-check "a short file" complains 2 "too short: 3989 bytes, not 3990" "$room/short" 0
+head -c 4181 "$room/board" >"$room/short"
+check "a short file" complains 2 "too short: 4181 bytes, not 4182" "$room/short" 0
 head -c 20 "$room/board" >"$room/stub"
 check "a file shorter than its header" complains 2 "too short for a board image: 20 bytes" "$room/stub" 0
 check "the first byte becomes an X" broken "$room/other" 0 'X'
 check "a file that is no image" complains 2 "not a board image" "$room/other" 0
+check "the version becomes 1" broken "$room/older" 8 '\001'
+head -c 3990 "$room/older" >"$room/old"
+check "an image from before the marks" complains 2 "board image of version 1, which has no table of marks" "$room/old" 0
+check "the version becomes 3" broken "$room/newer" 8 '\003'
+check "an image of a later version" complains 2 "board image of version 3, not 2" "$room/newer" 0
 check "no sector" complains 2 "use: cnftl-why IMAGE LBA" "$room/board"
 check "a sector that is no number" complains 2 "-1: not a sector number" "$room/board" -1
 check "a sector of more than 32 bits" complains 2 "4294967296: no sector number" "$room/board" 4294967296

@@ -24,15 +24,15 @@
 #include <string.h>
 
 enum slice {
-    CHIP, CT, BT, FST, BST, WEAR, TABLES, DATA = TABLES, LIST, SLICES
+    CHIP, CT, BT, FST, BST, WEAR, MARKS, TABLES, DATA = TABLES, LIST, SLICES
 };
 enum { GUARD = 64, DATA_ROOM = 16 * 512 + GUARD, REPLIES = 8 };
-enum { LIST_ROOM = (CNFTL_WHY_ENTRIES + 1) * 4, RULES = CNFTL_RULE_CT + 1 };
+enum { LIST_ROOM = (CNFTL_WHY_ENTRIES + 1) * 4, RULES = CNFTL_RULE_MARKS + 1 };
 
 static const char *const slice_name[SLICES] = {
-    "chip", "ct", "bt", "fst", "bst", "wear", "data", "list"
+    "chip", "ct", "bt", "fst", "bst", "wear", "marks", "data", "list"
 };
-static const size_t width[SLICES] = { 1, 2, 2, 2, 1, 4, 1, 4 };
+static const size_t width[SLICES] = { 1, 2, 2, 2, 1, 4, 8, 1, 4 };
 
 /* ==== Chance =========================================================== */
 
@@ -110,17 +110,31 @@ static uint32_t *longs_of(const struct side *a, enum slice i)
     return (uint32_t *)(void *)bytes_of(a, i);
 }
 
+/* The same for a slice of 64-bit entries. */
+static uint64_t *wides_of(const struct side *a, enum slice i)
+{
+    return (uint64_t *)(void *)bytes_of(a, i);
+}
+
 /* Shorthand for the tables of the side on which states are built. */
 #define ct (words_of(&product, CT))
 #define bt (words_of(&product, BT))
 #define fst (words_of(&product, FST))
 #define bst (bytes_of(&product, BST))
+#define marks (wides_of(&product, MARKS))
 #define chip (bytes_of(&product, CHIP))
 
 /* Frames in a block. */
 static uint32_t frames(void)
 {
     return par.beta * par.d;
+}
+
+/* Whether marks stand in the last word too.  So large a block is not filled by
+   the few calls that its board gets. */
+static bool large_blocks(void)
+{
+    return frames() > 64 * (CNFTL_MARK_WORDS - 1);
 }
 
 /* Segments in a region. */
@@ -172,6 +186,7 @@ static void open_board(struct cnftl_params p, size_t chip_bytes)
     right_len[FST] = cnftl_fst_entries(&p);
     right_len[BST] = cnftl_bst_entries(&p);
     right_len[WEAR] = cnftl_wear_entries(&p);
+    right_len[MARKS] = cnftl_marks_entries(&p);
     for (int i = 0; i < SLICES; i++) {
         room[i] = i == DATA ? DATA_ROOM : i == LIST ? LIST_ROOM
                 : right_len[i] * width[i];
@@ -221,7 +236,7 @@ static uint64_t held_reads;      /* reads of a frame that a why has told */
     PARAMETERS(k), bytes_of(a, CHIP), (k)->len[CHIP],                          \
     words_of(a, CT), (k)->len[CT], words_of(a, BT), (k)->len[BT],              \
     words_of(a, FST), (k)->len[FST], bytes_of(a, BST), (k)->len[BST],          \
-    longs_of(a, WEAR), (k)->len[WEAR]
+    longs_of(a, WEAR), (k)->len[WEAR], wides_of(a, MARKS), (k)->len[MARKS]
 #define REQUEST(k, a)                                                          \
     (k)->lba, (k)->count, bytes_of(a, DATA), (k)->len[DATA]
 #define QUESTION(k, a) (k)->lba, longs_of(a, LIST), (k)->len[LIST]
@@ -293,9 +308,9 @@ static void differ(const struct call *k, const char *what, uint64_t by_product,
     printf("  s=%" PRIu32 " alpha=%" PRIu32 " beta=%" PRIu32 " d=%" PRIu32
            " mu=%" PRIu32 " gamma=%" PRIu32 " c=%" PRIu32 " n=%" PRIu32 "\n",
            PARAMETERS(k));
-    printf("  lengths: chip %zu, ct %zu, bt %zu, fst %zu, bst %zu, wear %zu\n",
-           k->len[CHIP], k->len[CT], k->len[BT], k->len[FST], k->len[BST],
-           k->len[WEAR]);
+    printf("  lengths: chip %zu, ct %zu, bt %zu, fst %zu, bst %zu, wear %zu, "
+           "marks %zu\n", k->len[CHIP], k->len[CT], k->len[BT], k->len[FST],
+           k->len[BST], k->len[WEAR], k->len[MARKS]);
     print_answer("product", by_product);
     print_answer("model", by_model);
     for (int i = 0; i < SLICES; i++)
@@ -676,6 +691,44 @@ static void put_block(uint32_t region, uint32_t virtual_block, uint32_t k)
         fst[region] = (uint16_t)(virtual_block * par.d + (k - 1) / par.beta);
 }
 
+/* The clusters of a region in random order, again and again until each frame
+   of the region has one. */
+static void shuffle_clusters(uint32_t region, uint32_t *list)
+{
+    uint32_t all = par.gamma * frames();
+
+    for (uint32_t i = 0; i < all; i++)
+        list[i] = region + par.mu * (i % clusters_of_region(region));
+    for (uint32_t i = all; i > 1; i--) {
+        uint32_t j = below(i), cluster = list[j];
+
+        list[j] = list[i - 1];
+        list[i - 1] = cluster;
+    }
+}
+
+/* Gives a region all of its blocks, full, with a frame of every cluster, each
+   in CT.  Where C is tight, few frames are stale, and those of each block count
+   when the next writes reclaim. */
+static void pack_region(uint32_t region)
+{
+    static uint32_t list[16 * 256];
+
+    shuffle_clusters(region, list);
+    for (uint32_t i = 0; i < par.gamma * frames(); i++) {
+        uint32_t entry = region * par.gamma + i / frames();
+
+        if (i % frames() == 0) {
+            bt[entry] = (uint16_t)some_block(CNFTL_BLOCK_FREE);
+            bst[bt[entry]] = CNFTL_BLOCK_USED;
+        }
+        put_frame(bt[entry], i % frames(), list[i]);
+        if (ct[list[i]] == CNFTL_NONE || once_in(2))
+            ct[list[i]] = (uint16_t)(i / par.beta);
+    }
+    fst[region] = (uint16_t)(between(1, par.gamma) * par.d - 1);
+}
+
 /* Gives a region some or all of its blocks, of which one may not be full. */
 static void put_region(uint32_t region)
 {
@@ -684,11 +737,65 @@ static void put_region(uint32_t region)
 
     if (clusters_of_region(region) == 0)
         return;
+    if (once_in(large_blocks() ? 2 : 4)) {
+        pack_region(region);
+        return;
+    }
     for (uint32_t i = 0; i < par.gamma; i++)
         if (i != open && (all || once_in(2)))
             put_block(region, i, frames());
     if (open < par.gamma)
         put_block(region, open, between(1, frames()));
+}
+
+/* The word of the marks that has the mark of a frame of a BT entry. */
+static uint64_t *mark_word(uint32_t entry, uint32_t frame)
+{
+    return &marks[entry * CNFTL_MARK_WORDS + frame / 64];
+}
+
+/* The mark of a frame in its word. */
+static uint64_t mark_bit(uint32_t frame)
+{
+    return UINT64_C(1) << frame % 64;
+}
+
+/* Marks the frame that a cluster reads from: the last one in the segment that
+   CT names.  The state may be any. */
+static void put_mark(uint32_t cluster)
+{
+    uint32_t segment = ct[cluster], entry, first;
+
+    if (segment >= segments())
+        return;
+    entry = cluster % par.mu * par.gamma + segment / par.d;
+    if (bt[entry] >= par.n)
+        return;
+    first = segment % par.d * par.beta;
+    for (uint32_t frame = first + par.beta; frame-- > first;)
+        if (frame_at(bt[entry], frame)[par.s + 6] == 0
+            && cluster_at(bt[entry], frame) == cluster) {
+            *mark_word(entry, frame) |= mark_bit(frame);
+            return;
+        }
+}
+
+/* Works the marks out, cluster by cluster. */
+static void put_marks(void)
+{
+    memset(marks, 0, room[MARKS]);
+    for (uint32_t cluster = 0; cluster < par.c; cluster++)
+        put_mark(cluster);
+}
+
+/* The ones in the words of a BT entry. */
+static uint32_t marks_of(uint32_t entry)
+{
+    uint32_t ones = 0;
+
+    for (uint32_t frame = 0; frame < CNFTL_MARK_WORDS * 64; frame++)
+        ones += (*mark_word(entry, frame) & mark_bit(frame)) != 0;
+    return ones;
 }
 
 /* An orderly state that the calls need not be able to reach.  Needs N above
@@ -711,6 +818,7 @@ static void build_orderly(void)
     }
     for (uint32_t r = 0; r < par.mu; r++)
         put_region(r);
+    put_marks();
 }
 
 /* ==== One thing changed in a state ===================================== */
@@ -873,15 +981,90 @@ static void name_empty_block(void)
     fst[entry / par.gamma] = (uint16_t)(entry % par.gamma * par.d);
 }
 
+/* One mark is lost or is one too many, of any frame and virtual block. */
+static void flip_mark(void)
+{
+    uint32_t entry = below(par.mu * par.gamma);
+    uint32_t frame = once_in(2) ? below(frames())
+                                : below(CNFTL_MARK_WORDS * 64);
+
+    *mark_word(entry, frame) ^= mark_bit(frame);
+}
+
+/* A frame of a used block gets the mark, or loses it. */
+static void change_used_mark(void)
+{
+    uint32_t entry = some_entry(true), frame = below(frames());
+
+    if (entry == CNFTL_NONE)
+        return;
+    if (once_in(2))
+        *mark_word(entry, frame) |= mark_bit(frame);
+    else
+        *mark_word(entry, frame) &= ~mark_bit(frame);
+}
+
+/* A mark from F up is set, just there or in any word. */
+static void mark_past_the_end(void)
+{
+    uint32_t entry = once_in(2) ? below(par.mu * par.gamma) : some_entry(true);
+    uint32_t f = frames(), top = CNFTL_MARK_WORDS * 64;
+    uint32_t frame = once_in(2) ? f : f < top ? between(f, top - 1) : top;
+
+    if (entry != CNFTL_NONE && frame < top)
+        *mark_word(entry, frame) |= mark_bit(frame);
+}
+
+/* A virtual block without a physical block gets a mark. */
+static void mark_unassigned(void)
+{
+    uint32_t entry = some_entry(false), frame = below(frames());
+
+    if (entry != CNFTL_NONE)
+        *mark_word(entry, frame) |= mark_bit(frame);
+}
+
+/* Two words change places: of one virtual block, or of any two. */
+static void swap_marks(void)
+{
+    uint32_t i = below((uint32_t)right_len[MARKS]);
+    uint32_t j = once_in(2) ? i / CNFTL_MARK_WORDS * CNFTL_MARK_WORDS
+                              + below(CNFTL_MARK_WORDS)
+                            : below((uint32_t)right_len[MARKS]);
+    uint64_t word = marks[i];
+
+    marks[i] = marks[j];
+    marks[j] = word;
+}
+
+/* A word becomes anything. */
+static void scramble_word(void)
+{
+    marks[below((uint32_t)right_len[MARKS])] = rnd();
+}
+
+/* One thing changes in the marks. */
+static void change_marks(void)
+{
+    static void (*const changes[])(void) = {
+        flip_mark, change_used_mark, change_used_mark, mark_past_the_end,
+        mark_unassigned, swap_marks, scramble_word
+    };
+
+    changes[below(sizeof changes / sizeof *changes)]();
+}
+
 /* One whole table becomes anything. */
 static void scramble_table(void)
 {
-    uint32_t i = between(CT, WEAR);
+    uint32_t i = between(CT, MARKS);
 
     fill_random(bytes_of(&product, (enum slice)i), room[i]);
 }
 
-/* Changes one thing, most often, in both sides' states. */
+/* Changes one thing, most often, in both sides' states: a mark alone, or
+   another thing, which the marks then follow half of the time, so that they do
+   not always give it away. */
 static void change_state(void)
 {
     static void (*const changes[])(void) = {
@@ -891,15 +1074,30 @@ static void change_state(void)
         scramble_table
     };
 
-    do
-        changes[below(sizeof changes / sizeof *changes)]();
-    while (once_in(8));
+    if (once_in(5)) {
+        change_marks();
+    } else {
+        do
+            changes[below(sizeof changes / sizeof *changes)]();
+        while (once_in(8));
+        if (once_in(2))
+            put_marks();
+    }
     copy_side(&model, &product);
 }
 
 /* ==== Runs ============================================================= */
 
 static uint32_t rest_of_episode; /* calls that this board still gets */
+
+/* Whether the mark of this frame of a virtual block of a cluster's region is
+   set. */
+static bool is_marked(uint32_t cluster, uint32_t virtual_block, uint32_t frame)
+{
+    uint32_t entry = cluster % par.mu * par.gamma + virtual_block;
+
+    return (*mark_word(entry, frame) & mark_bit(frame)) != 0;
+}
 
 /* Reads one sector, and compares it with the frame that a why has told. */
 static void read_as_told(struct call k, const uint32_t *list)
@@ -913,14 +1111,22 @@ static void read_as_told(struct call k, const uint32_t *list)
         if (bytes_of(&product, DATA)[i] != (list[CNFTL_WHY_HELD] ? page[i]
                                                                  : 255))
             differ(&k, "the frame told", a, a);
+    if (list[CNFTL_WHY_HELD]
+        && !is_marked(k.lba / par.alpha, list[CNFTL_WHY_VIRTUAL],
+                      list[CNFTL_WHY_FRAME]))
+        differ(&k, "the mark of the frame told", a, a);
     held_reads += list[CNFTL_WHY_HELD];
 }
 
-/* Writes one sector, and compares the counts of the write and the segment that
-   CT and FST then name with the forecast. */
+/* Writes one sector, and compares the counts of the write, the segment that CT
+   and FST then name and the mark that it sets with the forecast, and the
+   copies of a reclaim with the marks before it. */
 static void write_as_told(struct call k, const uint32_t *list)
 {
     uint32_t cluster = k.lba / par.alpha;
+    uint32_t entry = cluster % par.mu * par.gamma + list[CNFTL_WHY_TARGET];
+    bool counted = list[CNFTL_WHY_WRITE] != CNFTL_WRITE_RECLAIMS
+                || list[CNFTL_WHY_COPIES] == marks_of(entry);
     uint32_t segment = list[CNFTL_WHY_TARGET] * par.d
                      + list[CNFTL_WHY_TAKES] / par.beta;
     uint64_t a = answer_of(&k);
@@ -929,7 +1135,9 @@ static void write_as_told(struct call k, const uint32_t *list)
         || cnftl_programs_of(a) != par.alpha * (list[CNFTL_WHY_COPIES] + 1)
         || cnftl_erases_of(a)
                != (list[CNFTL_WHY_WRITE] == CNFTL_WRITE_RECLAIMS)
-        || ct[cluster] != segment || fst[cluster % par.mu] != segment)
+        || ct[cluster] != segment || fst[cluster % par.mu] != segment
+        || !counted || !is_marked(cluster, list[CNFTL_WHY_TARGET],
+                                  list[CNFTL_WHY_TAKES]))
         differ(&k, "the forecast", a, a);
     forecasts[list[CNFTL_WHY_WRITE] % 4]++;
 }
@@ -1015,6 +1223,16 @@ static void right_request(void)
         format_request();
 }
 
+/* A right read of a state that was built to be orderly is accepted. */
+static void read_built_state(void)
+{
+    struct call k = right_call('R');
+    uint32_t reply = make_call(&k);
+
+    if (reply != CNFTL_ACCEPTED)
+        differ(&k, "the reply on a built state", reply, CNFTL_ACCEPTED);
+}
+
 /* The state that a board starts from: raw and then formatted, orderly, or
    random bytes. */
 static void start_state(void)
@@ -1023,9 +1241,10 @@ static void start_state(void)
 
     if (kind == 0)
         return;
-    if (kind < 7 && par.n > par.mu * par.gamma) {
+    if (kind < (large_blocks() ? 14 : 7) && par.n > par.mu * par.gamma) {
         build_orderly();
         copy_side(&model, &product);
+        read_built_state();
         return;
     }
     raw_chip();
@@ -1170,6 +1389,19 @@ static struct cnftl_params extreme_board(void)
     return with_sizes(p);
 }
 
+/* One region with marks in all four words, and few frames more than clusters,
+   so that the victim changes with every few writes. */
+static struct cnftl_params large_block_board(void)
+{
+    struct cnftl_params p = { 16, 1, 16, 0, 1, 0, 0, 0 };
+
+    p.d = between(13, 16);
+    p.gamma = between(2, 3);
+    p.c = p.gamma * p.beta * p.d - between(1, 8);
+    p.n = p.gamma + between(1, 4);
+    return p;
+}
+
 /* The large extremes, each in its turn. */
 static void run_large_board(uint64_t turn)
 {
@@ -1202,6 +1434,8 @@ static void run_all(void)
     for (uint64_t i = 0; calls < limit; i++)
         if (i % 16 == 15)
             run_large_board(i / 16);
+        else if (i % 8 == 3)
+            run_board(large_block_board(), 1200);
         else if (i % 2 == 0)
             run_board(small_board(), 1200);
         else

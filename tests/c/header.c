@@ -35,9 +35,10 @@ static const struct line session[] = {
 static uint8_t chip[640], bst[5], data[32];
 static uint16_t ct[7], bt[4], fst[2];
 static uint32_t wear[5];
+static uint64_t marks[16];
 
 static struct cnftl_board board = {
-    { 16, 2, 1, 2, 2, 2, 6, 5 }, chip, ct, bt, fst, bst, wear
+    { 16, 2, 1, 2, 2, 2, 6, 5 }, chip, ct, bt, fst, bst, wear, marks
 };
 
 /* Whether an answer has this reply and these counts. */
@@ -49,11 +50,12 @@ static int is(uint64_t answer, uint32_t reply, uint32_t programs,
         && cnftl_erases_of(answer) == erases;
 }
 
-/* A new Board T, not yet formatted. */
+/* A new Board T, not yet formatted; its marks are anything. */
 static void new_board(void)
 {
     memset(chip, 255, sizeof chip);
     memset(wear, 0, sizeof wear);
+    memset(marks, 85, sizeof marks);
     board.params.c = 6;
     board.params.n = 5;
 }
@@ -81,13 +83,29 @@ static int sector_is(int sector, uint8_t value)
     return 1;
 }
 
+/* Whether the first words of the four virtual blocks are these, and all other
+   words 0. */
+static int marks_are(uint64_t r0v0, uint64_t r0v1, uint64_t r1v0,
+                     uint64_t r1v1)
+{
+    const uint64_t first[4] = { r0v0, r0v1, r1v0, r1v1 };
+
+    for (int i = 0; i < 16; i++)
+        if (marks[i] != (i % 4 == 0 ? first[i / 4] : 0))
+            return 0;
+    return 1;
+}
+
 /* The session, its two reads, and the marked cases (a) to (c). */
 static void check_session(void)
 {
     new_board();
     assert(is(cnftl_board_format(&board), CNFTL_ACCEPTED, 0, 5));
+    assert(marks_are(0, 0, 0, 0));
     for (size_t i = 0; i < sizeof session / sizeof session[0]; i++) {
         run_line(&session[i]);
+        if (i == 4)
+            assert(marks_are(2, 3, 1, 0));
         if (i == 5)
             assert(bt[0] == 3 && bst[0] == CNFTL_BLOCK_FREE);
         if (i == 6)
@@ -98,6 +116,7 @@ static void check_session(void)
             assert(sector_is(0, 0xff));
     }
     assert(ct[0] == 1 && ct[2] == 0 && ct[4] == 2);
+    assert(marks_are(3, 1, 1, 0));
 }
 
 /* The marked cases (d) to (i); (f) with the mark on each page, of which the
@@ -192,22 +211,59 @@ static void check_why(void)
     assert(memcmp(list, broken, sizeof list) == 0);
 }
 
+/* The marks: a write sets one and clears one, a release clears one, and a call
+   on a wrong one is refused with 7 and rule 10. */
+static void check_marks(void)
+{
+    uint32_t list[CNFTL_WHY_ENTRIES];
+
+    new_board();
+    assert(is(cnftl_board_format(&board), CNFTL_ACCEPTED, 0, 5));
+    assert(is(cnftl_board_write(&board, 3, 1, data, 16), CNFTL_ACCEPTED,
+              2, 0));
+    assert(marks_are(0, 0, 1, 0));
+    assert(is(cnftl_board_write(&board, 2, 1, data, 16), CNFTL_ACCEPTED,
+              2, 0));
+    assert(marks_are(0, 0, 2, 0));
+    assert(is(cnftl_board_write(&board, 6, 1, data, 16), CNFTL_ACCEPTED,
+              2, 0));
+    assert(marks_are(0, 0, 2, 1));
+    assert(is(cnftl_board_release(&board, 1), CNFTL_ACCEPTED, 0, 0));
+    assert(marks_are(0, 0, 0, 1));
+    for (int i = 0; i < 16; i++) {
+        marks[i] ^= 1;
+        assert(is(cnftl_board_read(&board, 6, 1, data, 16),
+                  CNFTL_NOT_ORDERLY, 0, 0));
+        assert(is(cnftl_board_write(&board, 6, 1, data, 16),
+                  CNFTL_NOT_ORDERLY, 0, 0));
+        assert(is(cnftl_board_release(&board, 3), CNFTL_NOT_ORDERLY, 0, 0));
+        assert(is(cnftl_board_why(&board, 6, list), CNFTL_NOT_ORDERLY, 0, 0));
+        assert(list[CNFTL_WHY_RULE] == CNFTL_RULE_MARKS);
+        marks[i] ^= 1;
+    }
+    assert(marks_are(0, 0, 0, 1));
+    assert(is(cnftl_board_release(&board, 3), CNFTL_ACCEPTED, 0, 0));
+}
+
 /* The replies that the cases above do not give, through the long calls. */
 static void check_replies(void)
 {
     new_board();
     assert(is(cnftl_format(16, 2, 1, 2, 2, 2, 6, 5, chip, 639, ct, 6, bt, 4,
-                           fst, 2, bst, 5, wear, 5),
+                           fst, 2, bst, 5, wear, 5, marks, 16),
               CNFTL_WRONG_LENGTH, 0, 0));
     assert(is(cnftl_format(16, 2, 1, 2, 2, 2, 6, 5, chip, 640, ct, 6, bt, 4,
-                           fst, 2, bst, 5, wear, 5),
+                           fst, 2, bst, 5, wear, 5, marks, 15),
+              CNFTL_WRONG_LENGTH, 0, 0));
+    assert(is(cnftl_format(16, 2, 1, 2, 2, 2, 6, 5, chip, 640, ct, 6, bt, 4,
+                           fst, 2, bst, 5, wear, 5, marks, 16),
               CNFTL_ACCEPTED, 0, 5));
     assert(is(cnftl_write(16, 2, 1, 2, 2, 2, 6, 5, chip, 640, ct, 6, bt, 4,
-                          fst, 2, bst, 5, wear, 5, 0, 1, data, 17),
+                          fst, 2, bst, 5, wear, 5, marks, 16, 0, 1, data, 17),
               CNFTL_WRONG_DATA, 0, 0));
     bst[0] = 3;
     assert(is(cnftl_read(16, 2, 1, 2, 2, 2, 6, 5, chip, 640, ct, 6, bt, 4,
-                         fst, 2, bst, 5, wear, 5, 0, 1, data, 16),
+                         fst, 2, bst, 5, wear, 5, marks, 16, 0, 1, data, 16),
               CNFTL_NOT_ORDERLY, 0, 0));
 }
 
@@ -224,6 +280,7 @@ static void check_sizes(void)
     assert(cnftl_fst_entries(&board.params) == 2);
     assert(cnftl_bst_entries(&board.params) == 5);
     assert(cnftl_wear_entries(&board.params) == 5);
+    assert(cnftl_marks_entries(&board.params) == 16);
     assert(cnftl_sectors(&board.params) == 12);
 }
 
@@ -235,6 +292,7 @@ int main(void)
     check_cases();
     check_release();
     check_why();
+    check_marks();
     check_replies();
     printf("header: Board T answers as printed\n");
     return 0;

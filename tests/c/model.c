@@ -1,5 +1,6 @@
 /*
- * model.c - document 01 in C, in its own order and with its own sentences.
+ * model.c - document 01, with the requests of 02 that have landed, in C, in its
+ * own order and with its own sentences.
  *
  * Quoted comments are sentences of the document, with Greek letters spelt out.
  * The lines that ask for a MUTANT are wrong on purpose and sleep while
@@ -78,6 +79,7 @@ struct view {
     const uint16_t *ct, *bt, *fst;
     const uint8_t *bst;
     const uint32_t *wear;
+    const uint64_t *marks;
 };
 
 /* The same state as format and write change it. */
@@ -87,11 +89,12 @@ struct lent {
     uint16_t *ct, *bt, *fst;
     uint8_t *bst;
     uint32_t *wear;
+    uint64_t *marks;
 };
 
-/* The lengths of the six lent slices in elements. */
+/* The lengths of the seven lent slices in elements. */
 struct lengths {
-    size_t chip, ct, bt, fst, bst, wear;
+    size_t chip, ct, bt, fst, bst, wear, marks;
 };
 
 /* Whether one slice has the length that it should have. */
@@ -101,7 +104,8 @@ static bool length_right(size_t given, uint64_t right)
 }
 
 /* "the chip is N*P*(s+16) bytes"; CT per cluster; BT per region and virtual
-   block; FST per region; BST and wear per block. */
+   block; FST per region; BST and wear per block.  T-06: "four 64-bit words for
+   each region and virtual block". */
 static bool lengths_right(const struct params *p, const struct lengths *l)
 {
     uint64_t page = (uint64_t)p->s + SPARE;
@@ -111,7 +115,9 @@ static bool lengths_right(const struct params *p, const struct lengths *l)
         && length_right(l->bt, (uint64_t)p->mu * p->gamma)
         && length_right(l->fst, p->mu)
         && length_right(l->bst, p->n)
-        && (MUTANT(WEAR_LENGTH) || length_right(l->wear, p->n));
+        && (MUTANT(WEAR_LENGTH) || length_right(l->wear, p->n))
+        && (MUTANT(MARKS_LENGTH)
+            || length_right(l->marks, (uint64_t)4 * p->mu * p->gamma));
 }
 
 /* "Cluster = LBA / alpha rounded down." */
@@ -267,7 +273,8 @@ static bool frame_valid(const struct view *v, uint32_t region,
     uint32_t segment = segment_of(&v->p, virtual_block, frame);
     uint32_t first = first_frame_of(&v->p, segment);
 
-    if (!frame_taken(v, block, frame) || v->ct[cluster] != segment)
+    if (!frame_taken(v, block, frame) || cluster >= v->p.c
+        || v->ct[cluster] != segment)
         return false;
     if (MUTANT(FIRST_FRAME)) {
         for (uint32_t g = first; g < frame; g++)
@@ -279,6 +286,40 @@ static bool frame_valid(const struct view *v, uint32_t region,
         if (frame_holds(v, block, later, cluster))
             return false;
     return true;
+}
+
+/* Where a word of the marks stands: "four 64-bit words for each region and
+   virtual block". */
+static size_t marks_index(const struct params *p, uint32_t region,
+                          uint32_t virtual_block, uint32_t word)
+{
+    if (MUTANT(MARKS_LAYOUT))
+        return 4 * ((size_t)virtual_block * p->mu + region) + word;
+    return 4 * bt_index(p, region, virtual_block) + word;
+}
+
+/* What the mark of a frame should be: "each mark equals the validity rule",
+   "Marks from F up are zero, and so are those of a virtual block without a
+   physical block." */
+static bool right_mark(const struct view *v, uint32_t region,
+                       uint32_t virtual_block, uint32_t frame)
+{
+    return frame < v->p.f && block_of(v, region, virtual_block) != NONE
+        && frame_valid(v, region, virtual_block, frame);
+}
+
+/* What a word should be: "the mark of frame f stands at bit f mod 64 of word
+   f / 64". */
+static uint64_t right_word(const struct view *v, uint32_t region,
+                           uint32_t virtual_block, uint32_t word)
+{
+    uint64_t bits = 0;
+
+    for (uint32_t frame = 0; frame < 256; frame++)
+        if (frame / 64 == word && right_mark(v, region, virtual_block, frame))
+            bits |= UINT64_C(1) << (MUTANT(MARK_BIT) ? frame / 64
+                                                     : frame % 64);
+    return bits;
 }
 
 /* ==== When a state is orderly ========================================== */
@@ -496,7 +537,36 @@ static bool ct_entries_orderly(const struct view *v)
     return true;
 }
 
-/* The rules in the document's order; each relies on those before it. */
+/* The bits of a word that a mutant does not look at. */
+static uint64_t unseen_bits(const struct view *v, uint32_t region,
+                            uint32_t virtual_block, uint32_t word)
+{
+    uint64_t from_f = 0;
+
+    for (uint32_t frame = 64 * word; frame < 64 * word + 64; frame++)
+        if (frame >= v->p.f)
+            from_f |= UINT64_C(1) << frame % 64;
+    if (MUTANT(MARKS_UNCHECKED) || (MUTANT(MARKS_UNASSIGNED)
+                && block_of(v, region, virtual_block) == NONE))
+        return UINT64_MAX;
+    return MUTANT(MARKS_FROM_F) ? from_f : 0;
+}
+
+/* T-06: "An orderly state now also says that each mark equals the validity
+   rule." */
+static bool marks_orderly(const struct view *v)
+{
+    for (uint32_t r = 0; r < v->p.mu; r++)
+        for (uint32_t i = 0; i < v->p.gamma; i++)
+            for (uint32_t w = 0; w < 4; w++)
+                if ((v->marks[marks_index(&v->p, r, i, w)]
+                     ^ right_word(v, r, i, w)) & ~unseen_bits(v, r, i, w))
+                    return false;
+    return true;
+}
+
+/* The rules in the document's order, with T-06's last; each relies on those
+   before it. */
 static bool (*const rules[])(const struct view *) = {
     bst_entries_orderly,
     bt_entries_orderly,
@@ -506,7 +576,8 @@ static bool (*const rules[])(const struct view *) = {
     free_blocks_erased,
     used_blocks_orderly,
     fst_entries_orderly,
-    ct_entries_orderly
+    ct_entries_orderly,
+    marks_orderly
 };
 
 enum { RULES = sizeof rules / sizeof *rules };
@@ -643,6 +714,15 @@ static void format_block(struct lent *l, uint32_t block)
         count_erase(l, block);
 }
 
+/* Works every mark out from the rule, as the chip and the tables now stand. */
+static void work_out_marks(const struct view *v, uint64_t *marks)
+{
+    for (uint32_t r = 0; r < v->p.mu; r++)
+        for (uint32_t i = 0; i < v->p.gamma; i++)
+            for (uint32_t w = 0; w < 4; w++)
+                marks[marks_index(&v->p, r, i, w)] = right_word(v, r, i, w);
+}
+
 /* Format, and then "CT, BT and FST become none." */
 static void format_steps(struct lent *l)
 {
@@ -656,6 +736,8 @@ static void format_steps(struct lent *l)
         l->bt[i] = NONE;
     for (uint32_t r = 0; r < p->mu && !MUTANT(FORMAT_KEEPS_FST); r++)
         l->fst[r] = NONE;
+    if (!MUTANT(FORMAT_KEEPS_MARKS))
+        work_out_marks(&l->v, l->marks);
 }
 
 /* The cluster's valid frame, which is not found if CT has none. */
@@ -744,6 +826,9 @@ static uint32_t valid_frames(const struct view *v, uint32_t region,
 
     for (uint32_t frame = 0; frame < v->p.f; frame++) {
         uint32_t cluster = cluster_in(spare_at(v, block, frame, 0));
+
+        if (MUTANT(THREE_WORDS) && frame / 64 == 3)
+            continue;
 
         if (MUTANT(VICTIM_COUNTS_STALE))
             valid += frame_taken(v, block, frame)
@@ -910,6 +995,27 @@ static struct spot take_frame(struct lent *l, uint32_t cluster,
     return at;
 }
 
+/* The marks after a write from an old frame, if any, to a new one, spoilt as
+   the mutants of T-06 would spoil them. */
+static void marks_after_write(struct lent *l, uint32_t region,
+                              const struct spot *old, const struct spot *at,
+                              const struct work *work)
+{
+    const struct params *p = &l->v.p;
+    uint64_t *word = l->marks + marks_index(p, region, at->virtual_block, 0);
+    uint64_t before[4];
+
+    memcpy(before, word, sizeof before);
+    work_out_marks(&l->v, l->marks);
+    if (MUTANT(OLD_MARK_KEPT) && old->found && work->erases == 0)
+        l->marks[marks_index(p, region, old->virtual_block, old->frame / 64)]
+            |= UINT64_C(1) << old->frame % 64;
+    if (MUTANT(NEW_MARK_CLEAR))
+        word[at->frame / 64] &= ~(UINT64_C(1) << at->frame % 64);
+    for (int w = 0; w < 4 && MUTANT(VICTIM_MARKS_KEPT) && work->erases; w++)
+        word[w] |= before[w];
+}
+
 /* Write. "The new cluster is the old one ... with the given sectors replaced.
    ... Then CT and FST name the segment just written." */
 static struct work write_steps(struct lent *l, uint32_t lba, uint32_t count,
@@ -932,6 +1038,7 @@ static struct work write_steps(struct lent *l, uint32_t lba, uint32_t count,
                                : segment_of(p, at.virtual_block, at.frame);
     l->ct[cluster] = (uint16_t)segment;
     l->fst[MUTANT(ONE_OPEN) ? 0 : region_of(p, cluster)] = (uint16_t)segment;
+    marks_after_write(l, region_of(p, cluster), &old, &at, &work);
     return work;
 }
 
@@ -1024,14 +1131,16 @@ uint64_t model_format(uint32_t s, uint32_t alpha, uint32_t beta, uint32_t d,
                       uint16_t *bt, size_t bt_len,
                       uint16_t *fst, size_t fst_len,
                       uint8_t *bst, size_t bst_len,
-                      uint32_t *wear, size_t wear_len)
+                      uint32_t *wear, size_t wear_len,
+                      uint64_t *marks, size_t marks_len)
 {
     struct params p = make_params(s, alpha, beta, d, mu, gamma, c, n);
     struct lengths len = {
-        chip_len, ct_len, bt_len, fst_len, bst_len, wear_len
+        chip_len, ct_len, bt_len, fst_len, bst_len, wear_len, marks_len
     };
     struct lent l = {
-        { p, chip, ct, bt, fst, bst, wear }, chip, ct, bt, fst, bst, wear
+        { p, chip, ct, bt, fst, bst, wear, marks },
+        chip, ct, bt, fst, bst, wear, marks
     };
     uint32_t reply = refuse_board(&p, &len), good;
 
@@ -1057,14 +1166,15 @@ uint64_t model_read(uint32_t s, uint32_t alpha, uint32_t beta, uint32_t d,
                     const uint16_t *fst, size_t fst_len,
                     const uint8_t *bst, size_t bst_len,
                     const uint32_t *wear, size_t wear_len,
+                    const uint64_t *marks, size_t marks_len,
                     uint32_t lba, uint32_t count,
                     uint8_t *data, size_t data_len)
 {
     struct params p = make_params(s, alpha, beta, d, mu, gamma, c, n);
     struct lengths len = {
-        chip_len, ct_len, bt_len, fst_len, bst_len, wear_len
+        chip_len, ct_len, bt_len, fst_len, bst_len, wear_len, marks_len
     };
-    struct view v = { p, chip, ct, bt, fst, bst, wear };
+    struct view v = { p, chip, ct, bt, fst, bst, wear, marks };
     uint32_t reply = refuse_board(&p, &len);
 
     if (reply == ACCEPTED)
@@ -1086,15 +1196,17 @@ uint64_t model_write(uint32_t s, uint32_t alpha, uint32_t beta, uint32_t d,
                      uint16_t *fst, size_t fst_len,
                      uint8_t *bst, size_t bst_len,
                      uint32_t *wear, size_t wear_len,
+                     uint64_t *marks, size_t marks_len,
                      uint32_t lba, uint32_t count,
                      const uint8_t *data, size_t data_len)
 {
     struct params p = make_params(s, alpha, beta, d, mu, gamma, c, n);
     struct lengths len = {
-        chip_len, ct_len, bt_len, fst_len, bst_len, wear_len
+        chip_len, ct_len, bt_len, fst_len, bst_len, wear_len, marks_len
     };
     struct lent l = {
-        { p, chip, ct, bt, fst, bst, wear }, chip, ct, bt, fst, bst, wear
+        { p, chip, ct, bt, fst, bst, wear, marks },
+        chip, ct, bt, fst, bst, wear, marks
     };
     uint32_t reply = refuse_board(&p, &len);
     struct work work;
@@ -1132,13 +1244,14 @@ uint64_t model_release(uint32_t s, uint32_t alpha, uint32_t beta, uint32_t d,
                        const uint16_t *fst, size_t fst_len,
                        const uint8_t *bst, size_t bst_len,
                        const uint32_t *wear, size_t wear_len,
+                       uint64_t *marks, size_t marks_len,
                        uint32_t cluster)
 {
     struct params p = make_params(s, alpha, beta, d, mu, gamma, c, n);
     struct lengths len = {
-        chip_len, ct_len, bt_len, fst_len, bst_len, wear_len
+        chip_len, ct_len, bt_len, fst_len, bst_len, wear_len, marks_len
     };
-    struct view v = { p, chip, ct, bt, fst, bst, wear };
+    struct view v = { p, chip, ct, bt, fst, bst, wear, marks };
     uint32_t reply = refuse_board(&p, &len);
 
     if (reply == ACCEPTED)
@@ -1152,6 +1265,8 @@ uint64_t model_release(uint32_t s, uint32_t alpha, uint32_t beta, uint32_t d,
             ct[x] = NONE;
     if (!MUTANT(RELEASE_NOTHING))
         ct[cluster] = NONE;
+    if (!MUTANT(RELEASE_KEEPS_MARK))
+        work_out_marks(&v, marks);
     return answer(ACCEPTED, 0, MUTANT(RELEASE_COUNTS));
 }
 
@@ -1166,13 +1281,15 @@ static uint32_t refuse_why(const struct view *v, uint32_t lba,
     return orderly(v) ? ACCEPTED : NOT_ORDERLY;
 }
 
-/* "with 7 the first orderly rule broken, in 01's order" */
+/* "with 7 the first orderly rule broken, in 01's order", T-06's after them */
 static uint32_t told_rule(const struct view *v)
 {
     uint32_t rule = broken_rule(v);
 
     if (MUTANT(WHY_RULE_ORDER) && rule == 4 && !enough_blocks(v))
         return 5;
+    if (MUTANT(WHY_MARKS_FIRST) && rule == 9 && !marks_orderly(v))
+        return 10;
     return rule;
 }
 
@@ -1248,14 +1365,15 @@ uint64_t model_why(uint32_t s, uint32_t alpha, uint32_t beta, uint32_t d,
                    const uint16_t *fst, size_t fst_len,
                    const uint8_t *bst, size_t bst_len,
                    const uint32_t *wear, size_t wear_len,
+                   const uint64_t *marks, size_t marks_len,
                    uint32_t lba,
                    uint32_t *list, size_t list_len)
 {
     struct params p = make_params(s, alpha, beta, d, mu, gamma, c, n);
     struct lengths len = {
-        chip_len, ct_len, bt_len, fst_len, bst_len, wear_len
+        chip_len, ct_len, bt_len, fst_len, bst_len, wear_len, marks_len
     };
-    struct view v = { p, chip, ct, bt, fst, bst, wear };
+    struct view v = { p, chip, ct, bt, fst, bst, wear, marks };
     uint32_t reply = refuse_board(&p, &len);
 
     if (reply == ACCEPTED)

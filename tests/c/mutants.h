@@ -1,5 +1,6 @@
 /*
- * mutants.h - the wrong readings of document 01 that the model can take on.
+ * mutants.h - the wrong readings of documents 01 and 02 that the model can take
+ * on.
  *
  * Mutant 0 is the right model.  Each of the others is switched on by its
  * number, counted from 1 in the order of this list, to show that a comparison
@@ -17,6 +18,7 @@
     X(LENGTHS_FIRST, "replies: 2 checked before 1")                            \
     X(LENGTH_AT_LEAST, "replies: a table too long is accepted")                \
     X(WEAR_LENGTH, "replies: the length of wear is not checked")               \
+    X(MARKS_LENGTH, "replies: the length of the marks is not checked")         \
     X(COUNT_AFTER_ADDRESS, "replies: 4 checked before 3")                      \
     X(DATA_BEFORE_ADDRESS, "replies: 5 checked before 4")                      \
     X(ORDER_BEFORE_DATA, "replies: 7 checked before 5")                        \
@@ -46,6 +48,9 @@
     X(TWO_OPEN, "orderly: a second block that is not full accepted")           \
     X(CT_ELSEWHERE, "orderly: CT naming a segment without it accepted")        \
     X(CT_NONE_REFUSED, "orderly: CT none refused where a frame is left")       \
+    X(MARKS_UNCHECKED, "orderly: a wrong mark accepted")                       \
+    X(MARKS_FROM_F, "orderly: a mark from F up accepted")                      \
+    X(MARKS_UNASSIGNED, "orderly: a mark without a physical block accepted")   \
     /* format */                                                               \
     X(FORMAT_NO_ERASES, "format: its erases are not counted")                  \
     X(FORMAT_COUNTS_BAD, "format: an erase counted for bad blocks too")        \
@@ -98,8 +103,18 @@
     X(RELEASE_LAST, "release: the last cluster is refused")                    \
     X(RELEASE_ORDER_FIRST, "release: 7 tested before 4")                       \
     X(RELEASE_COUNTS, "release: an erase counted")                             \
+    /* marks */                                                                \
+    X(MARK_BIT, "marks: the mark of frame f at bit f / 64")                    \
+    X(MARKS_LAYOUT, "marks: virtual block first, then region")                 \
+    X(OLD_MARK_KEPT, "marks: the old frame's mark stays after an overwrite")   \
+    X(NEW_MARK_CLEAR, "marks: the new frame's mark is not set")                \
+    X(THREE_WORDS, "marks: valid frames counted over three words")             \
+    X(VICTIM_MARKS_KEPT, "marks: those of a reclaimed block not cleared")      \
+    X(FORMAT_KEEPS_MARKS, "marks: a format leaves them")                       \
+    X(RELEASE_KEEPS_MARK, "marks: a release leaves its cluster's")             \
     /* why */                                                                  \
     X(WHY_RULE_ORDER, "why: too few blocks told before used if named")         \
+    X(WHY_MARKS_FIRST, "why: a wrong mark told before a wrong CT entry")       \
     X(WHY_STALE, "why: the first frame of the cluster, not the last")          \
     X(WHY_VICTIM_TIE, "why: the highest victim on a tie")                      \
     X(WHY_OPENS, "why: opens told where the open block has room")              \
