@@ -15,13 +15,17 @@ use Rattle.rules.specs.Tables.{none, ctAt, btAt}
 use Rattle.rules.specs.Regions.{View, viewOf}
 use Rattle.marks.specs.Marks.{markIndex, marked, marksLength, wordAt, wordOf}
 
+-- this is so of each cluster that a programmed frame of the block holds
+abbrev pub EachHeld : Params → List ℕ → (ℕ → Type 0) → Type 0
+EachHeld p blk is = (f : ℕ) → f < frames p → programmed p (frame p blk f) ≡ true → is (held p (frame p blk f))
+
 -- the bytes of a block, which virtual block v has, and CT; its programmed frames hold clusters of the board
 pub record OneBlock (p : Params) (blk ct : List ℕ) (v : ℕ) : Type 0 where
   pub fine : allowed p ≡ true
   pub size : length blk ≡ blockBytes p
   pub ctLength : length ct ≡ p .C
   pub low : v < p .gamma
-  pub clusters : (f : ℕ) → f < frames p → programmed p (frame p blk f) ≡ true → held p (frame p blk f) < p .C
+  pub clusters : EachHeld p blk (λ c. c < p .C)
 
 pub record OneFrame (p : Params) (blk ct : List ℕ) (v f : ℕ) : Type 0 where
   pub block : OneBlock p blk ct v
@@ -31,12 +35,12 @@ pub record OneFrame (p : Params) (blk ct : List ℕ) (v f : ℕ) : Type 0 where
 pub record Shows (p : Params) (r v : ℕ) (blk ct : List ℕ) (vw : View) : Type 0 where
   pub body : vw .body v ≡ blk
   pub segs : (c : ℕ) → vw .segOf c ≡ cond (eqb (regionOf p c) r) (ctAt ct c) none
-  pub mine : (f : ℕ) → f < frames p → programmed p (frame p blk f) ≡ true → regionOf p (held p (frame p blk f)) ≡ r
+  pub mine : EachHeld p blk (λ c. regionOf p c ≡ r)
 
 -- the programmed frames of a block hold clusters of region r
 pub record Mine (p : Params) (r : ℕ) (blk : List ℕ) : Type 0 where
-  pub low : (f : ℕ) → f < frames p → programmed p (frame p blk f) ≡ true → held p (frame p blk f) < p .C
-  pub region : (f : ℕ) → f < frames p → programmed p (frame p blk f) ≡ true → regionOf p (held p (frame p blk f)) ≡ r
+  pub low : EachHeld p blk (λ c. c < p .C)
+  pub region : EachHeld p blk (λ c. regionOf p c ≡ r)
 
 -- the lent chip and tables are whole, and a block that BT names is one of its region
 pub record CheckAsked (p : Params) (chip ct bt marks : List ℕ) : Type 0 where
