@@ -35,7 +35,7 @@ use Rattle.agree.proofs.Same.{Names, assigned-no, assigned-yes, body-is
 home : Params → List ℕ → ℕ → ℕ
 home p chip n = regionOf p (held p (frame p (block p chip n) 0))
 
-same-truth : (x y : Bool) → (x ≡ true → y ≡ true) → (y ≡ true → x ≡ true) → x ≡ y
+pub same-truth : (x y : Bool) → (x ≡ true → y ≡ true) → (y ≡ true → x ≡ true) → x ≡ y
 same-truth true y f g = sym (f refl)
 same-truth false true f g = g refl
 same-truth false false f g = refl

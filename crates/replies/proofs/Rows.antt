@@ -14,12 +14,13 @@ use Rattle.rules.specs.declared.Reply.{Reply}
 use Rattle.rules.specs.declared.Reply.the-variants.{Accepted, BadParameter, WrongLength, NotOrderly}
 use Rattle.rules.specs.Parameters.{allowed}
 use Rattle.rules.specs.Numbers.{sectorOf}
+use Rattle.rules.specs.Orderly.{orderly}
 use Rattle.rules.specs.Tables.{Board}
 use Rattle.rules.specs.Format.{goodBlocks}
 use Rattle.rules.specs.Write.{Request}
 use Rattle.rules.specs.Replies.{Row, row, numberOf, isAccepted, lengthsFit, badParameter, wrongLength, badAddress, tooFewBlocks, notOrderly, firstRow}
 use Rattle.rules.proofs.Sizes.{sizes}
-use Rattle.marks.specs.Marks.{marksLength}
+use Rattle.marks.specs.Marks.{marksLength, marksRule}
 use Rattle.marks.specs.MarkedCalls.{markedReply, wrongMark, wrongMarksLength}
 use Rattle.replies.specs.Rows.{boardReply, stateReply}
 
@@ -114,6 +115,16 @@ module _ (p : Params) (b : Board) (marks : List ℕ) where
         go true y = refl
         go false true = refl
         go false false = refl
+
+-- the rows of the state, by one test
+pub state-row : (p : Params) (b : Board) (marks : List ℕ) (ok t : Bool) → ok ≡ orderly p b && marksRule p b marks → ok ≡ t → cond t Accepted NotOrderly ≡ stateReply p b marks
+unfolding stateReply firstRow notOrderly wrongMark
+state-row p b marks ok t e is = rw (← is, e) (go (orderly p b) (marksRule p b marks))
+  where
+    go : (x y : Bool) → cond (x && y) Accepted NotOrderly ≡ cond (not x) NotOrderly (cond (not y) NotOrderly Accepted)
+    go true true = refl
+    go true false = refl
+    go false y = refl
 
 -- the row of an address is that of a request for a sector there
 pub address-is : (p : Params) (lba : ℕ) (t : Bool) → ((q : Request) → q .lba ≡ lba → t ≡ badAddress p q) → t ≡ leb (p .C * p .alpha) lba

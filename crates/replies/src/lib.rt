@@ -107,10 +107,7 @@ fn state_reply(
     requires { ⌜ length (now marks) ≡ marksLength p ⌝ }
     ensures { λ r. ⌜ ((wear : List ℕ) → r ≡ stateReply p (boardOf (now (chip .entry)) (now (ct .entry)) (now (bt .entry)) (now (fst .entry)) (now (bst .entry)) wear) (now (marks .entry))) ⌝ }
 {
-    if !state::is_orderly(p, chip, ct, bt, fst, bst) {
-        return Reply::NotOrderly;
-    }
-    if valid::marks_ok(p, chip, ct, bt, marks) {
+    if order::in_order(p, chip, ct, bt, fst, bst, marks) {
         return Reply::Accepted;
     }
     Reply::NotOrderly

@@ -51,7 +51,7 @@ pub fn frees_ok(p: Params, chip: &[u8], bst: &[u8]) -> bool
 }
 
 // The block that virtual block v of region r has is named once there, is used, and is a block of that region.
-fn vblock_ok(p: Params, chip: &[u8], bt: &[u16], bst: &[u8], r: usize, v: VBlock) -> bool
+pub fn vblock_ok(p: Params, chip: &[u8], bt: &[u16], bst: &[u8], r: usize, v: VBlock) -> bool
     requires { ⌜ Lent p (now chip) (now bt) ⌝ }
     requires { ⌜ length (now bst) ≡ p .N ⌝ }
     requires { ⌜ r < p .mu ⌝ }
@@ -263,7 +263,7 @@ fn regions_ok(p: Params, chip: &[u8], ct: &[u16], bt: &[u16], fst: &[u16], bst: 
 }
 
 // The rules of the tables that look at no byte of the chip, and as many blocks used as named.
-fn tables_ok(p: Params, bt: &[u16], bst: &[u8]) -> bool
+pub fn tables_ok(p: Params, bt: &[u16], bst: &[u8]) -> bool
     requires { ⌜ allowed p ≡ true ⌝ }
     requires { ⌜ length (now bt) ≡ p .mu * p .gamma ⌝ }
     requires { ⌜ length (now bst) ≡ p .N ⌝ }

@@ -1,16 +1,16 @@
-// Which frames are valid, and whether the lent table of marks says so of each: the rule that T-06 adds to an orderly state.
+// Which frames are valid, and whether each mark of a virtual block is that of a valid frame. Crate order has why no valid frame is then without one.
 ghost use mathlib.Core.Path.{_≡_};
-ghost use mathlib.Core.Bool.{Bool, false, true, cond};
-ghost use mathlib.Core.List.{List};
-ghost use Prim.Native.Nat.{ℕ, _+_, _*_, _/_, _<_};
-ghost use Rattle.lists.specs.Below.{allBelow, updated};
-ghost use Rattle.bits.specs.Bits.{bitsBelow};
-ghost use Rattle.rules.specs.Parameters.{allowed, frames};
+ghost use mathlib.Core.Bool.{false, true, not, _||_};
+ghost use Prim.Native.Nat.{ℕ, _+_, _*_, _/_, _%_, _<_};
+ghost use lib.Dec.{eqb};
+ghost use Rattle.lists.specs.Below.{allBelow};
+ghost use Rattle.rules.specs.Parameters.{allowed};
+ghost use Rattle.rules.specs.Pages.{lastIn};
 ghost use Rattle.rules.specs.Regions.{View, valid};
-ghost use Rattle.rules.specs.Tables.{boardOf};
-ghost use Rattle.marks.specs.Marks.{marked, marksRule, wordOf};
+ghost use Rattle.marks.specs.Marks.{marked};
 ghost use Rattle.marking.specs.Asked.{WordsAsked};
-ghost use Rattle.valid.specs.Shown.{CheckAsked, OneBlock, OneFrame, Shows, wordRight, wordsAre};
+ghost use Rattle.valid.specs.Shown.{CheckAsked, HoldsAt, OneBlock, OneFrame, Shows, marksValid, onlyIn, wordOnly};
+use rules::Cluster;
 use rules::Params;
 use rules::Segment;
 use rules::VBlock;
@@ -40,7 +40,7 @@ fn first_place(p: Params, w: usize) -> usize
 // The place of the segment of frame f + 1, where that of frame f is k: no division.
 fn next_place(p: Params, f: usize, k: usize) -> usize
     requires { ⌜ allowed p ≡ true ⌝ }
-    requires { ⌜ f < frames p ⌝ }
+    requires { ⌜ f < 256 ⌝ }
     requires { ⌜ k ≡ f / p .beta ⌝ }
     ensures { λ x. ⌜ x ≡ (f + 1) / p .beta ⌝ }
 {
@@ -48,6 +48,22 @@ fn next_place(p: Params, f: usize, k: usize) -> usize
         return k + 1;
     }
     k
+}
+
+// Does no frame after frame f, in the same segment, hold its cluster c? The place of the segment in the block is k.
+fn is_last(p: Params, blk: &[u8], k: usize, f: usize, c: Cluster) -> bool
+    requires { ⌜ HoldsAt p (now blk) k f (c .0) ⌝ }
+    ensures { λ ok. ⌜ ok ≡ eqb (lastIn p (now (blk .entry)) k (c .0)) f ⌝ }
+{
+    let end = (k + 1) * p.beta;
+    let mut g = f + 1;
+    while g < end {
+        if blocks::holds(p, blocks::frame_of(p, blk, g), c) {
+            return false;
+        }
+        g += 1;
+    }
+    true
 }
 
 // Is frame f of virtual block v, whose bytes are lent, valid? The place of its segment in the block is k.
@@ -64,51 +80,57 @@ fn is_valid(p: Params, blk: &[u8], ct: &[u16], v: VBlock, k: usize, f: usize) ->
     if tables::ct_at(ct, c).0 != segment_in(p, v, k).0 {
         return false;
     }
-    blocks::last_in(p, blk, k, c) == f
+    is_last(p, blk, k, f, c)
 }
 
-// The word with bit i set if the test passed, else as it is.
-fn with_bit_if(word: u64, i: usize, ok: bool) -> u64
-    requires { ⌜ i < 64 ⌝ }
-    ensures { λ x. ⌜ ((f : ℕ → Bool) → word ≡ bitsBelow 64 f → x ≡ cond ok (bitsBelow 64 (updated f i true)) (bitsBelow 64 f)) ⌝ }
+// Has frame f no mark, which is the lowest bit of the word, or is it valid?
+fn mark_ok(p: Params, blk: &[u8], ct: &[u16], v: VBlock, k: usize, f: usize, word: u64) -> bool
+    requires { ⌜ OneBlock p (now blk) (now ct) (v .0) ⌝ }
+    requires { ⌜ k ≡ f / p .beta ⌝ }
+    ensures { λ ok. ⌜ ((r : ℕ) (vw : View) → Shows p r (v .0) (now (blk .entry)) (now (ct .entry)) vw → ok ≡ not (eqb (word % 2) 1) || marked p vw (v .0) f) ⌝ }
 {
-    if ok {
-        return bits::with_bit(word, i);
+    if word % 2 == 0 {
+        return true;
     }
-    word
+    if f >= sizes::frames(p) {
+        return false;
+    }
+    is_valid(p, blk, ct, v, k, f)
 }
 
-// Word w of the marks of virtual block v, whose bytes are lent, as the valid frames make it.
-fn valid_word(p: Params, blk: &[u8], ct: &[u16], v: VBlock, w: usize) -> u64
+// Is each mark in word w of virtual block v, whose bytes are lent, that of a valid frame? It ends at the last mark.
+fn word_ok(p: Params, blk: &[u8], ct: &[u16], v: VBlock, w: usize, word: u64) -> bool
     requires { ⌜ OneBlock p (now blk) (now ct) (v .0) ⌝ }
     requires { ⌜ w < 4 ⌝ }
-    ensures { λ x. ⌜ ((r : ℕ) (vw : View) → Shows p r (v .0) (now (blk .entry)) (now (ct .entry)) vw → x ≡ wordOf (marked p vw (v .0)) w) ⌝ }
+    ensures { λ ok. ⌜ ((r : ℕ) (vw : View) → Shows p r (v .0) (now (blk .entry)) (now (ct .entry)) vw → ok ≡ onlyIn (marked p vw (v .0)) w word) ⌝ }
 {
-    let n = marking::in_word(sizes::frames(p), w);
-    if n == 0 {
-        return 0;
+    if word == 0 {
+        return true;
     }
-    let mut word: u64 = 0;
     let mut k = first_place(p, w);
     let mut i: usize = 0;
-    while i < n {
+    let mut rest = word;
+    while rest > 0 {
         let f = 64 * w + i;
-        word = with_bit_if(word, i, is_valid(p, blk, ct, v, k, f));
+        if !mark_ok(p, blk, ct, v, k, f, rest) {
+            return false;
+        }
         k = next_place(p, f, k);
         i += 1;
+        rest = rest / 2;
     }
-    word
+    true
 }
 
-// Are the four words of virtual block v of region r, whose block's bytes are lent, as its valid frames make them?
+// Is each mark of virtual block v of region r, whose block's bytes are lent, that of a valid frame?
 fn held_ok(p: Params, blk: &[u8], ct: &[u16], marks: &[u64], r: usize, v: VBlock) -> bool
     requires { ⌜ OneBlock p (now blk) (now ct) (v .0) ⌝ }
     requires { ⌜ WordsAsked p (now marks) r (v .0) ⌝ }
-    ensures { λ ok. ⌜ ((vw : View) → Shows p r (v .0) (now (blk .entry)) (now (ct .entry)) vw → ok ≡ allBelow 4 (wordsAre p (now (marks .entry)) r (v .0) (marked p vw (v .0)))) ⌝ }
+    ensures { λ ok. ⌜ ((vw : View) → Shows p r (v .0) (now (blk .entry)) (now (ct .entry)) vw → ok ≡ allBelow 4 (wordOnly p (now (marks .entry)) r (v .0) (marked p vw (v .0)))) ⌝ }
 {
     let mut w: usize = 0;
     while w < 4 {
-        if marking::word_at(p, marks, r, v, w) != valid_word(p, blk, ct, v, w) {
+        if !word_ok(p, blk, ct, v, w, marking::word_at(p, marks, r, v, w)) {
             return false;
         }
         w += 1;
@@ -116,10 +138,10 @@ fn held_ok(p: Params, blk: &[u8], ct: &[u16], marks: &[u64], r: usize, v: VBlock
     true
 }
 
-// Are they all 0, where it has no block?
+// Has it no mark, where it has no block?
 fn none_ok(p: Params, marks: &[u64], r: usize, v: VBlock) -> bool
     requires { ⌜ WordsAsked p (now marks) r (v .0) ⌝ }
-    ensures { λ ok. ⌜ ok ≡ allBelow 4 (wordsAre p (now (marks .entry)) r (v .0) (λ f. false)) ⌝ }
+    ensures { λ ok. ⌜ ok ≡ allBelow 4 (wordOnly p (now (marks .entry)) r (v .0) (λ f. false)) ⌝ }
 {
     let mut w: usize = 0;
     while w < 4 {
@@ -131,8 +153,8 @@ fn none_ok(p: Params, marks: &[u64], r: usize, v: VBlock) -> bool
     true
 }
 
-// Are the words of virtual block v of region r right, with or without a block?
-fn words_ok(
+// Is each mark of virtual block v of region r that of a valid frame, with or without a block?
+pub fn marks_ok(
     p: Params,
     chip: &[u8],
     ct: &[u16],
@@ -141,47 +163,12 @@ fn words_ok(
     r: usize,
     v: VBlock,
 ) -> bool
-    requires { ⌜ CheckAsked p (now chip) (now ct) (now bt) (now marks) ⌝ }
-    requires { ⌜ r < p .mu ⌝ }
-    requires { ⌜ v .0 < p .gamma ⌝ }
-    ensures { λ ok. ⌜ ok ≡ allBelow 4 (wordRight p (now (chip .entry)) (now (ct .entry)) (now (bt .entry)) (now (marks .entry)) r (v .0)) ⌝ }
+    requires { ⌜ CheckAsked p (now chip) (now ct) (now bt) (now marks) r (v .0) ⌝ }
+    ensures { λ ok. ⌜ ok ≡ marksValid p (now (chip .entry)) (now (ct .entry)) (now (bt .entry)) (now (marks .entry)) r (v .0) ⌝ }
 {
     let n = tables::bt_at(p, bt, r, v);
     if n.0 == 65535 {
         return none_ok(p, marks, r, v);
     }
     held_ok(p, blocks::block_of(p, chip, n), ct, marks, r, v)
-}
-
-// The same of every virtual block of region r.
-fn region_ok(p: Params, chip: &[u8], ct: &[u16], bt: &[u16], marks: &[u64], r: usize) -> bool
-    requires { ⌜ CheckAsked p (now chip) (now ct) (now bt) (now marks) ⌝ }
-    requires { ⌜ r < p .mu ⌝ }
-    ensures { λ ok. ⌜ ok ≡ allBelow (p .gamma) (λ v. allBelow 4 (wordRight p (now (chip .entry)) (now (ct .entry)) (now (bt .entry)) (now (marks .entry)) r v)) ⌝ }
-{
-    let n = p.gamma;
-    let mut v: usize = 0;
-    while v < n {
-        if !words_ok(p, chip, ct, bt, marks, r, VBlock(v)) {
-            return false;
-        }
-        v += 1;
-    }
-    true
-}
-
-// Does each mark equal the validity rule? Reply 7 if not, on a state that is orderly but for this.
-pub fn marks_ok(p: Params, chip: &[u8], ct: &[u16], bt: &[u16], marks: &[u64]) -> bool
-    requires { ⌜ CheckAsked p (now chip) (now ct) (now bt) (now marks) ⌝ }
-    ensures { λ ok. ⌜ ((fst bst wear : List ℕ) → ok ≡ marksRule p (boardOf (now (chip .entry)) (now (ct .entry)) (now (bt .entry)) fst bst wear) (now (marks .entry))) ⌝ }
-{
-    let n = p.mu;
-    let mut r: usize = 0;
-    while r < n {
-        if !region_ok(p, chip, ct, bt, marks, r) {
-            return false;
-        }
-        r += 1;
-    }
-    true
 }

@@ -1,47 +1,30 @@
--- `valid::marks_ok`: every region passed has right words; that is the rule, word by word.
+-- `valid::marks_ok`: no mark without a block, else those of valid frames of its block.
 -- Assumes nothing.
-use mathlib.Core.Path.{sym, _∙_, _≡_}
-use mathlib.Core.Bool.{true}
-use Prim.Native.Nat.{_-_, _≤_}
-use native.Mathlib.Omega.{arith}
-use borrow.Author.Tests.{not-false, not-true}
-use Rattle.lists.specs.Below.{allBelow}
-use Rattle.loops.proofs.Below.{all-end, all-fails, all-more, all-start}
-use Rattle.valid.specs.Shown.{wordRight}
-use Rattle.valid.proofs.Words.{rule-is}
+use Rattle.valid.specs.Shown.{marksValid}
+use Rattle.valid.proofs.Asked.{block-low, none-valid, one-block, shows, words-asked}
 use Rattle.valid.proofs.marks_ok.Statement.{statement}
 use Rattle.valid.proofs.marks_ok.Tie as tie
 
-abbrev Inv-loop : tie.InvT-loop
-Inv-loop p chip ct bt marks n r₀ r = (r ≤ n) × (allBelow r (λ s. allBelow (p .gamma) (λ v. allBelow 4 (wordRight p chip ct bt marks s v))) ≡ true)
+bt-at-requires : tie.Need-bt-at-requires
+bt-at-requires c κs = let a = c .before .before .before .before .pre in (a .btLength, (a .region, a .low))
 
-abbrev μ-loop : tie.MeasureT-loop
-μ-loop p chip ct bt marks n r₀ r = n - r
+none-ok-requires : tie.Need-none-ok-requires
+none-ok-requires c κs = words-asked _ _ _ _ _ _ _ (c .before .before .before .before .before .before .before .pre)
 
-loop-holds : tie.Need-loop-holds Inv-loop μ-loop
-loop-holds c = (omega arith, all-start _)
+returns : tie.Need-returns
+returns c = none-valid _ _ _ _ _ _ _ (c .before .before .before .before .before .before .before .before .pre) _ (c .before .before .before .bt-at .ensures .0) (c .before .if1 .taken) _ (c .none-ok .ensures)
 
-region-ok-requires : tie.Need-region-ok-requires Inv-loop μ-loop
-region-ok-requires c κs = (c .before .before .before .before .before .before .pre, c .loop-test .taken)
+block-of-requires : tie.Need-block-of-requires
+block-of-requires c κs = let a = c .before .before .before .before .before .before .before .pre in (a .fine, (a .chipLength, block-low _ _ _ _ _ _ _ a _ (c .before .before .bt-at .ensures .0) (c .if1 .left)))
 
-returns : tie.Need-returns Inv-loop μ-loop
-returns c =
-    λ fst bst wear. sym (all-fails _ (c .before .before .before .loop .r) _ (c .before .before .loop-test .taken) (sym (c .before .region-ok .ensures) ∙ not-true _ (c .if1 .taken)))
-    ∙ rule-is (c .before .before .before .before .before .before .before .before .args .p) (c .before .before .before .before .before .before .before .before .args .chip .now) (c .before .before .before .before .before .before .before .before .args .ct .now) (c .before .before .before .before .before .before .before .before .args .bt .now) fst bst wear (c .before .before .before .before .before .before .before .before .args .marks .now)
+held-ok-requires : tie.Need-held-ok-requires
+held-ok-requires c κs =
+    let a = c .before .before .before .before .before .before .before .before .pre in
+    (one-block _ _ _ _ _ _ _ a _ (c .before .before .before .bt-at .ensures .0) (c .before .if1 .left) _ (c .block-of .ensures .0) (c .block-of .ensures .1), words-asked _ _ _ _ _ _ _ a)
 
-add-r : tie.Need-add-r Inv-loop μ-loop
-add-r c = omega arith
-
-loop-less : tie.Need-loop-less Inv-loop μ-loop
-loop-less c = omega arith
-
-loop-again : tie.Need-loop-again Inv-loop μ-loop
-loop-again c = (omega arith, all-more _ _ (c .before .before .before .loop .inv .1) (sym (c .before .region-ok .ensures) ∙ not-false _ (c .if1 .left)))
-
-returns-2 : tie.Need-returns-2 Inv-loop μ-loop
-returns-2 c =
-    λ fst bst wear. sym (all-end _ _ _ (omega arith) (c .before .loop .inv .1))
-    ∙ rule-is (c .before .before .before .before .before .before .args .p) (c .before .before .before .before .before .before .args .chip .now) (c .before .before .before .before .before .before .args .ct .now) (c .before .before .before .before .before .before .args .bt .now) fst bst wear (c .before .before .before .before .before .before .args .marks .now)
+returns-2 : tie.Need-returns-2
+unfolding marksValid
+returns-2 c = c .held-ok .ensures _ (shows _ _ _ _ _ _ _ (c .before .before .before .before .before .before .before .before .before .pre) _ (c .before .before .before .before .bt-at .ensures .0) (c .before .before .if1 .left) _ (c .before .block-of .ensures .0))
 
 pub marks-ok-spec : {M : Type 1} → statement M
-marks-ok-spec = tie.close (tie.spec Inv-loop μ-loop loop-holds region-ok-requires returns add-r loop-less loop-again returns-2)
+marks-ok-spec = tie.close (tie.spec bt-at-requires none-ok-requires returns block-of-requires held-ok-requires returns-2)

@@ -9,20 +9,20 @@ use Rattle.valid.proofs.next_place.Statement.{statement}
 use Rattle.valid.proofs.next_place.Tie as tie
 
 add-if1 : tie.Need-add-if1
-add-if1 c = omega (arith, place-few _ (sizes _ (c .pre .0)) _ _ (c .pre .1 .1) (c .pre .1 .0))
+add-if1 c = omega (arith, place-few _ _ _ (c .pre .1 .1) (c .pre .1 .0))
 
 mul-if1 : tie.Need-mul-if1
 mul-if1 c =
     let a = c .before in
     let z = sizes _ (a .pre .0) in
-    let k : a .args .k + 1 ≤ 256 = omega (arith, place-few _ z _ _ (a .pre .1 .1) (a .pre .1 .0)) in
+    let k : a .args .k + 1 ≤ 256 = omega (arith, place-few _ _ _ (a .pre .1 .1) (a .pre .1 .0)) in
     record { fits = lt-of-le-of-lt (mul-le-mul k (z .betaHigh)) (omega arith) }
 
 add-if1-2 : tie.Need-add-if1-2
-add-if1-2 c = omega (arith, c .before .pre .1 .0, (sizes _ (c .before .pre .0)) .short)
+add-if1-2 c = omega (arith, c .before .pre .1 .0)
 
 add-result : tie.Need-add-result
-add-result c = omega (arith, place-few _ (sizes _ (c .before .before .pre .0)) _ _ (c .before .before .pre .1 .1) (c .before .before .pre .1 .0))
+add-result c = omega (arith, place-few _ _ _ (c .before .before .pre .1 .1) (c .before .before .pre .1 .0))
 
 returns : tie.Need-returns
 returns c = place-more _ _ _ ((sizes _ (c .before .before .pre .0)) .perSegment) (c .before .before .pre .1 .1) (c .if1 .taken)

@@ -1,0 +1,4 @@
+pub mod Blocks
+pub mod Places
+pub mod Held
+pub mod Counted

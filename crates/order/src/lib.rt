@@ -1,0 +1,180 @@
+// Is the state in order, and its table of marks? One pass over the chip, and two counts instead of a look at each CT entry.
+ghost use mathlib.Core.Path.{_≡_};
+ghost use mathlib.Core.Bool.{_&&_};
+ghost use mathlib.Core.List.{List};
+ghost use Prim.Native.Nat.{ℕ, _*_, _<_, _≤_};
+ghost use lib.ListN.{length};
+ghost use Rattle.lists.specs.Below.{allBelow, countBelow};
+ghost use Rattle.rules.specs.Orderly.{orderly};
+ghost use Rattle.rules.specs.Tables.{boardOf};
+ghost use Rattle.agree.specs.Check.{Lengths};
+ghost use Rattle.marks.specs.Marks.{marksLength, marksRule};
+ghost use Rattle.order.specs.Order.{BlocksAsked, bitAt, blockHeld, countsOk, named, regionHeld};
+use rules::Params;
+use rules::VBlock;
+
+// Virtual block v of region r: its block is one of that region,
+// and each of its marks is that of a valid frame.
+fn vblock_ok(
+    p: Params,
+    chip: &[u8],
+    ct: &[u16],
+    bt: &[u16],
+    bst: &[u8],
+    marks: &[u64],
+    r: usize,
+    v: VBlock,
+) -> bool
+    requires { ⌜ BlocksAsked p (now chip) (now ct) (now bt) (now bst) (now marks) ⌝ }
+    requires { ⌜ r < p .mu ⌝ }
+    requires { ⌜ v .0 < p .gamma ⌝ }
+    ensures { λ ok. ⌜ ok ≡ blockHeld p (now (chip .entry)) (now (ct .entry)) (now (bt .entry)) (now (bst .entry)) (now (marks .entry)) r (v .0) ⌝ }
+{
+    if !state::vblock_ok(p, chip, bt, bst, r, v) {
+        return false;
+    }
+    valid::marks_ok(p, chip, ct, bt, marks, r, v)
+}
+
+// The same of every virtual block of region r,
+// while its bytes are at hand.
+fn vblocks_ok(
+    p: Params,
+    chip: &[u8],
+    ct: &[u16],
+    bt: &[u16],
+    bst: &[u8],
+    marks: &[u64],
+    r: usize,
+) -> bool
+    requires { ⌜ BlocksAsked p (now chip) (now ct) (now bt) (now bst) (now marks) ⌝ }
+    requires { ⌜ r < p .mu ⌝ }
+    ensures { λ ok. ⌜ ok ≡ allBelow (p .gamma) (blockHeld p (now (chip .entry)) (now (ct .entry)) (now (bt .entry)) (now (bst .entry)) (now (marks .entry)) r) ⌝ }
+{
+    let m = p.gamma;
+    let mut v = 0;
+    while v < m {
+        if !vblock_ok(p, chip, ct, bt, bst, marks, r, VBlock(v)) {
+            return false;
+        }
+        v += 1;
+    }
+    true
+}
+
+// The rules of region r:
+// its blocks and their marks, and its FST entry.
+fn region_ok(
+    p: Params,
+    chip: &[u8],
+    ct: &[u16],
+    bt: &[u16],
+    fst: &[u16],
+    bst: &[u8],
+    marks: &[u64],
+    r: usize,
+) -> bool
+    requires { ⌜ BlocksAsked p (now chip) (now ct) (now bt) (now bst) (now marks) ⌝ }
+    requires { ⌜ length (now fst) ≡ p .mu ⌝ }
+    requires { ⌜ r < p .mu ⌝ }
+    ensures { λ ok. ⌜ ok ≡ regionHeld p (now (chip .entry)) (now (ct .entry)) (now (bt .entry)) (now (fst .entry)) (now (bst .entry)) (now (marks .entry)) r ⌝ }
+{
+    if !vblocks_ok(p, chip, ct, bt, bst, marks, r) {
+        return false;
+    }
+    state::fst_ok(p, chip, bt, fst, r)
+}
+
+// The same of every region,
+// up to the first that is not in order.
+fn regions_ok(
+    p: Params,
+    chip: &[u8],
+    ct: &[u16],
+    bt: &[u16],
+    fst: &[u16],
+    bst: &[u8],
+    marks: &[u64],
+) -> bool
+    requires { ⌜ BlocksAsked p (now chip) (now ct) (now bt) (now bst) (now marks) ⌝ }
+    requires { ⌜ length (now fst) ≡ p .mu ⌝ }
+    ensures { λ ok. ⌜ ok ≡ allBelow (p .mu) (regionHeld p (now (chip .entry)) (now (ct .entry)) (now (bt .entry)) (now (fst .entry)) (now (bst .entry)) (now (marks .entry))) ⌝ }
+{
+    let m = p.mu;
+    let mut r = 0;
+    while r < m {
+        if !region_ok(p, chip, ct, bt, fst, bst, marks, r) {
+            return false;
+        }
+        r += 1;
+    }
+    true
+}
+
+// How many entries of CT name a segment:
+// all but those that are none.
+fn count_named(ct: &[u16]) -> usize
+    ensures { λ k. ⌜ k ≡ countBelow (length (now (ct .entry))) (named (now (ct .entry))) ⌝ }
+{
+    let mut k = 0;
+    let mut c = 0;
+    while c < ct.len() {
+        if ct[c] != 65535 {
+            k += 1;
+        }
+        c += 1;
+    }
+    k
+}
+
+// How many marks the table has:
+// the ones of all its words.
+fn count_marked(marks: &[u64]) -> usize
+    requires { ⌜ length (now marks) ≤ 65536 ⌝ }
+    ensures { λ k. ⌜ k ≡ countBelow (64 * length (now (marks .entry))) (bitAt (now (marks .entry))) ⌝ }
+{
+    let mut k = 0;
+    let mut i = 0;
+    while i < marks.len() {
+        k += bits::count(marks[i]);
+        i += 1;
+    }
+    k
+}
+
+// As many entries of CT as marks: then each entry has its frame,
+// and each valid frame its mark.
+fn counts_ok(ct: &[u16], marks: &[u64]) -> bool
+    requires { ⌜ length (now marks) ≤ 65536 ⌝ }
+    ensures { λ ok. ⌜ ok ≡ countsOk (now (ct .entry)) (now (marks .entry)) ⌝ }
+{
+    let k = count_named(ct);
+    k == count_marked(marks)
+}
+
+// Is the state orderly, and does each mark equal the validity rule? Reply 7 if not.
+// No rule looks at the wear.
+pub fn in_order(
+    p: Params,
+    chip: &[u8],
+    ct: &[u16],
+    bt: &[u16],
+    fst: &[u16],
+    bst: &[u8],
+    marks: &[u64],
+) -> bool
+    requires { ⌜ Lengths p (now chip) (now ct) (now bt) (now fst) (now bst) ⌝ }
+    requires { ⌜ length (now marks) ≡ marksLength p ⌝ }
+    ensures { λ ok. ⌜ ((wear : List ℕ) → ok ≡ orderly p (boardOf (now (chip .entry)) (now (ct .entry)) (now (bt .entry)) (now (fst .entry)) (now (bst .entry)) wear) && marksRule p (boardOf (now (chip .entry)) (now (ct .entry)) (now (bt .entry)) (now (fst .entry)) (now (bst .entry)) wear) (now (marks .entry))) ⌝ }
+{
+    if !state::tables_ok(p, bt, bst) {
+        return false;
+    }
+    if !state::frees_ok(p, chip, bst) {
+        return false;
+    }
+    if !regions_ok(p, chip, ct, bt, fst, bst, marks) {
+        return false;
+    }
+    counts_ok(ct, marks)
+}
