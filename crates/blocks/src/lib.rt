@@ -65,16 +65,16 @@ fn good_frame(p: Params, r: usize, fr: &[u8]) -> bool
     true
 }
 
-// Does a frame hold cluster c?
+// Does a frame hold cluster c? Its number is looked at first: where many frames are asked, most hold another.
 pub fn holds(p: Params, fr: &[u8], c: Cluster) -> bool
     requires { ⌜ allowed p ≡ true ⌝ }
     requires { ⌜ length (now fr) ≡ frameBytes p ⌝ }
     ensures { λ ok. ⌜ ok ≡ holds p (now (fr .entry)) (c .0) ⌝ }
 {
-    if nand::is_programmed(p, fr) {
-        return nand::cluster_in(p, fr).0 == c.0;
+    if nand::cluster_in(p, fr).0 != c.0 {
+        return false;
     }
-    false
+    nand::is_programmed(p, fr)
 }
 
 // How many frames of the block are programmed.

@@ -79,7 +79,7 @@ pub fn count_marks(p: Params, marks: &[u64], r: usize, v: VBlock) -> usize
 
 // How many of the first k frames have their marks in word w:
 // those past its first 64·w, and no more than 64.
-pub fn in_word(k: usize, w: usize) -> usize
+fn in_word(k: usize, w: usize) -> usize
     requires { ⌜ w < 4 ⌝ }
     ensures { λ n. ⌜ n ≡ min (k - 64 * w) 64 ⌝ }
 {

@@ -5,13 +5,13 @@ use mathlib.Core.Path.{_≡_, ap, ap₂, refl, sym, _∙_}
 use mathlib.Core.Logic.{_⊎_, inl, inr}
 use mathlib.Core.Bool.{_&&_, Bool, cond, false, not, true}
 use mathlib.Core.List.{List}
-use Prim.Native.Nat.{ℕ, _*_, _%_, _^_, _<_, _≤_}
+use Prim.Native.Nat.{ℕ, _*_, _^_, _<_, _≤_}
 use native.Mathlib.Decide.{ℕ-discrete}
 use native.Mathlib.Nat.{mod-lt}
 use native.Mathlib.Omega.{arith}
 use lib.Dec.{eqb}
 use lib.ListN.{length}
-use borrow.Author.Tests.{eq-eqb, eqb-false, eqb-true, ne-eqb, not-true}
+use borrow.Author.Tests.{eq-eqb, eqb-true, ne-eqb, not-true}
 use Rattle.lists.specs.Below.{allBelow, countBelow}
 use Rattle.lists.proofs.Counts.{each-met}
 use Rattle.lists.proofs.Ranks.{fewer}
@@ -30,7 +30,7 @@ use Rattle.agree.specs.Check.{Lengths, Lent, chipOk, clusterOk, clustersOk, fst
 use Rattle.agree.proofs.Agree.{check-agrees, same-truth}
 use Rattle.agree.proofs.Same.{Names}
 use Rattle.state.proofs.Blocks.{names-in}
-use Rattle.marks.specs.Marks.{markIn, marked, marksLength, marksOf, marksRule, wordAt}
+use Rattle.marks.specs.Marks.{markIn, marked, marksLength, marksRule, wordAt}
 use Rattle.marks.proofs.Tables.{mark-at, marks-are, right, rule-of}
 use Rattle.valid.specs.Shown.{marksValid}
 use Rattle.order.specs.Order.{bitAt, blockHeld, countsOk, named, orderOk, regionHeld}

@@ -2,10 +2,8 @@
 -- a segment with its cluster leads to such a frame.
 -- Assumes nothing.
 use mathlib.Core.Path.{_≡_, ap, refl, sym, _∙_}
-use mathlib.Core.Logic.{_⊎_, inl, inr}
-use mathlib.Core.Bool.{Bool, _&&_, cond, not, true}
-use mathlib.Core.List.{List}
-use Prim.Native.Nat.{ℕ, _/_, _<_}
+use mathlib.Core.Bool.{not, true}
+use Prim.Native.Nat.{ℕ, _<_}
 use native.Mathlib.Omega.{arith}
 use native.Mathlib.Nat.{div-lt-iff-lt-mul}
 use lib.Dec.{eqb, ltb}
@@ -15,9 +13,9 @@ use Rattle.lists.proofs.Tests.{and-intro, and-left, and-right, never, or-right}
 use Rattle.rules.specs.declared.Params.{Params}
 use Rattle.rules.specs.Numbers.{placeOf, regionOf, segmentOf, vblockOf}
 use Rattle.rules.specs.Orderly.{blockRule, entryRule}
-use Rattle.rules.specs.Pages.{block, frame, held, lastIn, programmed}
+use Rattle.rules.specs.Pages.{block, frame, held, lastIn}
 use Rattle.rules.specs.Parameters.{frames}
-use Rattle.rules.specs.Regions.{View, assigned, valid, view, viewOf}
+use Rattle.rules.specs.Regions.{view, viewOf}
 use Rattle.rules.specs.Tables.{Board, btAt, ctAt, none}
 use Rattle.rules.proofs.Frames.{seg-low, seg-place, seg-vblock}
 use Rattle.rules.proofs.RegionFacts.{Entry, GoodFrame}

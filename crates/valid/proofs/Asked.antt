@@ -1,10 +1,9 @@
 -- The block of a virtual block, where BT has one, as the tests of its marks want it; and the marks of a virtual block without a block.
 -- Assumes nothing.
 use mathlib.Core.Path.{_≡_, refl, sym, _∙_}
-use mathlib.Core.Bool.{Bool, _||_, false, not}
+use mathlib.Core.Bool.{Bool, false}
 use mathlib.Core.List.{List, []}
 use Prim.Native.Nat.{ℕ, _*_, _+_, _<_}
-use lib.Dec.{eqb, ltb}
 use lib.ListN.{length}
 use borrow.Author.Tests.{eq-eqb, lt-ltb, ne-eqb}
 use Rattle.lists.specs.Below.{allBelow}
@@ -14,10 +13,9 @@ use Rattle.rules.specs.Pages.{block}
 use Rattle.rules.specs.Parameters.{blockBytes}
 use Rattle.rules.specs.Regions.{View, assigned, bodyAt, viewOf}
 use Rattle.rules.specs.Tables.{btAt, none}
-use Rattle.marks.specs.Marks.{markIndex, marked, wordAt}
 use Rattle.marks.proofs.Counted.{unassigned-unmarked}
 use Rattle.marking.specs.Asked.{WordsAsked}
-use Rattle.valid.specs.Shown.{CheckAsked, Mine, OneBlock, Shows, bitIn, marksValid, onlyIn, wordOnly}
+use Rattle.valid.specs.Shown.{CheckAsked, Mine, OneBlock, Shows, marksValid, onlyIn, wordOnly}
 
 module _ (p : Params) (chip ct bt marks : List ℕ) (r v : ℕ) (a : CheckAsked p chip ct bt marks r v) where
   pub words-asked : WordsAsked p marks r v

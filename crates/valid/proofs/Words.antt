@@ -3,11 +3,10 @@
 use mathlib.Core.Path.{_≡_, ap, refl, sym, _∙_}
 use mathlib.Core.Logic.{_⊎_, inl, inr}
 use mathlib.Core.Bool.{Bool, _||_, false, not, true}
-use Prim.Native.Nat.{ℕ, _*_, _+_, _-_, _/_, _%_, _^_, _<_, _≤_}
+use Prim.Native.Nat.{ℕ, _*_, _+_, _-_, _/_, _^_, _<_, _≤_}
 use native.Mathlib.Decide.{decLt, ℕ-discrete}
 use native.Mathlib.Nat.{div-eq-of-lt, zero-div}
 use native.Mathlib.Omega.{arith}
-use lib.Dec.{eqb}
 use lib.Pow.{shr-shr}
 use Rattle.lists.specs.Below.{allBelow}
 use Rattle.lists.proofs.Tests.{all-at, all-below-intro, or-cases, never, so}

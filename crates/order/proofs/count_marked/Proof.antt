@@ -1,8 +1,8 @@
 -- `order::count_marked`: the count of the bits of the words passed.
 -- Assumes nothing.
-use mathlib.Core.Path.{ap, ap₂, sym, _∙_, _≡_}
+use mathlib.Core.Path.{ap₂, sym, _∙_, _≡_}
 use mathlib.Core.List.{List}
-use Prim.Native.Nat.{ℕ, _*_, _+_, _-_, _/_, _%_, _^_, _<_, _≤_}
+use Prim.Native.Nat.{ℕ, _*_, _+_, _-_, _/_, _%_, _≤_}
 use native.Mathlib.Omega.{arith}
 use lib.ListN.{length}
 use borrow.Author.Needs.{needs}

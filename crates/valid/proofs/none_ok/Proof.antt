@@ -1,13 +1,13 @@
 -- `valid::none_ok`: every word passed is 0, which is the word without a mark.
 -- Assumes nothing.
-use mathlib.Core.Path.{ap, sym, _∙_, _≡_}
+use mathlib.Core.Path.{sym, _∙_, _≡_}
 use mathlib.Core.Bool.{false, true}
-use Prim.Native.Nat.{ℕ, _-_, _^_, _<_, _≤_}
+use Prim.Native.Nat.{_-_, _≤_}
 use native.Mathlib.Omega.{arith}
 use Rattle.lists.specs.Below.{allBelow}
 use Rattle.loops.proofs.Below.{all-end, all-fails, all-more, all-start}
 use Rattle.marks.specs.Marks.{markIndex, wordAt}
-use Rattle.valid.specs.Shown.{onlyIn, wordOnly}
+use Rattle.valid.specs.Shown.{wordOnly}
 use Rattle.valid.proofs.Words.{none-only, zero-only}
 use Rattle.valid.proofs.none_ok.Statement.{statement}
 use Rattle.valid.proofs.none_ok.Tie as tie
