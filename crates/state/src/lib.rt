@@ -269,16 +269,10 @@ pub fn tables_ok(p: Params, bt: &[u16], bst: &[u8]) -> bool
     requires { ⌜ length (now bst) ≡ p .N ⌝ }
     ensures { λ ok. ⌜ ok ≡ tablesOk p (now (bt .entry)) (now (bst .entry)) ⌝ }
 {
-    if !tables::bst_ok(p, bst) {
-        return false;
-    }
     if !tables::bt_ok(p, bt) {
         return false;
     }
-    if !tables::room_ok(p, bst) {
-        return false;
-    }
-    tables::used_ok(p, bt, bst)
+    tables::kinds_ok(p, bst, tables::assigned(bt))
 }
 
 // The rules that look at the chip.

@@ -1,14 +1,14 @@
 // The lent tables, each read and written by its own kinds of numbers; and their rules that look at no byte of the chip.
 ghost use mathlib.Core.Path.{_≡_};
-ghost use mathlib.Core.Bool.{true, not, _||_};
-ghost use Prim.Native.Nat.{_*_, _+_, _<_, min};
+ghost use mathlib.Core.Bool.{true, cond, not, _||_};
+ghost use Prim.Native.Nat.{_*_, _+_, _<_, _≤_, min};
 ghost use lib.ListN.{length, set};
 ghost use lib.Dec.{eqb, ltb};
 ghost use Rattle.lists.specs.Below.{countBelow};
 ghost use Rattle.rules.specs.Parameters.{allowed};
 ghost use Rattle.rules.specs.Tables.{none, ctAt, btEntry, btAt, fstAt, bstAt, wearAt};
 ghost use Rattle.rules.specs.Orderly.{bstRule, btRule, roomRule};
-ghost use Rattle.tables.specs.Entries.{differs, emptyAt, usedOk};
+ghost use Rattle.tables.specs.Entries.{differs, emptyAt, kindsOk};
 use rules::Cluster;
 use rules::PBlock;
 use rules::Params;
@@ -192,23 +192,8 @@ pub fn bt_ok(p: Params, bt: &[u16]) -> bool
     true
 }
 
-// How many blocks are used.
-fn used(bst: &[u8]) -> usize
-    ensures { λ k. ⌜ k ≡ countBelow (length (now (bst .entry))) (λ n. eqb (bstAt (now (bst .entry)) n) 1) ⌝ }
-{
-    let mut k = 0;
-    let mut n = 0;
-    while n < bst.len() {
-        if bst[n] == 1 {
-            k += 1;
-        }
-        n += 1;
-    }
-    k
-}
-
 // How many entries of BT are not none.
-fn assigned(bt: &[u16]) -> usize
+pub fn assigned(bt: &[u16]) -> usize
     ensures { λ k. ⌜ k ≡ countBelow (length (now (bt .entry))) (λ i. not (eqb (btEntry (now (bt .entry)) i) none)) ⌝ }
 {
     let mut k = 0;
@@ -222,14 +207,36 @@ fn assigned(bt: &[u16]) -> usize
     k
 }
 
-// As many blocks are used as BT has entries that are not none.
-pub fn used_ok(p: Params, bt: &[u16], bst: &[u8]) -> bool
-    requires { ⌜ length (now bt) ≡ p .mu * p .gamma ⌝ }
-    requires { ⌜ length (now bst) ≡ p .N ⌝ }
-    ensures { λ ok. ⌜ ok ≡ usedOk p (now (bt .entry)) (now (bst .entry)) ⌝ }
+// 1 if a test passed, else 0.
+fn one_if(ok: bool) -> usize
+    ensures { λ n. ⌜ n ≡ cond ok 1 0 ⌝ }
+    ensures { λ n. ⌜ n ≤ 1 ⌝ }
 {
-    let k = used(bst);
-    k == assigned(bt)
+    if ok {
+        return 1;
+    }
+    0
+}
+
+// BST holds 0, 1 or 2, at least μγ+1 blocks are not reserved, and as many are used as BT names: one pass.
+pub fn kinds_ok(p: Params, bst: &[u8], named: usize) -> bool
+    requires { ⌜ allowed p ≡ true ⌝ }
+    requires { ⌜ length (now bst) ≡ p .N ⌝ }
+    ensures { λ ok. ⌜ ok ≡ kindsOk p (now (bst .entry)) named ⌝ }
+{
+    let mut used = 0;
+    let mut kept = 0;
+    let mut n = 0;
+    while n < bst.len() {
+        let s = bst[n];
+        if s > 2 {
+            return false;
+        }
+        used += one_if(s == 1);
+        kept += one_if(s != 2);
+        n += 1;
+    }
+    (p.mu * p.gamma + 1 <= kept) & (used == named)
 }
 
 // No lower virtual block of region r has the block of virtual block v.
