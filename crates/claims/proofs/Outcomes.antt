@@ -1,19 +1,22 @@
 -- What a call leaves, by its reply: an accepted format, read, write or release, and a refusal.
 -- Assumes nothing.
-use mathlib.Core.Path.{_≡_, refl, ap}
+use mathlib.Core.Path.{_≡_, refl, sym, ap, _∙_}
 use mathlib.Core.Logic.{_⊎_, inl, inr}
-use Prim.Native.Nat.{ℕ}
+use Prim.Native.Nat.{ℕ, _<_}
+use native.Mathlib.Omega.{arith}
 use mathlib.Core.Bool.{Bool, true, false, cond}
 use mathlib.Core.List.{List, []}
+use borrow.Author.Tests.{eq-eqb}
+use Rattle.lists.proofs.Tests.{never}
 use Rattle.rules.specs.declared.Params.{Params}
 use Rattle.rules.specs.declared.Reply.{Reply}
-use Rattle.rules.specs.declared.Reply.the-variants.{Accepted, BadParameter, WrongLength, BadCount, BadAddress, WrongData, TooFewBlocks, NotOrderly}
+use Rattle.rules.specs.declared.Reply.the-variants.{Accepted, BadParameter, WrongLength, BadCount, BadAddress, WrongData, TooFewBlocks, NotOrderly, TooFewAnswers}
 use Rattle.rules.specs.Tables.{Board}
 use Rattle.rules.specs.Traces.{Op}
 use Rattle.rules.specs.Format.{formatOps, formatted}
 use Rattle.rules.specs.Write.{Request, writeOps, written}
 use Rattle.rules.specs.Release.{released}
-use Rattle.rules.specs.Replies.{isAccepted, formatReply, accessReply, releaseReply}
+use Rattle.rules.specs.Replies.{numberOf, isAccepted, formatReply, accessReply, releaseReply}
 use Rattle.rules.specs.Calls.{Call, format, read, write, release, Outcome, accepts, answerOf, formatCall, outcomeOf, readBytes, readCall, refuses, releaseCall, writeCall}
 use Rattle.claims.specs.Runs.{leaves, opsOf, replyTo}
 use Rattle.claims.specs.Conditions.{lent}
@@ -31,6 +34,27 @@ reply-cases BadAddress = inr refl
 reply-cases WrongData = inr refl
 reply-cases TooFewBlocks = inr refl
 reply-cases NotOrderly = inr refl
+reply-cases TooFewAnswers = inr refl
+
+-- it is accepted if its number is 0
+pub accepted-by : (r : Reply) (n : ℕ) → n ≡ numberOf r → n ≡ 0 → r ≡ Accepted
+unfolding isAccepted
+accepted-by r n e z = go (reply-cases r)
+  where
+    go : (r ≡ Accepted) ⊎ (isAccepted r ≡ false) → r ≡ Accepted
+    go (inl a) = a
+    go (inr f) = absurd (never (eq-eqb (numberOf r) 0 (sym e ∙ z)) f)
+
+pub number-low : (r : Reply) → numberOf r < 9
+number-low Accepted = omega arith
+number-low BadParameter = omega arith
+number-low WrongLength = omega arith
+number-low BadCount = omega arith
+number-low BadAddress = omega arith
+number-low WrongData = omega arith
+number-low TooFewBlocks = omega arith
+number-low NotOrderly = omega arith
+number-low TooFewAnswers = omega arith
 
 pub is-refused : (r : Reply) → (r ≡ Accepted → ⊥) → isAccepted r ≡ false
 is-refused r ne = go (reply-cases r)

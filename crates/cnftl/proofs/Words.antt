@@ -5,28 +5,17 @@ use mathlib.Core.List.{List}
 use Prim.Native.Nat.{ℕ, _<_}
 use native.Mathlib.Omega.{arith}
 use Rattle.rules.specs.declared.Params.{Params}
-use Rattle.rules.specs.declared.Reply.{Reply}
-use Rattle.rules.specs.declared.Reply.the-variants.{Accepted, BadParameter, WrongLength, BadCount, BadAddress, WrongData, TooFewBlocks, NotOrderly}
 use Rattle.rules.specs.declared.Answer.{Answer}
 use Rattle.rules.specs.Tables.{Board}
 use Rattle.rules.specs.Replies.{numberOf}
 use Rattle.rules.specs.Calls.{Call}
 use Rattle.marks.specs.MarkedCalls.{MarkedOutcome, markedCall, markedOutcome}
+use Rattle.claims.proofs.Outcomes.{number-low}
 use Rattle.layer.specs.Claims.{outcome}
 use Rattle.cnftl.specs.Packed.{packed, Given}
 use Rattle.cnftl.proofs.Counts.{few-marked}
 
 -- ---- the number
-
-pub number-low : (r : Reply) → numberOf r < 8
-number-low Accepted = omega arith
-number-low BadParameter = omega arith
-number-low WrongLength = omega arith
-number-low BadCount = omega arith
-number-low BadAddress = omega arith
-number-low WrongData = omega arith
-number-low TooFewBlocks = omega arith
-number-low NotOrderly = omega arith
 
 -- two answers with the same number have the same reply number and the same counts
 pub packed-apart : (a b : Answer) → a .programs < 65536 → b .programs < 65536 → packed a ≡ packed b

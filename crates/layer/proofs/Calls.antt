@@ -11,7 +11,7 @@ use borrow.Author.Tests.{eqb-true, not-false}
 use Rattle.lists.proofs.Tests.{truths}
 use Rattle.rules.specs.declared.Params.{Params}
 use Rattle.rules.specs.declared.Reply.{Reply}
-use Rattle.rules.specs.declared.Reply.the-variants.{Accepted, BadParameter, WrongLength, BadCount, BadAddress, WrongData, TooFewBlocks, NotOrderly}
+use Rattle.rules.specs.declared.Reply.the-variants.{Accepted, BadParameter, WrongLength, NotOrderly}
 use Rattle.rules.specs.declared.Answer.{Answer}
 use Rattle.rules.specs.Parameters.{blockBytes}
 use Rattle.rules.specs.Numbers.{regionOf}
@@ -24,14 +24,14 @@ use Rattle.rules.specs.Replies.{numberOf, isAccepted, badParameter, lengthsFit,
 use Rattle.rules.specs.Calls.{Outcome, Call, format, read, write, release, answerOf, accepts, refuses, readBytes, writeCall, outcomeOf}
 use Rattle.rules.proofs.Sizes.{sizes}
 use Rattle.rules.proofs.TableFacts.{chip-size, tables-in}
-use Rattle.rules.proofs.Admitted.{FormatAdmitted, format-admitted, admitted, orderly-region, release-admitted}
+use Rattle.rules.proofs.Admitted.{format-admitted, admitted, orderly-region, release-admitted}
 use Rattle.rules.proofs.RegionFacts.{neat}
 use Rattle.claims.specs.Runs.{leaves, replyTo}
 use Rattle.claims.specs.Conditions.{lent}
-use Rattle.claims.proofs.Outcomes.{is-refused, format-reply, read-reply, write-reply, release-reply, format-accepted, read-accepted, release-accepted}
+use Rattle.claims.proofs.Outcomes.{accepted-by, is-refused, format-reply, read-reply, write-reply, release-reply, format-accepted, read-accepted, release-accepted}
 use Rattle.claims.proofs.FormatCounts.{format-programs}
 use Rattle.marks.specs.Kept.{putMark}
-use Rattle.marks.specs.MarkedCalls.{MarkedOutcome, asksOrder, markedCall, markedOutcome, markedReply, wrongMark, wrongMarksLength}
+use Rattle.marks.specs.MarkedCalls.{asksOrder, markedCall, markedOutcome, markedReply, wrongMark, wrongMarksLength}
 use Rattle.marks.specs.MarkedConditions.{MarkedBoard}
 use Rattle.marks.specs.Marks.{Marks, marksLength, marksOf, marksOn, tableOf}
 use Rattle.marks.proofs.FormattedMarks.{formatted-marks}
@@ -40,25 +40,13 @@ use Rattle.marks.proofs.ReleasedMarks.{released-marks}
 use Rattle.marks.proofs.Tables.{right}
 use Rattle.formatting.specs.Blocks.{BlocksAsked, BlocksDone}
 use Rattle.reading.specs.Lookup.{Lookup, Stands, Within}
-use Rattle.reading.specs.Sectors.{ReadAsked, requestOf}
+use Rattle.reading.specs.Sectors.{ReadAsked}
 use Rattle.reading.proofs.Requests.{read-asked}
 use Rattle.reading.proofs.Views.{lookup-of}
 use Rattle.writing.specs.Clusters.{Gives}
 use Rattle.writing.specs.Keeping.{UnmarkAsked}
 use Rattle.writing.proofs.Keeping.{old-is, unmark-asked}
 use Rattle.layer.specs.Claims.{outcome}
-
--- ---- the reply's number
-
-pub accepted-by : (r : Reply) (n : ℕ) → n ≡ numberOf r → n ≡ 0 → r ≡ Accepted
-accepted-by Accepted n e z = refl
-accepted-by BadParameter n e z = absurd (omega arith)
-accepted-by WrongLength n e z = absurd (omega arith)
-accepted-by BadCount n e z = absurd (omega arith)
-accepted-by BadAddress n e z = absurd (omega arith)
-accepted-by WrongData n e z = absurd (omega arith)
-accepted-by TooFewBlocks n e z = absurd (omega arith)
-accepted-by NotOrderly n e z = absurd (omega arith)
 
 -- ---- any call, with the table of marks
 

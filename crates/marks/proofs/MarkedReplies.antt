@@ -122,8 +122,11 @@ module _ (p : Params) (x : MarkedBoard) (c : Call) where
       go (inl e) = rw (given-accepted e) (unfold replyTo in given-both e ∙ sym e)
       go (inr e) = rw (given-refused e) (unfold refuses answerOf in refl)
 
+  pub marked-first : markedReplyTo p x c ≡ firstRow (markedRows p x c)
+  marked-first = reply-given ∙ given-first p x c
+
   pub marked-by-table : ByTable (markedRows p x c) (markedReplyTo p x c)
-  marked-by-table = rw (reply-given, given-first p x c) (by-table (markedRows p x c) (rows-rise p x c))
+  marked-by-table = rw marked-first (by-table (markedRows p x c) (rows-rise p x c))
 
   pub marked-accepted : markedReplyTo p x c ≡ Accepted → markedCall p (x .board) (x .marks) c ≡ markedOutcome (outcomeOf p (x .board) c) (marksOf p (leaves p (x .board) c))
   marked-accepted e = given-accepted (sym reply-given ∙ e)

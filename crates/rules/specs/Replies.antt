@@ -8,7 +8,7 @@ use lib.Dec.{leb, ltb, eqb}
 use Rattle.lists.specs.Below.{allTrue}
 use Rattle.rules.specs.declared.Params.{Params}
 use Rattle.rules.specs.declared.Reply.{Reply}
-use Rattle.rules.specs.declared.Reply.the-variants.{Accepted, BadParameter, WrongLength, BadCount, BadAddress, WrongData, TooFewBlocks, NotOrderly}
+use Rattle.rules.specs.declared.Reply.the-variants.{Accepted, BadParameter, WrongLength, BadCount, BadAddress, WrongData, TooFewBlocks, NotOrderly, TooFewAnswers}
 use Rattle.rules.specs.Parameters.{chipBytes, allowed}
 use Rattle.rules.specs.Numbers.{sectorOf}
 use Rattle.rules.specs.Tables.{Board}
@@ -16,7 +16,7 @@ use Rattle.rules.specs.Orderly.{orderly}
 use Rattle.rules.specs.Format.{goodBlocks}
 use Rattle.rules.specs.Write.{Request}
 
--- the document's number of each reply
+-- the documents' number of each reply; 8 is T-01's
 abbrev pub numberOf : Reply → ℕ
 numberOf Accepted = 0
 numberOf BadParameter = 1
@@ -26,6 +26,7 @@ numberOf BadAddress = 4
 numberOf WrongData = 5
 numberOf TooFewBlocks = 6
 numberOf NotOrderly = 7
+numberOf TooFewAnswers = 8
 
 unfoldable pub isAccepted : Reply → Bool
 isAccepted r = eqb (numberOf r) 0

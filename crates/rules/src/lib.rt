@@ -31,7 +31,7 @@ pub struct VBlock(pub usize);
 // A physical block number: what BT holds, an index of BST and of the wear.
 pub struct PBlock(pub usize);
 
-// Why a call is refused, or that it is accepted. `numberOf` gives document 01's number of each.
+// Why a call is refused, or that it is accepted. `numberOf` gives the number of each: document 01's, and 8, which is document 02's.
 pub enum Reply {
     Accepted,
     BadParameter,
@@ -41,6 +41,7 @@ pub enum Reply {
     WrongData,
     TooFewBlocks,
     NotOrderly,
+    TooFewAnswers,
 }
 
 // One record that holds the reply, and both counts.
@@ -63,6 +64,7 @@ pub fn number(r: Reply) -> u32
         Reply::WrongData => 5,
         Reply::TooFewBlocks => 6,
         Reply::NotOrderly => 7,
+        Reply::TooFewAnswers => 8,
     }
 }
 

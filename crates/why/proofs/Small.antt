@@ -12,7 +12,6 @@ use lib.ListN.{replicate}
 use borrow.Author.Tests.{eq-eqb, ne-eqb}
 use Rattle.rules.specs.declared.Params.{Params}
 use Rattle.rules.specs.declared.Reply.{Reply}
-use Rattle.rules.specs.declared.Reply.the-variants.{Accepted, BadAddress, BadCount, BadParameter, NotOrderly, TooFewBlocks, WrongData, WrongLength}
 use Rattle.rules.specs.Numbers.{regionOf}
 use Rattle.rules.specs.Parameters.{frames}
 use Rattle.rules.specs.Regions.{View, view}
@@ -20,6 +19,7 @@ use Rattle.rules.specs.Replies.{numberOf}
 use Rattle.rules.specs.Tables.{Board, ctAt, none}
 use Rattle.rules.specs.Write.{Plan, continues, opens, planFrame, planOf, planVBlock, reclaims}
 use Rattle.rules.proofs.Sizes.{Sizes}
+use Rattle.claims.proofs.Outcomes.{number-low}
 use Rattle.broken.specs.declared.Rule.{Rule}
 use Rattle.broken.specs.declared.Rule.the-variants.{BstValues, BtRange, Ct, FreeErased, Fst, Marks, NamedTwice, TooFewLeft, UsedBlock, UsedIfNamed}
 use Rattle.broken.specs.Broken.{ruleNumber}
@@ -35,18 +35,8 @@ small-append (x ∷ xs) ys h k = (h .0, small-append xs ys (h .1) k)
 -- ---- replies and rules
 
 pub refused-small : (r : Reply) → Small (numberOf r ∷ replicate 11 0)
-refused-small r = (low r, zeros)
+refused-small r = (omega (arith, number-low r), zeros)
   where
-    low : (r : Reply) → numberOf r < 4294967296
-    low Accepted = omega arith
-    low BadParameter = omega arith
-    low WrongLength = omega arith
-    low BadCount = omega arith
-    low BadAddress = omega arith
-    low WrongData = omega arith
-    low TooFewBlocks = omega arith
-    low NotOrderly = omega arith
-
     zeros : Small (replicate 11 0)
     zeros = omega arith
 

@@ -4,7 +4,7 @@ use mathlib.Core.Path.{_≡_, _∙_}
 use native.Mathlib.Omega.{arith}
 use borrow.Author.Needs.{needs}
 use Rattle.cnftl.specs.Packed.{packed}
-use Rattle.cnftl.proofs.Words.{number-low}
+use Rattle.claims.proofs.Outcomes.{number-low}
 use Rattle.cnftl.proofs.pack.Statement.{statement}
 use Rattle.cnftl.proofs.pack.Tie as tie
 
