@@ -1,0 +1,4 @@
+pub mod Queues
+pub mod Served
+pub mod Singles
+pub mod QueueConditions

@@ -1,0 +1,3 @@
+pub mod Queue
+pub mod Served
+pub mod QueueRuns
