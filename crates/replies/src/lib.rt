@@ -1,17 +1,18 @@
 // Document 01, "Reply numbers": the rows of each call, checked in the table's order; and T-06's, for the table of marks.
 ghost use mathlib.Core.Path.{_≡_};
-ghost use mathlib.Core.Bool.{true, false};
+ghost use mathlib.Core.Bool.{true, false, not, _&&_};
 ghost use mathlib.Core.List.{List, []};
 ghost use Prim.Native.Nat.{ℕ};
 ghost use lib.ListN.{length};
 ghost use lib.Dec.{eqb};
 ghost use Rattle.rules.specs.Parameters.{allowed};
-ghost use Rattle.rules.specs.Tables.{boardOf};
+ghost use Rattle.rules.specs.Tables.{Board, boardOf};
+ghost use Rattle.rules.specs.Orderly.{orderly};
 ghost use Rattle.rules.specs.Write.{Request};
-ghost use Rattle.rules.specs.Replies.{badCount, badAddress, badCluster, wrongData, formatReply, accessReply, releaseReply, whyReply};
+ghost use Rattle.rules.specs.Replies.{badCount, badAddress, badCluster, lengthsFit, wrongData, formatReply, accessReply, releaseReply, whyReply};
 ghost use Rattle.rules.specs.Calls.{answerOf};
 ghost use Rattle.agree.specs.Check.{Lengths};
-ghost use Rattle.marks.specs.Marks.{marksLength};
+ghost use Rattle.marks.specs.Marks.{marksLength, marksRule};
 ghost use Rattle.marks.specs.MarkedCalls.{markedReply};
 ghost use Rattle.replies.specs.Rows.{boardReply, stateReply};
 use rules::Answer;
@@ -61,7 +62,7 @@ fn marks_fit(p: Params, len: usize) -> bool
 }
 
 // The reply by the parameters and the lengths: 1 or 2, else 0.
-fn board_reply(
+pub fn board_reply(
     p: Params,
     chip: &[u8],
     ct: &[u16],
@@ -94,7 +95,7 @@ fn board_reply(
 }
 
 // The reply by the state and its marks: 7, else 0.
-fn state_reply(
+pub fn state_reply(
     p: Params,
     chip: &[u8],
     ct: &[u16],
@@ -143,6 +144,25 @@ pub fn access_reply(
         return Reply::WrongData;
     }
     state_reply(p, chip, ct, bt, fst, bst, marks)
+}
+
+// The reply to a write whose parameters and lengths are right, by its count, its address, whether its data has the right length, and whether the state
+// is orderly with each mark right.
+pub fn item_reply(p: Params, ordered: bool, lba: u32, count: u32, fits: bool) -> Reply
+    requires { ⌜ allowed p ≡ true ⌝ }
+    ensures { λ r. ⌜ ((b : Board) (marks : List ℕ) (q : Request) → lengthsFit p b ≡ true → length marks ≡ marksLength p → ordered ≡ orderly p b && marksRule p b marks → q .lba ≡ lba → q .count ≡ count → (badCount p q ≡ false → wrongData p q ≡ not fits) → r ≡ markedReply p b marks true (accessReply p b q)) ⌝ }
+{
+    if bad_count(p, lba, count) {
+        Reply::BadCount
+    } else if bad_address(p, lba) {
+        Reply::BadAddress
+    } else if !fits {
+        Reply::WrongData
+    } else if ordered {
+        Reply::Accepted
+    } else {
+        Reply::NotOrderly
+    }
 }
 
 // The reply to a release of cluster c.

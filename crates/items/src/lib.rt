@@ -1,0 +1,107 @@
+// Document 02, T-01: the two parts of a queue of writes that do the work. The head looks at lengths and state once, for all items; an item is then the
+// single write without that look.
+ghost use mathlib.Core.Path.{_≡_};
+ghost use mathlib.Core.Bool.{true};
+ghost use mathlib.Core.List.{List};
+ghost use Prim.Native.Nat.{ℕ};
+ghost use lib.ListN.{length};
+ghost use Rattle.rules.specs.Parameters.{allowed};
+ghost use Rattle.queued.specs.Queue.{lies};
+ghost use Rattle.items.specs.Items.{HeadIs, ItemIs, Ready, itemOf, lentBoard};
+use rules::Answer;
+use rules::Params;
+use rules::Reply;
+
+// What the head found: the reply of the call itself, whether the state is orderly, and how many items are to be served.
+pub struct Head {
+    pub reply: Reply,
+    pub ordered: bool,
+    pub items: usize,
+}
+
+// The reply to the call itself, 1, 2 or 8, and the one look at the state.
+pub fn head_of(
+    p: Params,
+    chip: &[u8],
+    ct: &[u16],
+    bt: &[u16],
+    fst: &[u16],
+    bst: &[u8],
+    wear: &[u32],
+    marks: &[u64],
+    items: usize,
+    answers: usize,
+) -> Head
+    ensures { λ h. ⌜ HeadIs p (lentBoard (now (chip .entry)) (now (ct .entry)) (now (bt .entry)) (now (fst .entry)) (now (bst .entry)) (now (wear .entry)) (now (marks .entry))) items answers h ⌝ }
+{
+    let board = replies::board_reply(p, chip, ct, bt, fst, bst, wear, marks);
+    if rules::number(board) != 0 {
+        return Head {
+            reply: board,
+            ordered: false,
+            items: 0,
+        };
+    }
+    if answers < items {
+        return Head {
+            reply: Reply::TooFewAnswers,
+            ordered: false,
+            items: 0,
+        };
+    }
+    let state = replies::state_reply(p, chip, ct, bt, fst, bst, marks);
+    Head {
+        reply: board,
+        ordered: rules::number(state) == 0,
+        items,
+    }
+}
+
+// Do the bytes of an item lie in the data part, of which `len` are lent? The sum cannot wrap: both numbers are of 32 bits, and s is at most 512.
+fn has_bytes(p: Params, len: usize, count: u32, first: u32) -> bool
+    requires { ⌜ allowed p ≡ true ⌝ }
+    ensures { λ ok. ⌜ ((bytes : List ℕ) (lba : ℕ) → length bytes ≡ len → ok ≡ lies p bytes (itemOf lba count first)) ⌝ }
+{
+    first as usize + count as usize * p.s <= len
+}
+
+// One item: refused by its count, its address, its bytes or the state, in this order, else written.
+pub fn item(
+    p: Params,
+    chip: &mut [u8],
+    ct: &mut [u16],
+    bt: &mut [u16],
+    fst: &mut [u16],
+    bst: &mut [u8],
+    wear: &mut [u32],
+    marks: &mut [u64],
+    ordered: bool,
+    lba: u32,
+    count: u32,
+    first: u32,
+    bytes: &[u8],
+) -> Answer
+    requires { ⌜ Ready p ordered (lentBoard (now chip) (now ct) (now bt) (now fst) (now bst) (now wear) (now marks)) ⌝ }
+    ensures { λ a. ⌜ ItemIs p ordered (lentBoard (now (chip .entry)) (now (ct .entry)) (now (bt .entry)) (now (fst .entry)) (now (bst .entry)) (now (wear .entry)) (now (marks .entry))) (now (bytes .entry)) (itemOf lba count first) a (lentBoard (now (chip .exit)) (now (ct .exit)) (now (bt .exit)) (now (fst .exit)) (now (bst .exit)) (now (wear .exit)) (now (marks .exit))) ⌝ }
+{
+    let fits = has_bytes(p, bytes.len(), count, first);
+    let reply = replies::item_reply(p, ordered, lba, count, fits);
+    if rules::number(reply) != 0 {
+        return replies::idle(reply);
+    }
+    let from = first as usize;
+    let to = from + count as usize * p.s;
+    writing::write_orderly(
+        p,
+        chip,
+        ct,
+        bt,
+        fst,
+        bst,
+        wear,
+        marks,
+        lba as usize,
+        count as usize,
+        &bytes[from..to],
+    )
+}
