@@ -1,0 +1,4 @@
+mod Again
+mod Folded
+mod Lent
+mod Shown
