@@ -6,15 +6,15 @@
  * BST, wear and marks) in memory that the caller owns and lends for the length
  * of one call.  To keep a board, keep these seven arrays and its parameters.
  *
- * There are five calls: cnftl_format, cnftl_read, cnftl_write, cnftl_release
- * and cnftl_why.  Each one returns for every request and for every content of
- * the lent memory.  What cannot be done is refused by number, and a refusal
- * changes no lent byte; only the list of a cnftl_why is filled with reply 7
- * too.
+ * There are six calls: cnftl_format, cnftl_read, cnftl_write, cnftl_queue,
+ * cnftl_release and cnftl_why.  Each one returns for every request and for
+ * every content of the lent memory.  What cannot be done is refused by number,
+ * and a refusal changes no lent byte; only the list of a cnftl_why is filled
+ * with reply 7 too.
  *
  * A slice passes as a pointer and then a length in ELEMENTS (bytes for chip,
- * bst and data; 16-bit entries for ct, bt and fst; 32-bit entries for wear and
- * list; 64-bit entries for marks).
+ * bst and data; 16-bit entries for ct, bt and fst; 32-bit entries for wear,
+ * list and requests; 64-bit entries for marks and answers).
  *
  * What the tables say (regions, virtual blocks and frames count from 0):
  *   - ct: for each cluster its segment.  bt: for each region and virtual block,
@@ -33,10 +33,11 @@
  *     its length is 0.
  *   - Each slice is really as long as its length says.
  *   - No two slices of one call overlap: not two tables, not a table and the
- *     chip, and not the data or the list and any of them.
+ *     chip, and not the data, the list, the requests or the answers and any
+ *     other of them.
  *   - During a call nobody else writes the lent memory, and during a format,
- *     a write or a release nobody else reads it.  Calls on different boards
- *     may run at the same time.
+ *     a write, a queue or a release nobody else reads it.  Calls on different
+ *     boards may run at the same time.
  *   - A board is used with the same parameters in every call.
  *
  * Example (link with libcnftl.a):
@@ -97,8 +98,9 @@ struct cnftl_params {
 };
 
 /*
- * The replies, checked in the order of their numbers.  Only CNFTL_ACCEPTED
- * changes the board.  Later issues may add numbers.
+ * The replies, checked in the order of their numbers; 8, which a queue alone
+ * has, comes right after 2.  Only CNFTL_ACCEPTED changes the board.  Later
+ * issues may add numbers.
  */
 enum cnftl_reply {
     CNFTL_ACCEPTED = 0,       /* done                                       */
@@ -108,7 +110,8 @@ enum cnftl_reply {
     CNFTL_BAD_ADDRESS = 4,    /* lba is c*alpha or more, a cluster c or more*/
     CNFTL_WRONG_DATA = 5,     /* data length is not count*s                 */
     CNFTL_TOO_FEW_BLOCKS = 6, /* fewer than mu*gamma+1 blocks are not bad   */
-    CNFTL_NOT_ORDERLY = 7     /* chip and tables do not fit together        */
+    CNFTL_NOT_ORDERLY = 7,    /* chip and tables do not fit together        */
+    CNFTL_TOO_FEW_ANSWERS = 8 /* fewer places for answers than requests     */
 };
 
 /* The values of a BST entry. */
@@ -218,6 +221,41 @@ uint64_t cnftl_write(uint32_t s, uint32_t alpha, uint32_t beta, uint32_t d,
                      uint64_t *marks, size_t marks_len,
                      uint32_t lba, uint32_t count,
                      const uint8_t *data, size_t data_len);
+
+/* A write of a queue: its LBA, its count of sectors, and where its first byte
+   stands in the data part that the whole queue shares. */
+struct cnftl_request {
+    uint32_t lba;
+    uint32_t count;
+    uint32_t first;
+};
+
+/*
+ * Write a list of requests, in its order, for the price of one look at the
+ * state.  The requests are a flat list, three numbers to a request in the
+ * order of a cnftl_request, and requests_len counts the numbers.  Each answer
+ * goes into the place of its request, and it is the one that a cnftl_write of
+ * the request's count*s bytes of data, from its first on, would give at its
+ * turn; chip and tables become what those writes would make of them.  A
+ * request that is refused (3, 4, 5 or 7) changes nothing and the next goes on;
+ * 5 is for bytes that do not lie in data.  Answers past the last request stay
+ * as they are.
+ * Replies of the call itself: 1, 2 (also where requests_len is no multiple of
+ * three), 8 (answers_len is less than the number of requests), which leave the
+ * answers as they are, and 0.  Its own counts: 0 and 0.
+ */
+uint64_t cnftl_queue(uint32_t s, uint32_t alpha, uint32_t beta, uint32_t d,
+                     uint32_t mu, uint32_t gamma, uint32_t c, uint32_t n,
+                     uint8_t *chip, size_t chip_len,
+                     uint16_t *ct, size_t ct_len,
+                     uint16_t *bt, size_t bt_len,
+                     uint16_t *fst, size_t fst_len,
+                     uint8_t *bst, size_t bst_len,
+                     uint32_t *wear, size_t wear_len,
+                     uint64_t *marks, size_t marks_len,
+                     const uint32_t *requests, size_t requests_len,
+                     const uint8_t *data, size_t data_len,
+                     uint64_t *answers, size_t answers_len);
 
 /*
  * Release one cluster: its CT entry becomes none, so that its sectors read as
@@ -399,6 +437,17 @@ static inline uint64_t cnftl_board_write(const struct cnftl_board *b,
                                          const uint8_t *data, size_t data_len)
 {
     return cnftl_write(CNFTL_BOARD(b), lba, count, data, data_len);
+}
+
+/* The requests as structs; there is an answer for each of them. */
+static inline uint64_t cnftl_board_queue(const struct cnftl_board *b,
+                                         const struct cnftl_request *requests,
+                                         size_t requests_count,
+                                         const uint8_t *data, size_t data_len,
+                                         uint64_t *answers)
+{
+    return cnftl_queue(CNFTL_BOARD(b), &requests->lba, 3 * requests_count,
+                       data, data_len, answers, requests_count);
 }
 
 static inline uint64_t cnftl_board_release(const struct cnftl_board *b,

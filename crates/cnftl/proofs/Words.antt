@@ -12,8 +12,9 @@ use Rattle.rules.specs.Calls.{Call}
 use Rattle.marks.specs.MarkedCalls.{MarkedOutcome, markedCall, markedOutcome}
 use Rattle.claims.proofs.Outcomes.{number-low}
 use Rattle.layer.specs.Claims.{outcome}
-use Rattle.cnftl.specs.Packed.{packed, Given}
-use Rattle.cnftl.proofs.Counts.{few-marked}
+use Rattle.flat.specs.Packed.{packed}
+use Rattle.flat.proofs.Counts.{few-marked}
+use Rattle.cnftl.specs.Packed.{Given}
 
 -- ---- the number
 

@@ -1,17 +1,18 @@
 // The C interface: the calls of documents 01 and 02 with the parameters one by one, and the answer as one number. T-06's table of marks comes after the wear.
 ghost use mathlib.Core.Path.{_≡_};
-ghost use mathlib.Core.List.{List, []};
+ghost use mathlib.Core.List.{[]};
 ghost use mathlib.Core.Bool.{cond};
-ghost use Prim.Native.Nat.{_<_};
 ghost use lib.ListN.{getD, length};
 ghost use Rattle.rules.specs.Tables.{boardOf};
 ghost use Rattle.rules.specs.Calls.{format, read, write, release};
 ghost use Rattle.marks.specs.MarkedCalls.{markedCall};
 ghost use Rattle.reading.specs.Sectors.{requestOf};
 ghost use Rattle.why.specs.Why.{Small, forecastNumbers, numbersOf};
-ghost use Rattle.cnftl.specs.Packed.{paramsOf, packed, Given};
+ghost use Rattle.items.specs.Items.{lentBoard};
+ghost use Rattle.flat.specs.Flat.{flatCall, flatOutcome};
+ghost use Rattle.flat.specs.Packed.{paramsOf};
+ghost use Rattle.cnftl.specs.Packed.{Given};
 ghost use Rattle.cnftl.specs.Listed.{Listed, tells};
-use rules::Answer;
 use rules::Params;
 use why::Forecast;
 use why::Why;
@@ -30,15 +31,6 @@ fn params(s: u32, alpha: u32, beta: u32, d: u32, mu: u32, gamma: u32, c: u32, n:
         C: c as usize,
         N: n as usize,
     }
-}
-
-// The answer as one number: reply + 65,536 × programs + 4,294,967,296 × erases.
-fn pack(a: Answer) -> u64
-    requires { ⌜ a .programs < 65536 ⌝ }
-    ensures { λ word. ⌜ word ≡ packed a ⌝ }
-{
-    let reply = a.reply;
-    rules::number(reply) as u64 + 65536 * (a.programs as u64) + 4294967296 * (a.erases as u64)
 }
 
 // Document 01's format.
@@ -63,7 +55,7 @@ pub extern "C" fn cnftl_format(
     ensures { λ word. ⌜ Given (markedCall (paramsOf s alpha beta d mu gamma c n) (boardOf (now (chip .entry)) (now (ct .entry)) (now (bt .entry)) (now (fst .entry)) (now (bst .entry)) (now (wear .entry))) (now (marks .entry)) format) word [] (boardOf (now (chip .exit)) (now (ct .exit)) (now (bt .exit)) (now (fst .exit)) (now (bst .exit)) (now (wear .exit))) (now (marks .exit)) ⌝ }
 {
     let p = params(s, alpha, beta, d, mu, gamma, c, n);
-    pack(layer::format(p, chip, ct, bt, fst, bst, wear, marks))
+    flat::pack(layer::format(p, chip, ct, bt, fst, bst, wear, marks))
 }
 
 // Document 01's read.
@@ -91,7 +83,7 @@ pub extern "C" fn cnftl_read(
     ensures { λ word. ⌜ Given (markedCall (paramsOf s alpha beta d mu gamma c n) (boardOf (now (chip .entry)) (now (ct .entry)) (now (bt .entry)) (now (fst .entry)) (now (bst .entry)) (now (wear .entry))) (now (marks .entry)) (read (requestOf lba count (now (bytes .entry))))) word (now (bytes .exit)) (boardOf (now (chip .entry)) (now (ct .entry)) (now (bt .entry)) (now (fst .entry)) (now (bst .entry)) (now (wear .entry))) (now (marks .entry)) ⌝ }
 {
     let p = params(s, alpha, beta, d, mu, gamma, c, n);
-    pack(layer::read(p, chip, ct, bt, fst, bst, wear, marks, lba, count, bytes))
+    flat::pack(layer::read(p, chip, ct, bt, fst, bst, wear, marks, lba, count, bytes))
 }
 
 // Document 01's write.
@@ -119,7 +111,47 @@ pub extern "C" fn cnftl_write(
     ensures { λ word. ⌜ Given (markedCall (paramsOf s alpha beta d mu gamma c n) (boardOf (now (chip .entry)) (now (ct .entry)) (now (bt .entry)) (now (fst .entry)) (now (bst .entry)) (now (wear .entry))) (now (marks .entry)) (write (requestOf lba count (now (bytes .entry))))) word (now (bytes .entry)) (boardOf (now (chip .exit)) (now (ct .exit)) (now (bt .exit)) (now (fst .exit)) (now (bst .exit)) (now (wear .exit))) (now (marks .exit)) ⌝ }
 {
     let p = params(s, alpha, beta, d, mu, gamma, c, n);
-    pack(layer::write(p, chip, ct, bt, fst, bst, wear, marks, lba, count, bytes))
+    flat::pack(layer::write(p, chip, ct, bt, fst, bst, wear, marks, lba, count, bytes))
+}
+
+// Document 02's queue of writes, from flat lists.
+#[no_mangle]
+pub extern "C" fn cnftl_queue(
+    s: u32,
+    alpha: u32,
+    beta: u32,
+    d: u32,
+    mu: u32,
+    gamma: u32,
+    c: u32,
+    n: u32,
+    chip: &mut [u8],
+    ct: &mut [u16],
+    bt: &mut [u16],
+    fst: &mut [u16],
+    bst: &mut [u8],
+    wear: &mut [u32],
+    marks: &mut [u64],
+    requests: &[u32],
+    bytes: &[u8],
+    answers: &mut [u64],
+) -> u64
+    ensures { λ word. ⌜ flatOutcome word (now (answers .exit)) (lentBoard (now (chip .exit)) (now (ct .exit)) (now (bt .exit)) (now (fst .exit)) (now (bst .exit)) (now (wear .exit)) (now (marks .exit))) ≡ flatCall (paramsOf s alpha beta d mu gamma c n) (lentBoard (now (chip .entry)) (now (ct .entry)) (now (bt .entry)) (now (fst .entry)) (now (bst .entry)) (now (wear .entry)) (now (marks .entry))) (now (requests .entry)) (now (bytes .entry)) (now (answers .entry)) ⌝ }
+{
+    let p = params(s, alpha, beta, d, mu, gamma, c, n);
+    flat::queue(
+        p,
+        chip,
+        ct,
+        bt,
+        fst,
+        bst,
+        wear,
+        marks,
+        requests,
+        bytes,
+        answers,
+    )
 }
 
 // Document 02's release of one cluster.
@@ -145,7 +177,7 @@ pub extern "C" fn cnftl_release(
     ensures { λ word. ⌜ Given (markedCall (paramsOf s alpha beta d mu gamma c n) (boardOf (now (chip .entry)) (now (ct .entry)) (now (bt .entry)) (now (fst .entry)) (now (bst .entry)) (now (wear .entry))) (now (marks .entry)) (release cluster)) word [] (boardOf (now (chip .entry)) (now (ct .exit)) (now (bt .entry)) (now (fst .entry)) (now (bst .entry)) (now (wear .entry))) (now (marks .exit)) ⌝ }
 {
     let p = params(s, alpha, beta, d, mu, gamma, c, n);
-    pack(layer::release(p, chip, ct, bt, fst, bst, wear, marks, cluster))
+    flat::pack(layer::release(p, chip, ct, bt, fst, bst, wear, marks, cluster))
 }
 
 // The numbers of a forecast, for the end of the list.

@@ -1,12 +1,11 @@
--- `cnftl::pack`: no sum wraps, since the reply and the programs are below 65,536.
+-- `flat::pack`: no sum wraps, since the reply and the programs are below 65,536.
 -- Assumes nothing.
-use mathlib.Core.Path.{_≡_, _∙_}
 use native.Mathlib.Omega.{arith}
 use borrow.Author.Needs.{needs}
-use Rattle.cnftl.specs.Packed.{packed}
+use Rattle.flat.specs.Packed.{packed}
 use Rattle.claims.proofs.Outcomes.{number-low}
-use Rattle.cnftl.proofs.pack.Statement.{statement}
-use Rattle.cnftl.proofs.pack.Tie as tie
+use Rattle.flat.proofs.pack.Statement.{statement}
+use Rattle.flat.proofs.pack.Tie as tie
 
 number-requires : tie.Need-number-requires
 number-requires c κs = search needs

@@ -1,0 +1,64 @@
+-- `cnftl::cnftl_queue`: the queue from flat lists, with the parameters as one.
+-- Assumes nothing.
+use mathlib.Core.Path.{ap, _∙_}
+use borrow.Author.Needs.{needs}
+use Rattle.rules.specs.declared.Params.{Params}
+use Rattle.marks.specs.MarkedConditions.{MarkedBoard}
+use Rattle.items.specs.Items.{lentBoard}
+use Rattle.flat.specs.Flat.{flatCall}
+use Rattle.cnftl.proofs.cnftl_queue.Statement.{statement}
+use Rattle.cnftl.proofs.cnftl_queue.Tie as tie
+
+abbrev board : tie.Start → MarkedBoard
+board a = lentBoard (a .args .chip .now) (a .args .ct .now) (a .args .bt .now) (a .args .fst .now) (a .args .bst .now) (a .args .wear .now) (a .args .marks .now)
+
+params-requires : tie.Need-params-requires
+params-requires c κs = search needs
+
+queue-requires : tie.Need-queue-requires
+queue-requires c κs = search needs
+
+same-length : tie.Need-same-length
+same-length c = search needs
+
+same-length-2 : tie.Need-same-length-2
+same-length-2 c = search needs
+
+same-length-3 : tie.Need-same-length-3
+same-length-3 c = search needs
+
+same-length-4 : tie.Need-same-length-4
+same-length-4 c = search needs
+
+same-length-5 : tie.Need-same-length-5
+same-length-5 c = search needs
+
+same-length-6 : tie.Need-same-length-6
+same-length-6 c = search needs
+
+same-length-7 : tie.Need-same-length-7
+same-length-7 c = search needs
+
+same-length-8 : tie.Need-same-length-8
+same-length-8 c = search needs
+
+returns : tie.Need-returns
+returns c =
+    let a = c .before .before .before .before .before .before .before .before .before .before .before .before .before .before .before .before .before .before .before .before .before .before .before .before .before .before .before .before .before .before .before .before .before .before .before .before in
+    c .before .before .before .before .before .before .before .before .before .before .before .before .before .before .before .before .queue .ensures ∙ ap (λ (p : Params). flatCall p (board a) (a .args .requests .now) (a .args .bytes .now) (a .args .answers .now)) (c .before .before .before .before .before .before .before .before .before .before .before .before .before .before .before .before .before .before .before .before .before .before .before .before .before .params .ensures)
+
+pub cnftl-queue-spec : {M : Type 1} → statement M
+cnftl-queue-spec =
+    tie.close
+    (tie.spec
+    params-requires
+    queue-requires
+    same-length
+    same-length-2
+    same-length-3
+    same-length-4
+    same-length-5
+    same-length-6
+    same-length-7
+    same-length-8
+    returns)

@@ -1,0 +1,191 @@
+// T-01's queue as C lends it: the requests as a flat list of numbers, three to each, and the answers as numbers. The items are those of `items`.
+ghost use mathlib.Core.Path.{_≡_};
+ghost use lib.ListN.{length, set, take};
+ghost use Prim.Native.Nat.{_<_};
+ghost use Rattle.queued.specs.Served.{servedFrom};
+ghost use Rattle.items.specs.Items.{Ready, lentBoard};
+ghost use Rattle.flat.specs.Packed.{packed, packedIn};
+ghost use Rattle.flat.specs.Flat.{FlatHead, TurnAsked, TurnDone, TurnsAsked, flatCall, flatOutcome, itemsOf};
+use items::Head;
+use rules::Answer;
+use rules::Params;
+use rules::Reply;
+
+// The answer as one number: reply + 65,536 × programs + 4,294,967,296 × erases.
+pub fn pack(a: Answer) -> u64
+    requires { ⌜ a .programs < 65536 ⌝ }
+    ensures { λ word. ⌜ word ≡ packed a ⌝ }
+{
+    let reply = a.reply;
+    rules::number(reply) as u64 + 65536 * (a.programs as u64) + 4294967296 * (a.erases as u64)
+}
+
+// An answer, packed, in its place;
+// the others stay.
+fn put(answers: &mut [u64], i: usize, a: Answer)
+    requires { ⌜ a .programs < 65536 ⌝ }
+    requires { ⌜ i < length (now answers) ⌝ }
+    ensures { λ _. ⌜ now (answers .exit) ≡ set (now (answers .entry)) i (packed a) ⌝ }
+{
+    answers[i] = pack(a);
+}
+
+// One turn of the queue: the i-th request is served,
+// and its answer packed into its place.
+fn turn(
+    p: Params,
+    chip: &mut [u8],
+    ct: &mut [u16],
+    bt: &mut [u16],
+    fst: &mut [u16],
+    bst: &mut [u8],
+    wear: &mut [u32],
+    marks: &mut [u64],
+    ordered: bool,
+    requests: &[u32],
+    bytes: &[u8],
+    answers: &mut [u64],
+    i: usize,
+)
+    requires { ⌜ Ready p ordered (lentBoard (now chip) (now ct) (now bt) (now fst) (now bst) (now wear) (now marks)) ⌝ }
+    requires { ⌜ TurnAsked (now requests) (now answers) i ⌝ }
+    ensures { λ _. ⌜ TurnDone p ordered (lentBoard (now (chip .entry)) (now (ct .entry)) (now (bt .entry)) (now (fst .entry)) (now (bst .entry)) (now (wear .entry)) (now (marks .entry))) (now (requests .entry)) (now (bytes .entry)) (now (answers .entry)) i (lentBoard (now (chip .exit)) (now (ct .exit)) (now (bt .exit)) (now (fst .exit)) (now (bst .exit)) (now (wear .exit)) (now (marks .exit))) (now (answers .exit)) ⌝ }
+{
+    let a = items::item(
+        p,
+        chip,
+        ct,
+        bt,
+        fst,
+        bst,
+        wear,
+        marks,
+        ordered,
+        requests[3 * i],
+        requests[3 * i + 1],
+        requests[3 * i + 2],
+        bytes,
+    );
+    put(answers, i, a);
+}
+
+// The first n requests are served,
+// one after the other.
+fn turns(
+    p: Params,
+    chip: &mut [u8],
+    ct: &mut [u16],
+    bt: &mut [u16],
+    fst: &mut [u16],
+    bst: &mut [u8],
+    wear: &mut [u32],
+    marks: &mut [u64],
+    ordered: bool,
+    requests: &[u32],
+    bytes: &[u8],
+    answers: &mut [u64],
+    n: usize,
+)
+    requires { ⌜ TurnsAsked p ordered (lentBoard (now chip) (now ct) (now bt) (now fst) (now bst) (now wear) (now marks)) (now requests) (now answers) n ⌝ }
+    ensures { λ _. ⌜ (lentBoard (now (chip .exit)) (now (ct .exit)) (now (bt .exit)) (now (fst .exit)) (now (bst .exit)) (now (wear .exit)) (now (marks .exit)), now (answers .exit)) ≡ servedFrom packedIn p (now (bytes .entry)) (take n (itemsOf (now (requests .entry)))) 0 (lentBoard (now (chip .entry)) (now (ct .entry)) (now (bt .entry)) (now (fst .entry)) (now (bst .entry)) (now (wear .entry)) (now (marks .entry))) (now (answers .entry)) ⌝ }
+{
+    let mut i = 0;
+    while i < n {
+        turn(
+            p,
+            chip,
+            ct,
+            bt,
+            fst,
+            bst,
+            wear,
+            marks,
+            ordered,
+            requests,
+            bytes,
+            answers,
+            i,
+        );
+        i += 1;
+    }
+}
+
+// The head of a queue whose request list has `len` numbers:
+// 2 where they are not three to a request, after 1.
+fn head_flat(
+    p: Params,
+    chip: &[u8],
+    ct: &[u16],
+    bt: &[u16],
+    fst: &[u16],
+    bst: &[u8],
+    wear: &[u32],
+    marks: &[u64],
+    len: usize,
+    answers: usize,
+) -> Head
+    ensures { λ h. ⌜ FlatHead p (lentBoard (now (chip .entry)) (now (ct .entry)) (now (bt .entry)) (now (fst .entry)) (now (bst .entry)) (now (wear .entry)) (now (marks .entry))) len answers h ⌝ }
+{
+    if len % 3 == 0 {
+        return items::head_of(p, chip, ct, bt, fst, bst, wear, marks, len / 3, answers);
+    }
+    if sizes::parameters_allowed(p) {
+        return Head {
+            reply: Reply::WrongLength,
+            ordered: false,
+            items: 0,
+        };
+    }
+    Head {
+        reply: Reply::BadParameter,
+        ordered: false,
+        items: 0,
+    }
+}
+
+// The items are written in list order, each answered in its place; the state is checked once.
+pub fn queue(
+    p: Params,
+    chip: &mut [u8],
+    ct: &mut [u16],
+    bt: &mut [u16],
+    fst: &mut [u16],
+    bst: &mut [u8],
+    wear: &mut [u32],
+    marks: &mut [u64],
+    requests: &[u32],
+    bytes: &[u8],
+    answers: &mut [u64],
+) -> u64
+    ensures { λ word. ⌜ flatOutcome word (now (answers .exit)) (lentBoard (now (chip .exit)) (now (ct .exit)) (now (bt .exit)) (now (fst .exit)) (now (bst .exit)) (now (wear .exit)) (now (marks .exit))) ≡ flatCall p (lentBoard (now (chip .entry)) (now (ct .entry)) (now (bt .entry)) (now (fst .entry)) (now (bst .entry)) (now (wear .entry)) (now (marks .entry))) (now (requests .entry)) (now (bytes .entry)) (now (answers .entry)) ⌝ }
+{
+    let h = head_flat(
+        p,
+        chip,
+        ct,
+        bt,
+        fst,
+        bst,
+        wear,
+        marks,
+        requests.len(),
+        answers.len(),
+    );
+    turns(
+        p,
+        chip,
+        ct,
+        bt,
+        fst,
+        bst,
+        wear,
+        marks,
+        h.ordered,
+        requests,
+        bytes,
+        answers,
+        h.items,
+    );
+    let reply = h.reply;
+    rules::number(reply) as u64
+}
