@@ -24,7 +24,7 @@
 enum { SPARE = 16, NONE = 65535, FREE = 0, USED = 1, RESERVED = 2, WORDS = 4 };
 enum {
     ACCEPTED, BAD_PARAMETER, WRONG_LENGTH, BAD_COUNT, BAD_ADDRESS, WRONG_DATA,
-    TOO_FEW_BLOCKS, NOT_ORDERLY
+    TOO_FEW_BLOCKS, NOT_ORDERLY, TOO_FEW_ANSWERS
 };
 
 /* Parameters, sizes worked out from them, and the state as it is read. */
@@ -322,16 +322,26 @@ static uint32_t refuse_board(const struct board *b, size_t chip_len,
     return ACCEPTED;
 }
 
-/* The reply to a request on a board of right lengths. */
-static uint32_t refuse_request(const struct board *b, uint32_t lba,
-                               uint32_t count, size_t data_len)
+/* The reply to a request on a board of right lengths, the state aside. */
+static uint32_t refuse_place(const struct board *b, uint32_t lba,
+                             uint32_t count, bool data_right)
 {
     if (count == 0 || count > b->alpha - lba % b->alpha)
         return BAD_COUNT;
     if (lba >= b->c * b->alpha)
         return BAD_ADDRESS;
-    if (data_len != (size_t)count * b->s)
-        return WRONG_DATA;
+    return data_right ? ACCEPTED : WRONG_DATA;
+}
+
+/* The reply to a request on a board of right lengths. */
+static uint32_t refuse_request(const struct board *b, uint32_t lba,
+                               uint32_t count, size_t data_len)
+{
+    uint32_t reply = refuse_place(b, lba, count,
+                                  data_len == (size_t)count * b->s);
+
+    if (reply != ACCEPTED)
+        return reply;
     return orderly(b) ? ACCEPTED : NOT_ORDERLY;
 }
 
@@ -554,7 +564,7 @@ static uint64_t write_steps(const struct board *b, const struct lent *l,
     return answer(ACCEPTED, b->alpha * (t.copied + 1), t.victim_block != NONE);
 }
 
-/* ==== The three calls ================================================== */
+/* ==== The four calls =================================================== */
 
 /* Whether neither of a block's first two pages has the maker's bad mark. */
 static bool block_good(const struct board *b, uint32_t block)
@@ -668,4 +678,60 @@ uint64_t fast_write(uint32_t s, uint32_t alpha, uint32_t beta, uint32_t d,
     if (reply != ACCEPTED)
         return answer(reply, 0, 0);
     return write_steps(&b, &l, lba, count, data);
+}
+
+/* One item of a queue on a state that was checked before. */
+static uint64_t write_item(const struct board *b, const struct lent *l,
+                           bool in_order, const uint32_t *item,
+                           const uint8_t *data, size_t data_len)
+{
+    uint64_t need = (uint64_t)item[1] * b->s;
+    uint32_t reply = refuse_place(b, item[0], item[1],
+                                  item[2] + need <= data_len);
+
+    if (reply == ACCEPTED && !in_order)
+        reply = NOT_ORDERLY;
+    if (reply != ACCEPTED)
+        return answer(reply, 0, 0);
+    return write_steps(b, l, item[0], item[1], data + item[2]);
+}
+
+/* Checks the state once, and makes the steps of each write. */
+uint64_t fast_queue(uint32_t s, uint32_t alpha, uint32_t beta, uint32_t d,
+                    uint32_t mu, uint32_t gamma, uint32_t c, uint32_t n,
+                    uint8_t *chip, size_t chip_len,
+                    uint16_t *ct, size_t ct_len,
+                    uint16_t *bt, size_t bt_len,
+                    uint16_t *fst, size_t fst_len,
+                    uint8_t *bst, size_t bst_len,
+                    uint32_t *wear, size_t wear_len,
+                    uint64_t *marks, size_t marks_len,
+                    const uint32_t *requests, size_t requests_len,
+                    const uint8_t *data, size_t data_len,
+                    uint64_t *answers, size_t answers_len)
+{
+    struct board b = make_board(s, alpha, beta, d, mu, gamma, c, n);
+    struct lent l = { chip, ct, bt, fst, bst, wear, marks };
+    uint32_t reply = refuse_board(&b, chip_len, ct_len, bt_len, fst_len,
+                                  bst_len, wear_len, marks_len);
+    bool in_order;
+
+    b.chip = chip;
+    b.ct = ct;
+    b.bt = bt;
+    b.fst = fst;
+    b.bst = bst;
+    b.wear = wear;
+    b.marks = marks;
+    if (reply == ACCEPTED && requests_len % 3 != 0)
+        reply = WRONG_LENGTH;
+    if (reply == ACCEPTED && answers_len < requests_len / 3)
+        reply = TOO_FEW_ANSWERS;
+    if (reply != ACCEPTED)
+        return answer(reply, 0, 0);
+    in_order = orderly(&b);
+    for (size_t i = 0; i < requests_len / 3; i++)
+        answers[i] = write_item(&b, &l, in_order, requests + 3 * i, data,
+                                data_len);
+    return answer(ACCEPTED, 0, 0);
 }

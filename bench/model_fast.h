@@ -1,8 +1,8 @@
 /*
- * model_fast.h - document 01's calls with 02's marks in plain C, written for
- * speed.
+ * model_fast.h - document 01's calls with 02's marks and its queue in plain
+ * C, written for speed.
  *
- * The three calls have the signatures of cnftl.h under the prefix fast_ and
+ * The four calls have the signatures of cnftl.h under the prefix fast_ and
  * the same outcome.  They are what the product's speed is measured against.
  */
 #ifndef MODEL_FAST_H
@@ -13,5 +13,6 @@
 extern __typeof__(cnftl_format) fast_format;
 extern __typeof__(cnftl_read) fast_read;
 extern __typeof__(cnftl_write) fast_write;
+extern __typeof__(cnftl_queue) fast_queue;
 
 #endif

@@ -7,6 +7,9 @@
  * the best times, which other work on the machine disturbs less.  Answers and
  * boards must be equal in the end.
  *
+ * Two rows are of a batch of 1,000 writes: as one queue, for which both sides
+ * check the state once, and as single writes, of which there is one batch only.
+ *
  * The last row is the work of a write with reclaim without the check of the
  * state, on a board of the largest blocks and regions: F = 256, gamma = 16.
  */
@@ -21,7 +24,7 @@
 #include <string.h>
 #include <time.h>
 
-enum { MOST_CALLS = 20000, FEWEST_CALLS = 15 };
+enum { MOST_CALLS = 20000, FEWEST_CALLS = 15, BATCH = 1000 };
 static const double row_seconds = 0.6; /* time for one row, if calls allow */
 
 /* ==== Time ============================================================= */
@@ -337,6 +340,77 @@ static void time_reclaims(void)
         call_in_region('W', below(product.params.mu < 2 ? 1 : 2));
 }
 
+static struct cnftl_request batch[BATCH];
+static uint8_t batch_data[BATCH * 512];
+static uint64_t answers[2][BATCH];
+
+/* Another batch of writes of one sector each, all over the board. */
+static void make_batch(void)
+{
+    uint32_t s = product.params.s;
+
+    for (uint32_t i = 0; i < BATCH; i++) {
+        batch[i].lba = some_sector(below(product.params.mu));
+        batch[i].count = 1;
+        batch[i].first = i * s;
+        memset(batch_data + (size_t)i * s, (int)below(256), s);
+    }
+}
+
+/* A batch as one queue on both sides. */
+static void time_queue(void)
+{
+    size_t len = (size_t)BATCH * product.params.s;
+    double start = now(), middle, end;
+    uint64_t a, b;
+
+    a = cnftl_board_queue(&product, batch, BATCH, batch_data, len, answers[0]);
+    middle = now();
+    b = fast_queue(CNFTL_BOARD(&plain), &batch->lba, 3 * BATCH, batch_data,
+                   len, answers[1], BATCH);
+    end = now();
+    assert(a == b && cnftl_reply_of(a) == CNFTL_ACCEPTED);
+    assert(memcmp(answers[0], answers[1], sizeof answers[0]) == 0);
+    add_time(&of_product[0], middle - start);
+    add_time(&of_plain[0], end - middle);
+}
+
+/* The same as single writes. */
+static void time_singles(void)
+{
+    uint32_t s = product.params.s;
+    double start = now(), middle, end;
+
+    for (uint32_t i = 0; i < BATCH; i++)
+        answers[0][i] = cnftl_board_write(&product, batch[i].lba, 1,
+                                          batch_data + (size_t)i * s, s);
+    middle = now();
+    for (uint32_t i = 0; i < BATCH; i++)
+        answers[1][i] = fast_write(CNFTL_BOARD(&plain), batch[i].lba, 1,
+                                   batch_data + (size_t)i * s, s);
+    end = now();
+    assert(memcmp(answers[0], answers[1], sizeof answers[0]) == 0);
+    add_time(&of_product[0], middle - start);
+    add_time(&of_plain[0], end - middle);
+}
+
+/* The rows of a batch, from full boards on. */
+static void time_batches(const char *name, double look)
+{
+    double end = begin_row();
+
+    fill_boards(product.params.beta * product.params.d);
+    while (goes_on(0, end)) {
+        make_batch();
+        time_queue();
+    }
+    print_row(name, "queue of 1,000 writes", 0, look);
+    begin_row();
+    make_batch();
+    time_singles();
+    print_row(name, "1,000 single writes", 0, look);
+}
+
 /* All rows of one board. */
 static void time_board(const char *name, const struct cnftl_params *p,
                        double look)
@@ -352,6 +426,8 @@ static void time_board(const char *name, const struct cnftl_params *p,
     print_row(name, "write without reclaim", 0, look);
     time_reclaims();
     print_row(name, "write with reclaim", 1, look);
+    if (p->mu > 2)
+        time_batches(name, look);
     assert(same_boards());
     free_board(&product);
     free_board(&plain);

@@ -1,4 +1,5 @@
-# For the tests of the C interface: the compilers for x86-64, how a program for it runs on this machine, and the archive.
+# For the tests of the C interface: the compilers for x86-64, how a program for it runs on this machine, and the archive, which is that of
+# crate cnftl unless the test has set $crate.
 # A test sources this from the repository's folder, and has $room, a folder of its own that is removed in the end.
 room=$(mktemp -d)
 trap 'rm -rf "$room"' EXIT
@@ -13,10 +14,11 @@ else
     runner=("$(dirname "$(rt doc)")/../on/$(uname -m)/toolchain/bin/qemu-x86_64")
 fi
 strict=(-Wall -Wextra -Werror -pedantic -Iinclude)
-archive=target/staticlib/libcnftl.a
-exported="cnftl_format cnftl_read cnftl_release cnftl_why cnftl_write" # what the archive offers, sorted
+crate=${crate:-cnftl}
+archive=target/staticlib/lib$crate.a
+exported="cnftl_format cnftl_queue cnftl_read cnftl_release cnftl_why cnftl_write" # what the archive offers, sorted
 if [ ! -f "$archive" ] || [ -n "$(find crates crates.txt -newer "$archive" -print -quit)" ]; then
-    rt staticlib cnftl >"$room/staticlib" 2>&1 || cat "$room/staticlib"
+    rt staticlib "$crate" >"$room/staticlib" 2>&1 || cat "$room/staticlib"
 fi
 
 # Runs a program that was compiled here.

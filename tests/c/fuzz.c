@@ -2,8 +2,8 @@
  * fuzz.c - compares cnftl_* of the linked archive with the model, call by call.
  *
  * Both sides own a copy of one board.  Each call is made on both; then the
- * answers, every byte of chip, tables, data and list, and the guard bytes
- * around each slice must be equal.  Accepted reads are also compared with a
+ * answers, every byte of chip, tables, data and lists, and the guard bytes
+ * around each slice must be equal.  The model of a queue is single writes.  Accepted reads are also compared with a
  * plain record of the bytes last accepted for each sector (the shadow), and
  * what a why has told with the read and the write that follow it.
  *
@@ -24,15 +24,22 @@
 #include <string.h>
 
 enum slice {
-    CHIP, CT, BT, FST, BST, WEAR, MARKS, TABLES, DATA = TABLES, LIST, SLICES
+    CHIP, CT, BT, FST, BST, WEAR, MARKS, TABLES, DATA = TABLES, LIST,
+    REQUESTS, ANSWERS, SLICES
 };
-enum { GUARD = 64, DATA_ROOM = 16 * 512 + GUARD, REPLIES = 8 };
+enum { GUARD = 64, DATA_ROOM = 16 * 512 + GUARD, REPLIES = 9 };
 enum { LIST_ROOM = (CNFTL_WHY_ENTRIES + 1) * 4, RULES = CNFTL_RULE_MARKS + 1 };
+enum { MOST_ITEMS = 8, REQUESTS_ROOM = (3 * MOST_ITEMS + 2) * 4 };
+enum { ANSWERS_ROOM = (MOST_ITEMS + 3) * 8 };
 
 static const char *const slice_name[SLICES] = {
-    "chip", "ct", "bt", "fst", "bst", "wear", "marks", "data", "list"
+    "chip", "ct", "bt", "fst", "bst", "wear", "marks", "data", "list",
+    "requests", "answers"
 };
-static const size_t width[SLICES] = { 1, 2, 2, 2, 1, 4, 8, 1, 4 };
+static const size_t width[SLICES] = { 1, 2, 2, 2, 1, 4, 8, 1, 4, 4, 8 };
+static const size_t own_room[SLICES] = {
+    0, 0, 0, 0, 0, 0, 0, DATA_ROOM, LIST_ROOM, REQUESTS_ROOM, ANSWERS_ROOM
+};
 
 /* ==== Chance =========================================================== */
 
@@ -188,8 +195,7 @@ static void open_board(struct cnftl_params p, size_t chip_bytes)
     right_len[WEAR] = cnftl_wear_entries(&p);
     right_len[MARKS] = cnftl_marks_entries(&p);
     for (int i = 0; i < SLICES; i++) {
-        room[i] = i == DATA ? DATA_ROOM : i == LIST ? LIST_ROOM
-                : right_len[i] * width[i];
+        room[i] = i < TABLES ? right_len[i] * width[i] : own_room[i];
         product.raw[i] = get_memory(room[i] + 2 * GUARD);
         model.raw[i] = get_memory(room[i] + 2 * GUARD);
         saved.raw[i] = get_memory(room[i] + 2 * GUARD);
@@ -216,15 +222,16 @@ static void close_board(void)
 /* ==== One call on both sides =========================================== */
 
 struct call {
-    char kind; /* 'F', 'R', 'W', for a release 'L', for a why 'Y' */
+    char kind; /* 'F', 'R', 'W', a release 'L', a why 'Y', a queue 'Q' */
     struct cnftl_params p;
     size_t len[SLICES];
     uint32_t lba, count; /* lba is a release's cluster */
 };
 
-static const char call_kinds[] = "FRWLY";
+static const char call_kinds[] = "FRWLYQ";
 static uint64_t calls, limit = 1000000, seed = 1;
-static uint64_t seen[REPLIES], kinds[5], reclaims, shadow_reads;
+static uint64_t seen[REPLIES], kinds[6], reclaims, shadow_reads;
+static uint64_t items_seen[REPLIES]; /* replies to the items of queues */
 static uint64_t broken[RULES];   /* rules that a why has told */
 static uint64_t forecasts[4];    /* writes as a why has forecast them */
 static uint64_t held_reads;      /* reads of a frame that a why has told */
@@ -240,6 +247,9 @@ static uint64_t held_reads;      /* reads of a frame that a why has told */
 #define REQUEST(k, a)                                                          \
     (k)->lba, (k)->count, bytes_of(a, DATA), (k)->len[DATA]
 #define QUESTION(k, a) (k)->lba, longs_of(a, LIST), (k)->len[LIST]
+#define QUEUE(k, a)                                                            \
+    longs_of(a, REQUESTS), (k)->len[REQUESTS],                                 \
+    bytes_of(a, DATA), (k)->len[DATA], wides_of(a, ANSWERS), (k)->len[ANSWERS]
 
 /* The call on the product. */
 static uint64_t call_product(const struct call *k)
@@ -253,6 +263,8 @@ static uint64_t call_product(const struct call *k)
         return cnftl_release(LENT(k, &product), k->lba);
     case 'Y':
         return cnftl_why(LENT(k, &product), QUESTION(k, &product));
+    case 'Q':
+        return cnftl_queue(LENT(k, &product), QUEUE(k, &product));
     default:
         return cnftl_write(LENT(k, &product), REQUEST(k, &product));
     }
@@ -270,6 +282,8 @@ static uint64_t call_model(const struct call *k)
         return model_release(LENT(k, &model), k->lba);
     case 'Y':
         return model_why(LENT(k, &model), QUESTION(k, &model));
+    case 'Q':
+        return model_queue(LENT(k, &model), QUEUE(k, &model));
     default:
         return model_write(LENT(k, &model), REQUEST(k, &model));
     }
@@ -303,8 +317,9 @@ static void differ(const struct call *k, const char *what, uint64_t by_product,
     printf("fuzz: difference in %s at call %" PRIu64 " (seed %" PRIu64 ")\n",
            what, calls, seed);
     printf("  call %c, lba %" PRIu32 ", count %" PRIu32 ", data %zu bytes, "
-           "list %zu entries\n", k->kind, k->lba, k->count, k->len[DATA],
-           k->len[LIST]);
+           "list %zu entries, requests %zu numbers, answers %zu\n", k->kind,
+           k->lba, k->count, k->len[DATA], k->len[LIST], k->len[REQUESTS],
+           k->len[ANSWERS]);
     printf("  s=%" PRIu32 " alpha=%" PRIu32 " beta=%" PRIu32 " d=%" PRIu32
            " mu=%" PRIu32 " gamma=%" PRIu32 " c=%" PRIu32 " n=%" PRIu32 "\n",
            PARAMETERS(k));
@@ -324,6 +339,19 @@ static bool own_parameters(const struct call *k)
     return memcmp(&k->p, &par, sizeof par) == 0;
 }
 
+/* Keeps the shadow up with the items of a queue that were accepted. */
+static void follow_items(const struct call *k)
+{
+    for (size_t i = 0; i < k->len[REQUESTS] / 3; i++) {
+        const uint32_t *item = longs_of(&product, REQUESTS) + 3 * i;
+
+        if (cnftl_reply_of(wides_of(&product, ANSWERS)[i]) == CNFTL_ACCEPTED)
+            memcpy(shadow + (size_t)item[0] * par.s,
+                   bytes_of(&product, DATA) + item[2],
+                   (size_t)item[1] * par.s);
+    }
+}
+
 /* Keeps the shadow up with an accepted call, and compares a read with it. */
 static void follow_shadow(const struct call *k, uint64_t a)
 {
@@ -341,10 +369,23 @@ static void follow_shadow(const struct call *k, uint64_t a)
                (size_t)par.alpha * par.s);
     } else if (shadow_holds && k->kind == 'W') {
         memcpy(sectors, bytes_of(&product, DATA), k->len[DATA]);
+    } else if (shadow_holds && k->kind == 'Q') {
+        follow_items(k);
     } else if (shadow_holds) {
         if (memcmp(sectors, bytes_of(&product, DATA), k->len[DATA]) != 0)
             differ(k, "the bytes last accepted", a, a);
         shadow_reads++;
+    }
+}
+
+/* Counts the items of a queue by their replies. */
+static void count_items(const struct call *k)
+{
+    for (size_t i = 0; i < k->len[REQUESTS] / 3; i++) {
+        uint64_t a = wides_of(&product, ANSWERS)[i];
+
+        items_seen[cnftl_reply_of(a) % REPLIES]++;
+        reclaims += cnftl_erases_of(a) == 1;
     }
 }
 
@@ -355,6 +396,8 @@ static void count_call(const struct call *k, uint64_t a)
     kinds[strchr(call_kinds, k->kind) - call_kinds]++;
     seen[cnftl_reply_of(a)]++;
     reclaims += k->kind == 'W' && cnftl_erases_of(a) == 1;
+    if (k->kind == 'Q' && cnftl_reply_of(a) == CNFTL_ACCEPTED)
+        count_items(k);
     if (k->kind == 'Y' && cnftl_reply_of(a) == CNFTL_NOT_ORDERLY)
         broken[longs_of(&product, LIST)[CNFTL_WHY_RULE] % RULES]++;
     if (calls % 100000 == 0)
@@ -369,14 +412,59 @@ static void fill_slice(const struct call *k, enum slice i)
     memcpy(model.raw[i], product.raw[i], room[i] + 2 * GUARD);
 }
 
+/* One request of a queue in its place, the same on both sides. */
+static void put_item(size_t at, uint32_t lba, uint32_t count, uint32_t first)
+{
+    const uint32_t item[3] = { lba, count, first };
+
+    memcpy(longs_of(&product, REQUESTS) + 3 * at, item, sizeof item);
+    memcpy(longs_of(&model, REQUESTS) + 3 * at, item, sizeof item);
+}
+
+/* The first byte of an item: most times its bytes lie in the data part, at
+   times just past its end or where the sum would wrap in 32 bits. */
+static uint32_t first_byte(const struct call *k, uint32_t count)
+{
+    uint32_t need = count * par.s, len = (uint32_t)k->len[DATA];
+    uint32_t last = len < need ? 0 : len - need;
+    const uint32_t values[] = {
+        last + 1, len, len + 1, UINT32_MAX, 0u - need, 1u - need, last
+    };
+
+    if (once_in(8))
+        return values[below(sizeof values / sizeof *values)];
+    return below(last + 1);
+}
+
+/* The requests of a queue; one in eight with a fault of its own. */
+static void fill_requests(const struct call *k)
+{
+    uint32_t end = cnftl_sectors(&par);
+
+    for (size_t i = 0; i < k->len[REQUESTS] / 3; i++) {
+        uint32_t cluster = once_in(2) ? hot_from + below(hot) : below(par.c);
+        uint32_t place = below(par.alpha), lba = cluster * par.alpha + place;
+        uint32_t count = between(1, par.alpha - place);
+        const uint32_t counts[] = { 0, par.alpha - place + 1, UINT32_MAX };
+        const uint32_t addresses[] = { end, end + place, UINT32_MAX };
+
+        if (once_in(16))
+            count = counts[below(3)];
+        if (once_in(16))
+            lba = addresses[below(3)];
+        put_item(i, lba, count, first_byte(k, count));
+    }
+}
+
 /* Makes a call on both sides and compares all that they may have touched.
    Returns the answer. */
 static uint64_t answer_of(const struct call *k)
 {
     uint64_t by_product, by_model;
 
-    fill_slice(k, DATA);
-    fill_slice(k, LIST);
+    for (int i = TABLES; i < SLICES; i++)
+        fill_slice(k, (enum slice)i);
+    fill_requests(k);
     by_product = call_product(k);
     by_model = call_model(k);
     if (by_product != by_model)
@@ -408,6 +496,13 @@ static struct call right_call(char kind)
     k.count = between(1, par.alpha - place);
     k.len[DATA] = strchr("LY", kind) ? 0 : (size_t)k.count * par.s;
     k.len[LIST] = kind == 'Y' ? CNFTL_WHY_ENTRIES : 0;
+    if (kind == 'Q') {
+        uint32_t items = below(MOST_ITEMS + 1);
+
+        k.len[DATA] = between(par.alpha * par.s, DATA_ROOM - GUARD);
+        k.len[REQUESTS] = 3 * items;
+        k.len[ANSWERS] = items + below(3);
+    }
     return k;
 }
 
@@ -534,12 +629,26 @@ static void fault_list(struct call *k)
         k->len[LIST] = values[below(3)];
 }
 
+/* Lists of a queue that do not fit: numbers that are no whole request, or too
+   few answers. */
+static void fault_lists(struct call *k)
+{
+    size_t items = k->len[REQUESTS] / 3;
+
+    if (k->kind != 'Q')
+        return;
+    if (once_in(2))
+        k->len[REQUESTS] = 3 * items + between(1, 2);
+    else
+        k->len[ANSWERS] = items - (items > 0 ? between(1, (uint32_t)items) : 0);
+}
+
 /* One to four faults at once. */
 static void add_faults(struct call *k)
 {
     static void (*const faults[])(struct call *) = {
         fault_parameter, fault_parameters, fault_length, fault_count,
-        fault_address, fault_data, fault_list
+        fault_address, fault_data, fault_list, fault_lists
     };
 
     do
@@ -1173,7 +1282,7 @@ static void changed_requests(void)
     change_state();
     shadow_holds = false;
     do {
-        struct call k = right_call("RRRWWWLYY"[below(9)]);
+        struct call k = right_call("RRRWWWLYYQQ"[below(11)]);
 
         if (once_in(8))
             add_faults(&k);
@@ -1191,7 +1300,7 @@ static void changed_requests(void)
 /* One call of any kind with faults. */
 static void faulty_request(void)
 {
-    struct call k = right_call("FRRWWLYY"[below(8)]);
+    struct call k = right_call("FRRWWLYYQQQQ"[below(12)]);
 
     add_faults(&k);
     make_call(&k);
@@ -1206,12 +1315,12 @@ static void format_request(void)
         rest_of_episode = 8;
 }
 
-/* A right read, write, release or why.  It is accepted if the board was changed
+/* A right read, write, release, why or queue.  It is accepted if the board was changed
    by calls alone since a format; a board that is not orderly is formatted
    soon. */
 static void right_request(void)
 {
-    struct call k = right_call("RRRRWWWWWWWLYY"[below(14)]);
+    struct call k = right_call("RRRRWWWWWWWLYYQQ"[below(16)]);
     bool sound = shadow_holds;
     uint32_t reply = make_call(&k);
 
@@ -1286,8 +1395,8 @@ static void run_wrapped_board(void)
 
     assert((uint64_t)cnftl_chip_bytes(&p) == UINT64_C(4294967296));
     open_board(p, 0);
-    for (int i = 0; i < 4 && calls < limit; i++) {
-        struct call k = right_call("FRWY"[i]);
+    for (int i = 0; i < 5 && calls < limit; i++) {
+        struct call k = right_call("FRWYQ"[i]);
 
         make_call(&k);
     }
@@ -1458,6 +1567,13 @@ static bool report(void)
            " compared with the bytes last accepted), %" PRIu64 " writes, %"
            PRIu64 " reclaims, %" PRIu64 " releases\n", kinds[0], kinds[1],
            shadow_reads, kinds[2], reclaims, kinds[3]);
+    printf("fuzz: %" PRIu64 " queues, their items by reply:", kinds[5]);
+    for (int r = 0; r < REPLIES; r++)
+        printf(" %d: %" PRIu64, r, items_seen[r]);
+    printf("\n");
+    all = all && items_seen[CNFTL_ACCEPTED] > 0 && items_seen[CNFTL_BAD_COUNT] > 0
+       && items_seen[CNFTL_BAD_ADDRESS] > 0 && items_seen[CNFTL_WRONG_DATA] > 0
+       && items_seen[CNFTL_NOT_ORDERLY] > 0;
     printf("fuzz: %" PRIu64 " whys, %" PRIu64 " read as told, written as told:"
            " %" PRIu64 " continued, %" PRIu64 " opened, %" PRIu64
            " reclaimed\n", kinds[4], held_reads, forecasts[1], forecasts[2],

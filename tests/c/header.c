@@ -173,6 +173,41 @@ static void check_release(void)
     assert(is(cnftl_board_release(&board, 5), CNFTL_NOT_ORDERLY, 0, 0));
 }
 
+/* A queue: each item as a single write in its turn, and the replies that the
+   call itself has. */
+static void check_queue(void)
+{
+    static const struct cnftl_request requests[5] = {
+        { 0, 2, 0 }, { 1, 2, 0 }, { 12, 1, 0 }, { 4, 1, 17 }, { 4, 1, 16 }
+    };
+    uint64_t answers[6] = { 9, 9, 9, 9, 9, 9 };
+
+    new_board();
+    assert(is(cnftl_board_format(&board), CNFTL_ACCEPTED, 0, 5));
+    memset(data, 17, 16);
+    memset(data + 16, 18, 16);
+    assert(is(cnftl_board_queue(&board, requests, 5, data, 32, answers),
+              CNFTL_ACCEPTED, 0, 0));
+    assert(is(answers[0], CNFTL_ACCEPTED, 2, 0));
+    assert(is(answers[1], CNFTL_BAD_COUNT, 0, 0));
+    assert(is(answers[2], CNFTL_BAD_ADDRESS, 0, 0));
+    assert(is(answers[3], CNFTL_WRONG_DATA, 0, 0));
+    assert(is(answers[4], CNFTL_ACCEPTED, 2, 0));
+    assert(answers[5] == 9);
+    assert(is(cnftl_board_read(&board, 4, 1, data, 16), CNFTL_ACCEPTED, 0, 0));
+    assert(sector_is(0, 18));
+    assert(is(cnftl_queue(CNFTL_BOARD(&board), &requests->lba, 15, data, 32,
+                          answers + 5, 1), CNFTL_TOO_FEW_ANSWERS, 0, 0));
+    assert(is(cnftl_queue(CNFTL_BOARD(&board), &requests->lba, 14, data, 32,
+                          answers + 5, 1), CNFTL_WRONG_LENGTH, 0, 0));
+    assert(answers[5] == 9);
+    fst[0] = CNFTL_NONE;
+    assert(is(cnftl_board_queue(&board, requests, 5, data, 32, answers),
+              CNFTL_ACCEPTED, 0, 0));
+    assert(is(answers[0], CNFTL_NOT_ORDERLY, 0, 0));
+    assert(is(answers[3], CNFTL_WRONG_DATA, 0, 0));
+}
+
 /* Why, on the way of a region of Board T through all that a write can do: it
    opens, continues and reclaims; then reply 4, and 7 with its rule. */
 static void check_why(void)
@@ -291,6 +326,7 @@ int main(void)
     check_session();
     check_cases();
     check_release();
+    check_queue();
     check_why();
     check_marks();
     check_replies();

@@ -26,6 +26,7 @@ const char *const MODEL_MUTANTS[MODEL_MUTANT_COUNT] = {
 
 enum { SPARE = 16, NONE = 65535, ERASED = 255 };
 enum { FREE = 0, USED = 1, RESERVED = 2 };
+enum { MOST_REGIONS = 1024 };
 
 /* The eight parameters, with F and P worked out. */
 struct params {
@@ -1046,7 +1047,7 @@ static struct work write_steps(struct lent *l, uint32_t lba, uint32_t count,
 
 enum {
     ACCEPTED, BAD_PARAMETER, WRONG_LENGTH, BAD_COUNT, BAD_ADDRESS, WRONG_DATA,
-    TOO_FEW_BLOCKS, NOT_ORDERLY
+    TOO_FEW_BLOCKS, NOT_ORDERLY, TOO_FEW_ANSWERS
 };
 
 /* The entries of the list of T-05. */
@@ -1221,6 +1222,115 @@ uint64_t model_write(uint32_t s, uint32_t alpha, uint32_t beta, uint32_t d,
     if (MUTANT(ERASE_UNCOUNTED))
         work.erases = 0;
     return answer(ACCEPTED, alpha * (work.copied + 1), work.erases);
+}
+
+/* T-01: "8, after 2, when the answer list is shorter than the request list".
+   A request list that is not three numbers to a request counts as one more
+   wrong length. */
+static uint32_t refuse_queue(size_t requests_len, size_t answers_len)
+{
+    if (requests_len % 3 != 0 && !MUTANT(QUEUE_THREES))
+        return WRONG_LENGTH;
+    if (answers_len < requests_len / 3 + MUTANT(QUEUE_FULL_LIST))
+        return TOO_FEW_ANSWERS;
+    return ACCEPTED;
+}
+
+/* Whether an item's count x s bytes lie in the data part. */
+static bool item_lies(const struct params *p, const uint32_t *item,
+                      size_t data_len)
+{
+    uint64_t end = (uint64_t)item[1] * p->s + item[2];
+
+    if (MUTANT(QUEUE_SUM_WRAPS))
+        end = (uint32_t)end;
+    return end <= data_len + MUTANT(QUEUE_ONE_PAST);
+}
+
+/* One item as a single write with its own check of the state.  "An item whose
+   count x s bytes do not lie there gets reply 5, in its turn": it has no
+   data. */
+static uint64_t write_item(const struct lent *l, const struct lengths *len,
+                           const uint32_t *item, const uint8_t *data,
+                           size_t data_len)
+{
+    const struct params *p = &l->v.p;
+    bool lies = item_lies(p, item, data_len);
+    size_t first = lies && item[2] < data_len && !MUTANT(QUEUE_FIRST_ZERO)
+                 ? item[2] : 0;
+
+    if (MUTANT(QUEUE_DATA_FIRST) && !lies)
+        return answer(WRONG_DATA, 0, 0);
+    return model_write(p->s, p->alpha, p->beta, p->d, p->mu, p->gamma, p->c,
+                       p->n, l->chip, len->chip, l->ct, len->ct,
+                       l->bt, len->bt, l->fst, len->fst, l->bst, len->bst,
+                       l->wear, len->wear, l->marks, len->marks,
+                       item[0], item[1], data + first,
+                       lies ? (size_t)item[1] * p->s : 0);
+}
+
+/* "The chip, tables and answers equal those of single writes in list order; a
+   refused item changes nothing and the next goes on." */
+static void write_items(const struct lent *l, const struct lengths *len,
+                        const uint32_t *requests, size_t items,
+                        const uint8_t *data, size_t data_len,
+                        uint64_t *answers, size_t answers_len)
+{
+    uint16_t before[MOST_REGIONS];
+
+    memcpy(before, l->fst, len->fst * sizeof *before);
+    for (size_t i = 0; i < items; i++) {
+        size_t at = MUTANT(QUEUE_LATE) && i + 1 < answers_len ? i + 1 : i;
+
+        if (MUTANT(QUEUE_OLD_STATE))
+            memcpy(l->fst, before, len->fst * sizeof *before);
+        answers[at] = write_item(l, len, requests + 3 * i, data, data_len);
+        if (MUTANT(QUEUE_STOPS) && answers[at] % 65536 != ACCEPTED)
+            break;
+    }
+}
+
+/* T-01: "1, 2 and 8 are for the whole call and leave the answer list as lent;
+   else the call itself answers 0 with counts 0." */
+uint64_t model_queue(uint32_t s, uint32_t alpha, uint32_t beta, uint32_t d,
+                     uint32_t mu, uint32_t gamma, uint32_t c, uint32_t n,
+                     uint8_t *chip, size_t chip_len,
+                     uint16_t *ct, size_t ct_len,
+                     uint16_t *bt, size_t bt_len,
+                     uint16_t *fst, size_t fst_len,
+                     uint8_t *bst, size_t bst_len,
+                     uint32_t *wear, size_t wear_len,
+                     uint64_t *marks, size_t marks_len,
+                     const uint32_t *requests, size_t requests_len,
+                     const uint8_t *data, size_t data_len,
+                     uint64_t *answers, size_t answers_len)
+{
+    struct params p = make_params(s, alpha, beta, d, mu, gamma, c, n);
+    struct lengths len = {
+        chip_len, ct_len, bt_len, fst_len, bst_len, wear_len, marks_len
+    };
+    struct lent l = {
+        { p, chip, ct, bt, fst, bst, wear, marks },
+        chip, ct, bt, fst, bst, wear, marks
+    };
+    uint32_t reply = refuse_board(&p, &len);
+    uint32_t by_lists = refuse_queue(requests_len, answers_len);
+
+    if (reply == ACCEPTED
+        || (reply == WRONG_LENGTH && by_lists == TOO_FEW_ANSWERS
+            && MUTANT(QUEUE_8_FIRST)))
+        reply = by_lists;
+    if (reply != ACCEPTED && MUTANT(QUEUE_REFUSAL_FILLS) && answers_len > 0)
+        answers[0] = answer(reply, 0, 0);
+    if (reply != ACCEPTED)
+        return answer(reply, 0, 0);
+    write_items(&l, &len, requests, requests_len / 3, data, data_len, answers,
+                answers_len);
+    if (MUTANT(QUEUE_FILLS_PAST) && answers_len > requests_len / 3)
+        answers[requests_len / 3] = 0;
+    if (MUTANT(QUEUE_REPLIES_7) && !orderly(&l.v))
+        return answer(NOT_ORDERLY, 0, 0);
+    return answer(ACCEPTED, 0, 0);
 }
 
 /* T-03: "Refusals: 1, 2, then 4 for a cluster not below C, then 7." */

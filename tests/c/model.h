@@ -29,6 +29,7 @@ extern const char *const MODEL_MUTANTS[MODEL_MUTANT_COUNT];
 extern __typeof__(cnftl_format) model_format;
 extern __typeof__(cnftl_read) model_read;
 extern __typeof__(cnftl_write) model_write;
+extern __typeof__(cnftl_queue) model_queue;
 extern __typeof__(cnftl_release) model_release;
 extern __typeof__(cnftl_why) model_why;
 

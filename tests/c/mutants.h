@@ -118,6 +118,20 @@
     X(WHY_STALE, "why: the first frame of the cluster, not the last")          \
     X(WHY_VICTIM_TIE, "why: the highest victim on a tie")                      \
     X(WHY_OPENS, "why: opens told where the open block has room")              \
-    X(WHY_FILLS_4, "why: the list is filled with reply 4 too")
+    X(WHY_FILLS_4, "why: the list is filled with reply 4 too")                 \
+    /* queue */                                                                \
+    X(QUEUE_STOPS, "queue: a refused item stops it")                           \
+    X(QUEUE_OLD_STATE, "queue: each item with the FST from before it")         \
+    X(QUEUE_LATE, "queue: an answer one place late")                           \
+    X(QUEUE_8_FIRST, "queue: 8 tested before 2")                               \
+    X(QUEUE_FULL_LIST, "queue: as many answers as requests refused")           \
+    X(QUEUE_THREES, "queue: a request cut short is left out")                  \
+    X(QUEUE_FILLS_PAST, "queue: an answer past the last item")                 \
+    X(QUEUE_REFUSAL_FILLS, "queue: a refusal fills an answer")                 \
+    X(QUEUE_REPLIES_7, "queue: 7 for the whole call")                          \
+    X(QUEUE_DATA_FIRST, "queue: 5 tested before 3 and 4")                      \
+    X(QUEUE_SUM_WRAPS, "queue: first + count x s in 32 bits")                  \
+    X(QUEUE_ONE_PAST, "queue: a byte past the data part")                      \
+    X(QUEUE_FIRST_ZERO, "queue: the bytes from the start of the data")
 
 #endif
