@@ -1,0 +1,83 @@
+-- `pair::cnftl_queue_two`: two writes as one queue, each answer packed.
+-- Assumes nothing.
+use mathlib.Core.Path.{ap₂, _∙_}
+use Prim.Native.Nat.{ℕ}
+use borrow.Author.Needs.{needs}
+use Rattle.marks.specs.MarkedConditions.{MarkedBoard}
+use Rattle.items.specs.Items.{lentBoard}
+use Rattle.pair.specs.Two.{placed}
+use Rattle.pair.proofs.Few.{few-two}
+use Rattle.pair.proofs.cnftl_queue_two.Statement.{statement}
+use Rattle.pair.proofs.cnftl_queue_two.Tie as tie
+
+abbrev board : tie.Start → MarkedBoard
+board a = lentBoard (a .args .chip .now) (a .args .ct .now) (a .args .bt .now) (a .args .fst .now) (a .args .bst .now) (a .args .wear .now) (a .args .marks .now)
+
+queue-two-requires : tie.Need-queue-two-requires
+queue-two-requires c κs = search needs
+
+pack-requires : tie.Need-pack-requires
+pack-requires c κs = (few-two _ (board (c .before .before .before .before .before .before .before .before .before .before .before .before .before .before .before .before .before .before .before .before .before .before .before .before .before .before .before .before .before .before .before .before .before .before .before)) _ _ _ _ _ _ _ (c .before .before .before .before .before .before .before .before .before .before .before .before .before .before .before .before .before .before .queue-two .ensures)) .1 .0
+
+pack-requires-2 : tie.Need-pack-requires-2
+pack-requires-2 c κs = (few-two _ (board (c .before .before .before .before .before .before .before .before .before .before .before .before .before .before .before .before .before .before .before .before .before .before .before .before .before .before .before .before .before .before .before .before .before .before .before .before)) _ _ _ _ _ _ _ (c .before .before .before .before .before .before .before .before .before .before .before .before .before .before .before .before .before .before .before .queue-two .ensures)) .1 .1 .0
+
+put-two-requires : tie.Need-put-two-requires
+put-two-requires c κs = search needs
+
+pack-requires-3 : tie.Need-pack-requires-3
+pack-requires-3 c κs = (few-two _ (board (c .before .before .before .before .before .before .before .before .before .before .before .before .before .before .before .before .before .before .before .before .before .before .before .before .before .before .before .before .before .before .before .before .before .before .before .before .before .before .before .before)) _ _ _ _ _ _ _ (c .before .before .before .before .before .before .before .before .before .before .before .before .before .before .before .before .before .before .before .before .before .before .before .queue-two .ensures)) .0
+
+same-length : tie.Need-same-length
+same-length c = search needs
+
+same-length-2 : tie.Need-same-length-2
+same-length-2 c = search needs
+
+same-length-3 : tie.Need-same-length-3
+same-length-3 c = search needs
+
+same-length-4 : tie.Need-same-length-4
+same-length-4 c = search needs
+
+same-length-5 : tie.Need-same-length-5
+same-length-5 c = search needs
+
+same-length-6 : tie.Need-same-length-6
+same-length-6 c = search needs
+
+same-length-7 : tie.Need-same-length-7
+same-length-7 c = search needs
+
+same-length-8 : tie.Need-same-length-8
+same-length-8 c = search needs
+
+returns : tie.Need-returns
+returns c =
+    record {
+      own = c .before .before .before .before .before .before .before .before .before .before .before .before .before .before .before .before .before .before .before .before .before .before .before .before .queue-two .result .own;
+      first = c .before .before .before .before .before .before .before .before .before .before .before .before .before .before .before .before .before .before .before .before .before .before .before .before .queue-two .result .first;
+      second = c .before .before .before .before .before .before .before .before .before .before .before .before .before .before .before .before .before .before .before .before .before .before .before .before .queue-two .result .second;
+      outcome = c .before .before .before .before .before .before .before .before .before .before .before .before .before .before .before .before .before .before .before .before .before .before .before .before .queue-two .ensures;
+      result = c .pack3 .ensures;
+      list = c .before .before .before .put-two .ensures ∙ ap₂ (λ (first second : ℕ). placed first second (c .before .before .before .before .before .before .before .before .before .before .before .before .before .before .before .before .before .before .before .before .before .before .before .before .before .before .before .before .before .before .before .before .before .before .before .before .before .before .before .before .before .args .answers .now)) (c .before .before .before .before .before .pack .ensures) (c .before .before .before .before .pack2 .ensures);
+    }
+
+pub cnftl-queue-two-spec : {M : Type 1} → statement M
+cnftl-queue-two-spec =
+    tie.close
+    (tie.spec
+    queue-two-requires
+    pack-requires
+    pack-requires-2
+    put-two-requires
+    pack-requires-3
+    same-length
+    same-length-2
+    same-length-3
+    same-length-4
+    same-length-5
+    same-length-6
+    same-length-7
+    same-length-8
+    returns)

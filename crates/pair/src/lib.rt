@@ -1,0 +1,168 @@
+// A queue of two writes with plain parameters, so that the queue of crate `queue` can be run by a test.
+ghost use mathlib.Core.Path.{_≡_};
+ghost use mathlib.Core.List.{[], _∷_};
+ghost use Rattle.queued.specs.Queue.{queueCall, queueOutcome};
+ghost use Rattle.items.specs.Items.{itemOf, lentBoard};
+ghost use Rattle.flat.specs.Packed.{paramsOf};
+ghost use Rattle.pair.specs.Two.{Two, placed, unset};
+use queued::Item;
+use rules::Answer;
+use rules::Params;
+use rules::Reply;
+
+// What two writes as one queue gave: the call's own answer and each item's.
+pub struct Pair {
+    pub own: Answer,
+    pub first: Answer,
+    pub second: Answer,
+}
+
+// Two writes as one queue, with an answer list that holds `blank` twice.
+fn two(
+    p: Params,
+    chip: &mut [u8],
+    ct: &mut [u16],
+    bt: &mut [u16],
+    fst: &mut [u16],
+    bst: &mut [u8],
+    wear: &mut [u32],
+    marks: &mut [u64],
+    a: Item,
+    b: Item,
+    bytes: &[u8],
+    blank: Answer,
+) -> Pair
+    ensures { λ r. ⌜ queueOutcome (r .own) (r .first ∷ r .second ∷ []) (lentBoard (now (chip .exit)) (now (ct .exit)) (now (bt .exit)) (now (fst .exit)) (now (bst .exit)) (now (wear .exit)) (now (marks .exit))) ≡ queueCall p (lentBoard (now (chip .entry)) (now (ct .entry)) (now (bt .entry)) (now (fst .entry)) (now (bst .entry)) (now (wear .entry)) (now (marks .entry))) (a ∷ b ∷ []) (now (bytes .entry)) (blank ∷ blank ∷ []) ⌝ }
+{
+    let requests = [a, b];
+    let mut answers = [blank, blank];
+    let own = queue::queue(
+        p,
+        chip,
+        ct,
+        bt,
+        fst,
+        bst,
+        wear,
+        marks,
+        &requests,
+        bytes,
+        &mut answers,
+    );
+    Pair {
+        own,
+        first: answers[0],
+        second: answers[1],
+    }
+}
+
+// Two writes as one queue, with plain parameters.
+pub fn queue_two(
+    p: Params,
+    chip: &mut [u8],
+    ct: &mut [u16],
+    bt: &mut [u16],
+    fst: &mut [u16],
+    bst: &mut [u8],
+    wear: &mut [u32],
+    marks: &mut [u64],
+    lba: u32,
+    count: u32,
+    first: u32,
+    lba2: u32,
+    count2: u32,
+    first2: u32,
+    bytes: &[u8],
+) -> Pair
+    ensures { λ r. ⌜ queueOutcome (r .own) (r .first ∷ r .second ∷ []) (lentBoard (now (chip .exit)) (now (ct .exit)) (now (bt .exit)) (now (fst .exit)) (now (bst .exit)) (now (wear .exit)) (now (marks .exit))) ≡ queueCall p (lentBoard (now (chip .entry)) (now (ct .entry)) (now (bt .entry)) (now (fst .entry)) (now (bst .entry)) (now (wear .entry)) (now (marks .entry))) (itemOf lba count first ∷ itemOf lba2 count2 first2 ∷ []) (now (bytes .entry)) (unset ∷ unset ∷ []) ⌝ }
+{
+    let a = Item {
+        lba: lba,
+        count: count,
+        first: first,
+    };
+    let b = Item {
+        lba: lba2,
+        count: count2,
+        first: first2,
+    };
+    let blank = Answer {
+        reply: Reply::Accepted,
+        programs: 0,
+        erases: 0,
+    };
+    two(p, chip, ct, bt, fst, bst, wear, marks, a, b, bytes, blank)
+}
+
+// Both numbers in their places, where there are two or more.
+fn put_two(answers: &mut [u64], first: u64, second: u64)
+    ensures { λ _. ⌜ now (answers .exit) ≡ placed first second (now (answers .entry)) ⌝ }
+{
+    if answers.len() >= 2 {
+        answers[0] = first;
+        answers[1] = second;
+    }
+}
+
+// The same for C, with the parameters one by one and each answer as one number.
+#[no_mangle]
+pub extern "C" fn cnftl_queue_two(
+    s: u32,
+    alpha: u32,
+    beta: u32,
+    d: u32,
+    mu: u32,
+    gamma: u32,
+    c: u32,
+    n: u32,
+    chip: &mut [u8],
+    ct: &mut [u16],
+    bt: &mut [u16],
+    fst: &mut [u16],
+    bst: &mut [u8],
+    wear: &mut [u32],
+    marks: &mut [u64],
+    lba: u32,
+    count: u32,
+    first: u32,
+    lba2: u32,
+    count2: u32,
+    first2: u32,
+    bytes: &[u8],
+    answers: &mut [u64],
+) -> u64
+    ensures { λ word. ⌜ Two (queueCall (paramsOf s alpha beta d mu gamma c n) (lentBoard (now (chip .entry)) (now (ct .entry)) (now (bt .entry)) (now (fst .entry)) (now (bst .entry)) (now (wear .entry)) (now (marks .entry))) (itemOf lba count first ∷ itemOf lba2 count2 first2 ∷ []) (now (bytes .entry)) (unset ∷ unset ∷ [])) (now (answers .entry)) word (now (answers .exit)) (lentBoard (now (chip .exit)) (now (ct .exit)) (now (bt .exit)) (now (fst .exit)) (now (bst .exit)) (now (wear .exit)) (now (marks .exit))) ⌝ }
+{
+    let p = Params {
+        s: s as usize,
+        alpha: alpha as usize,
+        beta: beta as usize,
+        d: d as usize,
+        mu: mu as usize,
+        gamma: gamma as usize,
+        C: c as usize,
+        N: n as usize,
+    };
+    let r = queue_two(
+        p,
+        chip,
+        ct,
+        bt,
+        fst,
+        bst,
+        wear,
+        marks,
+        lba,
+        count,
+        first,
+        lba2,
+        count2,
+        first2,
+        bytes,
+    );
+    let own = r.own;
+    let a = r.first;
+    let b = r.second;
+    put_two(answers, flat::pack(a), flat::pack(b));
+    flat::pack(own)
+}
