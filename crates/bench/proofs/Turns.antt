@@ -23,7 +23,7 @@ use Rattle.marks.proofs.MarkedReplies.{as-before}
 use Rattle.marks.proofs.MarkedRuns.{keeps-own, leaves-own, withMarks}
 use Rattle.layer.specs.Claims.{outcome}
 use Rattle.lines.specs.declared.Line.the-variants.{Other, Read, Write}
-use Rattle.lines.specs.Session.{requested, turn}
+use Rattle.session.specs.Session.{requested, turn}
 use Rattle.bench.specs.Turned.{Started, Turned}
 
 take-replicate : (n m x : ℕ) → n ≤ m → take n (replicate m x) ≡ replicate n x

@@ -8,7 +8,7 @@ use Rattle.rules.specs.BoardT.{boardT}
 use Rattle.rules.specs.Calls.{formatCall}
 use Rattle.rules.specs.Tables.{Board}
 use Rattle.lines.specs.declared.Line.{Line}
-use Rattle.lines.specs.Session.{turn}
+use Rattle.session.specs.Session.{turn}
 use Rattle.marks.specs.Marks.{marksOf}
 
 -- the format: the board is the one that the format leaves; accepted, the table is that board's

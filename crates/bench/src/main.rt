@@ -55,8 +55,8 @@ fn lent(count: u32) -> usize
 
 // Prints the line of a format or a write.
 fn say_counts(letter: u8, a: Answer) {
-    let mut out = lines::room();
-    let n = lines::print_counts(&mut out, letter, a);
+    let mut out = printing::room();
+    let n = printing::print_counts(&mut out, letter, a);
     io::write_all(STDOUT_FILENO, &out[..n]);
 }
 
@@ -64,15 +64,15 @@ fn say_counts(letter: u8, a: Answer) {
 fn say_read(a: Answer, bytes: &[u8])
     requires { ⌜ length (now bytes) ≤ 32 ⌝ }
 {
-    let mut out = lines::room();
-    let n = lines::print_read(&mut out, a, bytes);
+    let mut out = printing::room();
+    let n = printing::print_read(&mut out, a, bytes);
     io::write_all(STDOUT_FILENO, &out[..n]);
 }
 
 // Prints the line for a line of another form.
 fn say_unknown() {
-    let mut out = lines::room();
-    let n = lines::print_unknown(&mut out);
+    let mut out = printing::room();
+    let n = printing::print_unknown(&mut out);
     io::write_all(STDOUT_FILENO, &out[..n]);
 }
 

@@ -3,7 +3,3 @@ pub mod Numerals
 pub mod Verdict
 pub mod LongLines
 pub mod Holding
-pub mod Puts
-pub mod Digits
-pub mod Session
-pub mod ReadBack

@@ -1,4 +1,2 @@
 pub mod Grammar
-pub mod Output
 pub mod Held
-pub mod Session

@@ -6,7 +6,7 @@ use lib.ListN.{length, length-replicate}
 use lib.Seq.{length-take-le}
 use native.Mathlib.Omega.{arith}
 use borrow.Author.Needs.{needs}
-use Rattle.lines.specs.Session.{requested}
+use Rattle.session.specs.Session.{requested}
 use Rattle.bench.proofs.Turns.{sent, write-turned}
 use Rattle.bench.proofs.write.Statement.{statement}
 use Rattle.bench.proofs.write.Tie as tie

@@ -1,15 +1,15 @@
--- `lines::sectors_if` meets its contract: the test decides the case.
+-- `printing::sectors_if` meets its contract: the test decides the case.
 -- Assumes nothing.
 use Prim.Native.Nat.{_/_}
 use native.Mathlib.Nat.{le-refl}
 use borrow.Author.Tests.{eq-eqb, ne-eqb}
 use lib.ListN.{length}
-use Rattle.lines.proofs.Puts.{nothing, put-length}
-use Rattle.lines.proofs.Digits.{sectors-length}
+use Rattle.printing.proofs.Puts.{nothing, put-length}
+use Rattle.printing.proofs.Digits.{sectors-length}
 use native.Mathlib.Omega.{arith}
 use borrow.Author.Needs.{needs}
-use Rattle.lines.proofs.sectors_if.Statement.{statement}
-use Rattle.lines.proofs.sectors_if.Tie as tie
+use Rattle.printing.proofs.sectors_if.Statement.{statement}
+use Rattle.printing.proofs.sectors_if.Tie as tie
 
 sectors-requires : tie.Need-sectors-requires
 sectors-requires c κs = search needs

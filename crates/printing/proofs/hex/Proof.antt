@@ -1,17 +1,17 @@
--- `lines::hex` meets its contract. The invariant: the i bytes passed stand in hex up to e. The measure is what is left.
+-- `printing::hex` meets its contract. The invariant: the i bytes passed stand in hex up to e. The measure is what is left.
 -- Assumes nothing.
 use mathlib.Core.Path.{_≡_, refl, sym}
 use Prim.Native.Nat.{_+_, _-_, _*_, _≤_}
 use lib.ListN.{length, take, length-set}
 use native.Mathlib.Nat.{add-zero}
 use lib.Seq.{take-all}
-use Rattle.lines.specs.Output.{hex, Put}
-use Rattle.lines.proofs.Puts.{two, then, put-length}
-use Rattle.lines.proofs.Digits.{hex-turn}
+use Rattle.printing.specs.Output.{hex, Put}
+use Rattle.printing.proofs.Puts.{two, then, put-length}
+use Rattle.printing.proofs.Digits.{hex-turn}
 use borrow.Author.Needs.{needs}
 use native.Mathlib.Omega.{arith}
-use Rattle.lines.proofs.hex.Statement.{statement}
-use Rattle.lines.proofs.hex.Tie as tie
+use Rattle.printing.proofs.hex.Statement.{statement}
+use Rattle.printing.proofs.hex.Tie as tie
 
 abbrev Inv-loop : tie.InvT-loop
 Inv-loop out₀ at s e₀ i₀ out e i = (i ≤ length s) × (e ≡ at + 2 * i) × Put (hex (take i s)) at out₀ out e

@@ -12,10 +12,10 @@ use Rattle.rules.specs.Tables.{Board}
 use Rattle.rules.specs.Write.{Request}
 use Rattle.rules.specs.Calls.{formatCall, readCall, writeCall}
 use Rattle.rules.specs.BoardT.{boardT, blankT}
 use Rattle.lines.specs.declared.Line.{Line}
 use Rattle.lines.specs.declared.Line.the-variants.{Write, Read, Other}
 use Rattle.lines.specs.Grammar.{lineOf}
-use Rattle.lines.specs.Output.{countsLine, readLine, unknownLine}
+use Rattle.printing.specs.Output.{countsLine, readLine, unknownLine}
 
 -- a stream of bytes cut at each LF (10), after the bytes l of a line begun; a last line without LF counts
 unfoldable pub linesFrom : List ℕ → List ℕ → List (List ℕ)

@@ -15,7 +15,7 @@ use Rattle.lists.specs.Below.{joinBelow}
 use Rattle.lists.specs.Parts.{part}
 use Rattle.lists.proofs.Parts.{part-length}
 use Rattle.lists.proofs.Joins.{join-length}
-use Rattle.lines.specs.Output.{digit, decimalUpTo, decimal, hex, sectors}
+use Rattle.printing.specs.Output.{digit, decimalUpTo, decimal, hex, sectors}
 
 -- ---- decimal
 

@@ -8,7 +8,7 @@ use native.Mathlib.Numerals.{add-one}
 use native.Mathlib.Omega.{arith}
 use lib.ListN.{length, take, drop, set, length-append}
 use lib.Seq.{sets, sets-eq, length-sets, take-at, drop-at}
-use Rattle.lines.specs.Output.{Put, Printed}
+use Rattle.printing.specs.Output.{Put, Printed}
 
 pub one : (l : List ℕ) (at b : ℕ) → Put (b ∷ []) at l (set l at b) (at + 1)
 one l at b = record { next = refl; stored = refl }

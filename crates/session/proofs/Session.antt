@@ -17,11 +17,11 @@ use Rattle.rules.specs.Write.{all-write}
 use Rattle.rules.specs.Replies.{all-replies}
 use Rattle.rules.specs.Calls.{all-calls}
 use Rattle.rules.specs.BoardT.{all-boardT}
 use Rattle.lines.specs.declared.Line.{Line}
 use Rattle.lines.specs.declared.Line.the-variants.{Write, Read, Other}
 use Rattle.lines.specs.Grammar.{lineOf, all-grammar}
-use Rattle.lines.specs.Output.{all-output}
-use Rattle.lines.specs.Session.{bench, bytesOf, exampleInput, exampleOutput, all-session}
+use Rattle.printing.specs.Output.{all-output}
+use Rattle.session.specs.Session.{bench, bytesOf, exampleInput, exampleOutput, all-session}
 use Prim.Native.String.{String}
 
 example-test : sameList (bench (bytesOf exampleInput)) (bytesOf exampleOutput) ≡ true

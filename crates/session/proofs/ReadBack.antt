@@ -9,9 +9,9 @@ use borrow.Author.Tests.{le-leb, lt-ltb, ltb-true, ltb-false}
 use lib.Dec.{ltb}
 use lib.ListN.{length, length-append}
 use Rattle.lists.proofs.Tests.{and-intro, and-map}
 use Rattle.lines.specs.Grammar.{isDigit, allDigits, valueFrom, valueOf, isNumber}
-use Rattle.lines.specs.Output.{digit, decimalUpTo, decimal}
-use Rattle.lines.proofs.Digits.{decimal-length, tenth}
+use Rattle.printing.specs.Output.{digit, decimalUpTo, decimal}
+use Rattle.printing.proofs.Digits.{decimal-length, tenth}
 
 digit-is : (d : ℕ) → d < 10 → digit d ≡ 48 + d
 unfolding digit

@@ -1,13 +1,13 @@
--- `lines::print_counts` meets its contract: the letter, three numbers after tabs, and the line's end, one after the other.
+-- `printing::print_counts` meets its contract: the letter, three numbers after tabs, and the line's end, one after the other.
 -- Assumes nothing.
 use mathlib.Core.Path.{_∙_}
 use lib.ListN.{length-set}
-use Rattle.lines.specs.Output.{countsLine}
-use Rattle.lines.proofs.Puts.{one, then, put-length, printed}
+use Rattle.printing.specs.Output.{countsLine}
+use Rattle.printing.proofs.Puts.{one, then, put-length, printed}
 use native.Mathlib.Omega.{arith}
 use borrow.Author.Needs.{needs}
-use Rattle.lines.proofs.print_counts.Statement.{statement}
-use Rattle.lines.proofs.print_counts.Tie as tie
+use Rattle.printing.proofs.print_counts.Statement.{statement}
+use Rattle.printing.proofs.print_counts.Tie as tie
 
 slice-write-out : tie.Need-slice-write-out
 slice-write-out c = search needs

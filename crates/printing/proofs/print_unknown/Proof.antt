@@ -1,10 +1,10 @@
--- `lines::print_unknown` meets its contract: two bytes are put from the start on.
+-- `printing::print_unknown` meets its contract: two bytes are put from the start on.
 -- Assumes nothing.
-use Rattle.lines.specs.Output.{unknownLine}
-use Rattle.lines.proofs.Puts.{two, printed}
+use Rattle.printing.specs.Output.{unknownLine}
+use Rattle.printing.proofs.Puts.{two, printed}
 use borrow.Author.Needs.{needs}
-use Rattle.lines.proofs.print_unknown.Statement.{statement}
-use Rattle.lines.proofs.print_unknown.Tie as tie
+use Rattle.printing.proofs.print_unknown.Statement.{statement}
+use Rattle.printing.proofs.print_unknown.Tie as tie
 
 slice-write-out : tie.Need-slice-write-out
 slice-write-out c = search needs

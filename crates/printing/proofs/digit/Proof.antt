@@ -1,10 +1,10 @@
--- `lines::digit` meets its contract: the test decides the case.
+-- `printing::digit` meets its contract: the test decides the case.
 -- Assumes nothing.
 use borrow.Author.Tests.{lt-ltb, le-ltb}
-use Rattle.lines.specs.Output.{digit}
+use Rattle.printing.specs.Output.{digit}
 use borrow.Author.Needs.{needs}
-use Rattle.lines.proofs.digit.Statement.{statement}
-use Rattle.lines.proofs.digit.Tie as tie
+use Rattle.printing.proofs.digit.Statement.{statement}
+use Rattle.printing.proofs.digit.Tie as tie
 
 add-result : tie.Need-add-result
 add-result c = search needs

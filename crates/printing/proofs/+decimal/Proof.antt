@@ -1,19 +1,19 @@
--- `lines::decimal` meets its contract. It calls itself with a tenth of the number, which is the measure.
+-- `printing::decimal` meets its contract. It calls itself with a tenth of the number, which is the measure.
 -- Assumes nothing.
 use lib.ListN.{length-set}
-use Rattle.lines.proofs.Puts.{one, then, put-length}
-use Rattle.lines.proofs.Digits.{decimal-small, decimal-large, tenth-length}
+use Rattle.printing.proofs.Puts.{one, then, put-length}
+use Rattle.printing.proofs.Digits.{decimal-small, decimal-large, tenth-length}
 use borrow.Author.Needs.{needs}
 use native.Mathlib.Omega.{arith}
 use Prim.Native.Nat.{ℕ, _<_}
 use borrow.Fn.Kinds.{In}
 use borrow.Fn.PlainCycle.{Measures, is, falls, and}
-use Rattle.lines.proofs.decimal.Reads as decimal
-use Rattle.lines.proofs.decimal.Kinds as decimal-kinds
-use Rattle.lines.proofs.+decimal.Lts-decimal as decimal-lts
-use Rattle.lines.proofs.digit.Reads as digit-reads
-use Rattle.lines.proofs.+decimal.{statement}
-use Rattle.lines.proofs.+decimal.Tie.{close}
+use Rattle.printing.proofs.decimal.Reads as decimal
+use Rattle.printing.proofs.decimal.Kinds as decimal-kinds
+use Rattle.printing.proofs.+decimal.Lts-decimal as decimal-lts
+use Rattle.printing.proofs.digit.Reads as digit-reads
+use Rattle.printing.proofs.+decimal.{statement}
+use Rattle.printing.proofs.+decimal.Tie.{close}
 
 abbrev μ-decimal : Measures 1 decimal-kinds.ps ℕ
 μ-decimal κs a = a .1 .1 .0

@@ -1,14 +1,14 @@
--- `lines::print_read` meets its contract: the letter, the reply after a tab, the sectors, and the line's end, one after the other.
+-- `printing::print_read` meets its contract: the letter, the reply after a tab, the sectors, and the line's end, one after the other.
 -- Assumes nothing.
 use mathlib.Core.Path.{_∙_}
 use lib.ListN.{length-set}
 use Rattle.rules.specs.Replies.{isAccepted}
-use Rattle.lines.specs.Output.{readLine}
-use Rattle.lines.proofs.Puts.{one, then, put-length, printed}
+use Rattle.printing.specs.Output.{readLine}
+use Rattle.printing.proofs.Puts.{one, then, put-length, printed}
 use native.Mathlib.Omega.{arith}
 use borrow.Author.Needs.{needs}
-use Rattle.lines.proofs.print_read.Statement.{statement}
-use Rattle.lines.proofs.print_read.Tie as tie
+use Rattle.printing.proofs.print_read.Statement.{statement}
+use Rattle.printing.proofs.print_read.Tie as tie
 
 number-requires : tie.Need-number-requires
 number-requires c κs = search needs

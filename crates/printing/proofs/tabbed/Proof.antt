@@ -1,13 +1,13 @@
--- `lines::tabbed` meets its contract: a tab, and then the number.
+-- `printing::tabbed` meets its contract: a tab, and then the number.
 -- Assumes nothing.
 use mathlib.Core.Path.{_∙_}
 use lib.ListN.{length-set}
-use Rattle.lines.proofs.Puts.{one, then, put-length}
-use Rattle.lines.proofs.Digits.{decimal-length}
+use Rattle.printing.proofs.Puts.{one, then, put-length}
+use Rattle.printing.proofs.Digits.{decimal-length}
 use native.Mathlib.Omega.{arith}
 use borrow.Author.Needs.{needs}
-use Rattle.lines.proofs.tabbed.Statement.{statement}
-use Rattle.lines.proofs.tabbed.Tie as tie
+use Rattle.printing.proofs.tabbed.Statement.{statement}
+use Rattle.printing.proofs.tabbed.Tie as tie
 
 slice-write-out : tie.Need-slice-write-out
 slice-write-out c = search needs

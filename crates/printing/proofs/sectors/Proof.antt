@@ -1,16 +1,16 @@
--- `lines::sectors` meets its contract. The invariant: the j sectors passed stand in hex up to e. The measure is the sectors that are left.
+-- `printing::sectors` meets its contract. The invariant: the j sectors passed stand in hex up to e. The measure is the sectors that are left.
 -- Assumes nothing.
 use mathlib.Core.Path.{_≡_, refl}
 use Prim.Native.Nat.{_+_, _-_, _*_, _/_, _≤_}
 use lib.ListN.{length, length-set}
 use Rattle.lists.specs.Below.{joinBelow}
-use Rattle.lines.specs.Output.{sectors, Put}
-use Rattle.lines.proofs.Puts.{one, then, nothing, put-length}
-use Rattle.lines.proofs.Digits.{sectors-turn, sectors-length, sector-bytes}
+use Rattle.printing.specs.Output.{sectors, Put}
+use Rattle.printing.proofs.Puts.{one, then, nothing, put-length}
+use Rattle.printing.proofs.Digits.{sectors-turn, sectors-length, sector-bytes}
 use borrow.Author.Needs.{needs}
 use native.Mathlib.Omega.{arith}
-use Rattle.lines.proofs.sectors.Statement.{statement}
-use Rattle.lines.proofs.sectors.Tie as tie
+use Rattle.printing.proofs.sectors.Statement.{statement}
+use Rattle.printing.proofs.sectors.Tie as tie
 
 abbrev Inv-loop : tie.InvT-loop
 Inv-loop out₀ at bytes k e₀ j₀ out e j = (j ≤ k) × (k ≡ length bytes / 16) × (e ≡ at + 33 * j) × Put (sectors j bytes) at out₀ out e
