@@ -44,8 +44,8 @@ use Rattle.reading.specs.Sectors.{ReadAsked}
 use Rattle.reading.proofs.Requests.{read-asked}
 use Rattle.reading.proofs.Views.{lookup-of}
 use Rattle.writing.specs.Clusters.{Gives}
-use Rattle.writing.specs.Keeping.{UnmarkAsked}
-use Rattle.writing.proofs.Keeping.{old-is, unmark-asked}
+use Rattle.keeping.specs.Keeping.{UnmarkAsked}
+use Rattle.keeping.proofs.Keeping.{old-is, unmark-asked}
 use Rattle.layer.specs.Claims.{outcome}
 
 -- ---- any call, with the table of marks

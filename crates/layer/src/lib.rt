@@ -143,7 +143,7 @@ pub fn release(
     }
     let c = Cluster(cluster as usize);
     let old = reading::find_frame(p, chip, ct, bt, c);
-    writing::unmark(p, marks, rules::region_of(p, c), old);
+    keeping::unmark(p, marks, rules::region_of(p, c), old);
     tables::set_ct(ct, c, Segment(65535));
     replies::idle(reply)
 }

@@ -11,7 +11,7 @@ use Rattle.rules.specs.Regions.{viewOf}
 use Rattle.rules.specs.Tables.{boardOf}
 use Rattle.rules.specs.Write.{planOf, reclaims}
 use Rattle.marks.specs.Marks.{marksOf}
-use Rattle.writing.specs.Plans.{PlanAsked}
+use Rattle.planning.specs.Plans.{PlanAsked}
 
 -- the plan can be made; and with some CT, BST and wear, the marks are the board's, and a virtual block that a write reclaims is one of the region's
 pub record ForecastAsked (p : Params) (chip bt fst marks : List ℕ) (r : ℕ) : Type 0 where

@@ -11,6 +11,7 @@ ghost use Rattle.reading.specs.Lookup.{Within};
 ghost use Rattle.why.specs.Asked.{ForecastAsked, PlaceAsked};
 ghost use Rattle.why.specs.Why.{Small, forecastNumbers, holderOf, markedWhy, numbersOf, placeNumbers, planNumbers};
 use broken::Rule;
+use planning::Planned;
 use reading::Found;
 use rules::Cluster;
 use rules::PBlock;
@@ -18,7 +19,6 @@ use rules::Params;
 use rules::Reply;
 use rules::Segment;
 use rules::VBlock;
-use writing::Planned;
 
 // Where a cluster is held: its region, its segment, the virtual and the physical block, and the frame of that block.
 pub struct Place {
@@ -50,7 +50,7 @@ fn forecast_of(p: Params, chip: &[u8], bt: &[u16], fst: &[u16], marks: &[u64], r
     ensures { λ fc. ⌜ ((ct bst wear : List ℕ) → now (marks .entry) ≡ marksOf p (boardOf (now (chip .entry)) ct (now (bt .entry)) (now (fst .entry)) bst wear)
         → forecastNumbers fc ≡ planNumbers p (viewOf p (now (chip .entry)) ct (now (bt .entry)) (now (fst .entry)) r) (planOf p (viewOf p (now (chip .entry)) ct (now (bt .entry)) (now (fst .entry)) r))) ⌝ }
 {
-    match writing::plan_of(p, chip, bt, fst, marks, r) {
+    match planning::plan_of(p, chip, bt, fst, marks, r) {
         Planned::Continues(v, f) => Forecast::Continues(v, f),
         Planned::Opens(v) => Forecast::Opens(v),
         Planned::Reclaims(v) => Forecast::Reclaims(v, marking::count_marks(p, marks, r, v)),

@@ -1,17 +1,16 @@
 -- A plan has made room: the board stands ready for the host's frame, and with that frame it is what the rules say.
 -- Assumes nothing.
-use mathlib.Core.Path.{_≡_, refl, sym, ap, _∙_}
+use mathlib.Core.Path.{_≡_, refl, sym, _∙_}
 use mathlib.Core.Logic.{_⊎_, inl, inr}
 use mathlib.Core.Bool.{Bool, true, false, not, _&&_, cond}
-use mathlib.Core.List.{List, [], _∷_, _++_, map}
-use Prim.Native.Nat.{ℕ, zero, suc, _+_, _*_, _-_, _/_, _%_, _^_, _≤_, _<_}
+use mathlib.Core.List.{List, []}
+use Prim.Native.Nat.{ℕ, _+_, _*_, _-_, _/_, _%_, _^_, _≤_, _<_}
 use native.Mathlib.Omega.{arith}
 use native.Mathlib.Decide.{ℕ-discrete}
 use native.Mathlib.Nat.{mod-lt}
 use lib.ListN.{length, getD, set, length-set}
 use lib.Seq.{getD-set-same, getD-set-other, set-getD}
 use Rattle.writing.specs.Clusters.{Standing, ClusterPut}
-use Rattle.lists.specs.Below.{joinBelow}
 use Rattle.rules.specs.declared.Params.{Params}
 use Rattle.rules.specs.Parameters.{frames, frameBytes, blockBytes}
 use Rattle.rules.specs.Numbers.{clusterOf, sectorOf, regionOf, segmentOf}
@@ -19,7 +18,7 @@ use Rattle.rules.specs.Write.{requestCluster, Request, Plan, continues, opens, 
 use Rattle.rules.specs.Tables.{Board, boardOf, none, ctAt, btAt, fstAt, btEntry}
 use Rattle.rules.specs.Regions.{View, view, viewOf, sectorIn}
 use Rattle.lists.specs.Parts.{putPart}
-use Rattle.rules.specs.Traces.{Op, program, erase, replayChip, replayWear, onWear, frameOps, framesOps}
+use Rattle.rules.specs.Traces.{program, erase, replayChip, replayWear}
 use Rattle.rules.proofs.Sizes.{Sizes}
 use Rattle.lists.proofs.Parts.{next}
 use Rattle.lists.proofs.Joins.{join-cong}
@@ -32,31 +31,13 @@ use Rattle.rules.proofs.Views.{body-size}
 use Rattle.rules.proofs.NewFrames.{host-sheet}
 use Rattle.rules.proofs.Continues.{Makes}
 use Rattle.rules.proofs.Admitted.{Admitted}
+use Rattle.rooms.proofs.Worn.{wear-append, frame-wear}
 
 room-last : (p : Params) (vw : View) (pl : Plan) → (withRoom p vw pl) .lastSeg ≡ vw .lastSeg
 unfolding withRoom
 room-last p vw (continues v f) = refl
 room-last p vw (opens v) = refl
 room-last p vw (reclaims v) = refl
-
-pub wear-append : (wear : List ℕ) (xs ys : List Op) → replayWear wear (xs ++ ys) ≡ replayWear (replayWear wear xs) ys
-unfolding replayWear
-wear-append wear [] ys = refl
-wear-append wear (o ∷ xs) ys = wear-append (onWear wear o) xs ys
-
-pub frame-wear : (p : Params) (n f : ℕ) (x : List ℕ) (wear : List ℕ) (k : ℕ) → replayWear wear (frameOps p n f x k) ≡ wear
-unfolding frameOps joinBelow replayWear onWear
-frame-wear p n f x wear zero = refl
-frame-wear p n f x wear (suc k) = wear-append wear (frameOps p n f x k) _ ∙ frame-wear p n f x wear k
-
-pub frames-wear : (p : Params) (n to : ℕ) (xs : List (List ℕ)) (wear : List ℕ) → replayWear wear (framesOps p n to xs) ≡ wear
-unfolding framesOps replayWear
-frames-wear p n to [] wear = refl
-frames-wear p n to (x ∷ xs) wear = wear-append wear (frameOps p n to x (p .alpha)) _ ∙ rw (frame-wear p n to x wear (p .alpha)) (frames-wear p n (suc to) xs wear)
-
-pub map-length : (g : ℕ → List ℕ) (xs : List ℕ) → length (map g xs) ≡ length xs
-map-length g [] = refl
-map-length g (x ∷ xs) = ap suc (map-length g xs)
 
 module _ (p : Params) (b : Board) (q : Request) (acc : Admitted p b q) (pl : Plan) (makes : Makes p b (requestRegion p q) pl) where
   abbrev r : ℕ

@@ -43,11 +43,11 @@ use Rattle.rules.proofs.WritePromise.{makes, counts, copies-few, erase-counts}
 use Rattle.choose.specs.Search.{Pool}
 use Rattle.reclaim.specs.Moves.{FromTo}
 use Rattle.reading.specs.Lookup.{Lookup, Stands, Within}
-use Rattle.writing.specs.Plans.{OpenFrames, PlanAsked}
-use Rattle.writing.specs.Rooms.{OpenAsked, ReclaimReady, RoomAsked, RoomMade}
-use Rattle.writing.specs.Clusters.{Standing, ClusterPut, acceptedAnswer, Gives}
-use Rattle.writing.specs.Keeping.{UnmarkAsked, keptMarks}
-use Rattle.writing.proofs.Keeping.{old-is, room-is, unmark-asked}
+use Rattle.planning.specs.Plans.{OpenFrames, PlanAsked}
+use Rattle.rooms.specs.Rooms.{OpenAsked, ReclaimReady, RoomAsked, RoomMade}
+use Rattle.writing.specs.Clusters.{Standing, ClusterPut, Gives}
+use Rattle.keeping.specs.Keeping.{UnmarkAsked, keptMarks, acceptedAnswer}
+use Rattle.keeping.proofs.Keeping.{old-is, room-is, unmark-asked}
 use Rattle.writing.proofs.Made as made
 use Rattle.writing.proofs.Put.{lookup}
 

@@ -8,7 +8,6 @@ use Prim.Native.Nat.{ℕ, _+_, _*_, _<_}
 use lib.ListN.{length, set}
 use Rattle.lists.specs.Parts.{putPart}
 use Rattle.rules.specs.declared.Params.{Params}
-use Rattle.rules.specs.declared.Reply.the-variants.{Accepted}
 use Rattle.rules.specs.declared.Answer.{Answer}
 use Rattle.rules.specs.Parameters.{allowed, frames, frameBytes, blockBytes}
 use Rattle.rules.specs.Numbers.{segmentOf}
@@ -36,10 +35,6 @@ pub record ClusterPut (p : Params) (b : Board) (q : Request) (v f : ℕ) (chip�
   pub chip : chip′ ≡ putPart (frameBytes p) (btAt p (b .bt) (requestRegion p q) v * frames p + f) (newFrame p (view p b (requestRegion p q)) q) (b .chip)
   pub ct : ct′ ≡ set (b .ct) (requestCluster p q) (segmentOf p v f)
   pub fst : fst′ ≡ set (b .fst) (requestRegion p q) (segmentOf p v f)
-
--- "A write reports α × (frames copied + 1) pages programmed"
-abbrev pub acceptedAnswer : Params → ℕ → ℕ → Answer
-acceptedAnswer p copied erases = record { reply = Accepted; programs = p .alpha * (copied + 1); erases = erases }
 
 -- the answer and the board are the outcome's
 pub record Gives (o : Outcome) (a : Answer) (b : Board) : Type 0 where

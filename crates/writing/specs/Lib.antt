@@ -1,4 +1,1 @@
-pub mod Plans
-pub mod Rooms
 pub mod Clusters
-pub mod Keeping

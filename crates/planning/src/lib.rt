@@ -1,0 +1,52 @@
+// Document 01, "Write", on a state that is known to be orderly: where the write goes.
+ghost use mathlib.Core.Path.{_≡_};
+ghost use mathlib.Core.List.{List};
+ghost use Prim.Native.Nat.{ℕ};
+ghost use lib.ListN.{length};
+ghost use Rattle.rules.specs.Tables.{boardOf};
+ghost use Rattle.rules.specs.Regions.{viewOf};
+ghost use Rattle.rules.specs.Write.{planOf};
+ghost use Rattle.marks.specs.Marks.{marksLength, marksOf};
+ghost use Rattle.planning.specs.Plans.{PlanAsked, nextIn, planIs};
+use rules::Params;
+use rules::VBlock;
+
+// Where a write goes: frame f of the open virtual block; a virtual block that takes a free block; a virtual block that is reclaimed.
+pub enum Planned {
+    Continues(VBlock, usize),
+    Opens(VBlock),
+    Reclaims(VBlock),
+}
+
+// The frame after the programmed ones of region r's open block, which is in the segment that FST names or just after it; F where there is no open block.
+fn next_frame(p: Params, chip: &[u8], bt: &[u16], fst: &[u16], r: usize) -> usize
+    requires { ⌜ PlanAsked p (now chip) (now bt) (now fst) r ⌝ }
+    ensures { λ f. ⌜ f ≡ nextIn p (now (chip .entry)) (now (bt .entry)) (now (fst .entry)) r ⌝ }
+{
+    let sg = tables::fst_at(fst, r);
+    if sg.0 == 65535 {
+        return sizes::frames(p);
+    }
+    let v = rules::vblock_of(p, sg);
+    let n = tables::bt_at(p, bt, r, v);
+    let from = rules::place_of(p, sg) * p.beta;
+    blocks::next_free(p, blocks::block_of(p, chip, n), from)
+}
+
+// The plan of a write to region r.
+pub fn plan_of(p: Params, chip: &[u8], bt: &[u16], fst: &[u16], marks: &[u64], r: usize) -> Planned
+    requires { ⌜ PlanAsked p (now chip) (now bt) (now fst) r ⌝ }
+    requires { ⌜ length (now marks) ≡ marksLength p ⌝ }
+    ensures { λ pl. ⌜ ((ct bst wear : List ℕ) → now (marks .entry) ≡ marksOf p (boardOf (now (chip .entry)) ct (now (bt .entry)) (now (fst .entry)) bst wear)
+        → planIs pl ≡ planOf p (viewOf p (now (chip .entry)) ct (now (bt .entry)) (now (fst .entry)) r)) ⌝ }
+{
+    let f = next_frame(p, chip, bt, fst, r);
+    if f < sizes::frames(p) {
+        return Planned::Continues(rules::vblock_of(p, tables::fst_at(fst, r)), f);
+    }
+    let v = choose::lowest_unassigned(p, bt, r);
+    if v.0 != 65535 {
+        return Planned::Opens(v);
+    }
+    Planned::Reclaims(choose::victim(p, marks, r))
+}

@@ -1,0 +1,2 @@
+pub mod Worn
+pub mod Rooms
