@@ -3,6 +3,8 @@
 -- Assumes nothing.
 use mathlib.Core.Path.{_≡_, refl}
 use mathlib.Core.Bool.{true}
+use mathlib.Core.List.{List, [], _∷_}
+use Prim.Native.Nat.{ℕ}
 use Rattle.lists.specs.Below.{all-below}
 use Rattle.lists.specs.Parts.{sameList, all-parts}
 use Rattle.lists.proofs.Joins.{sameList→eq}
@@ -21,7 +23,7 @@ use Rattle.lines.specs.declared.Line.{Line}
 use Rattle.lines.specs.declared.Line.the-variants.{Write, Read, Other}
 use Rattle.lines.specs.Grammar.{lineOf, all-grammar}
 use Rattle.printing.specs.Output.{all-output}
-use Rattle.session.specs.Session.{bench, bytesOf, exampleInput, exampleOutput, all-session}
+use Rattle.session.specs.Session.{bench, bytesOf, exampleInput, exampleOutput, linesFrom, all-session}
 use Prim.Native.String.{String}
 
 example-test : sameList (bench (bytesOf exampleInput)) (bytesOf exampleOutput) ≡ true
@@ -31,6 +33,21 @@ example-test = refl
 -- "The whole output"
 pub example-as-printed : bench (bytesOf exampleInput) ≡ bytesOf exampleOutput
 example-as-printed = sameList→eq (bench (bytesOf exampleInput)) (bytesOf exampleOutput) example-test
+
+-- ---- the lines of a stream
+
+abbrev pub cut : String → List (List ℕ)
+cut s = linesFrom [] (bytesOf s)
+
+-- "Lines end at LF", and a last line without LF counts
+pub last-line-counts : cut "R\t4\t2\nF" ≡ bytesOf "R\t4\t2" ∷ bytesOf "F" ∷ []
+unfolding all-session
+last-line-counts = refl
+
+-- an empty line is a line, and nothing after the last LF is none
+pub empty-line-counts : cut "\n\n" ≡ [] ∷ [] ∷ []
+unfolding all-session
+empty-line-counts = refl
 
 -- ---- one line
 
