@@ -73,8 +73,3 @@ queueCall p x items bytes answers =
     cond (isAccepted r)
     (queueOutcome (answerOf r []) (map answerIn (markedOutcomes p x ws) ++ drop (length items) answers) (markedAfter p x ws))
     (queueOutcome (answerOf r []) answers x)
-
--- every definition of this file, for an `unfolding` line
-unfoldable pub all-queue : Unit {0}
-unfolding lies itemRequest itemWrite itemWrites tooFewAnswers queueReply answerIn queueCall
-all-queue = tt

@@ -154,8 +154,3 @@ QueueCondition3 =
     → noFormat (singlesOf p (markedLeaves p x format) cs) ≡ true → noFormat (singlesOf p (markedLeaves p x′ format) cs′) ≡ true
     → (r : ℕ) → r < p .mu → requestsTo p r (singlesOf p (markedLeaves p x format) cs) ≡ requestsTo p r (singlesOf p (markedLeaves p x′ format) cs′)
     → SameQueuedRegion p r x x′ (single format ∷ cs) (single format ∷ cs′)
-
--- every definition of this file, for an `unfolding` line
-unfoldable pub all-queue-runs : Unit {0}
-unfolding queueRows singles queuedLeaves toldOf queuedTold singlesOf queuedAfter queuedRunTold disorderedReply disorderedAnswer toldTo
-all-queue-runs = tt
