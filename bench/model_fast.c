@@ -360,6 +360,21 @@ static struct board make_board(uint32_t s, uint32_t alpha, uint32_t beta,
     return b;
 }
 
+/* The chip and the tables that a call looks at. */
+static void look_at(struct board *b, const uint8_t *chip, const uint16_t *ct,
+                    const uint16_t *bt, const uint16_t *fst,
+                    const uint8_t *bst, const uint32_t *wear,
+                    const uint64_t *marks)
+{
+    b->chip = chip;
+    b->ct = ct;
+    b->bt = bt;
+    b->fst = fst;
+    b->bst = bst;
+    b->wear = wear;
+    b->marks = marks;
+}
+
 /* reply + 65,536 * programs + 4,294,967,296 * erases */
 static uint64_t answer(uint32_t reply, uint32_t programs, uint32_t erases)
 {
@@ -628,13 +643,7 @@ uint64_t fast_read(uint32_t s, uint32_t alpha, uint32_t beta, uint32_t d,
                                   bst_len, wear_len, marks_len);
     size_t frame;
 
-    b.chip = chip;
-    b.ct = ct;
-    b.bt = bt;
-    b.fst = fst;
-    b.bst = bst;
-    b.wear = wear;
-    b.marks = marks;
+    look_at(&b, chip, ct, bt, fst, bst, wear, marks);
     if (reply == ACCEPTED)
         reply = refuse_request(&b, lba, count, data_len);
     if (reply != ACCEPTED)
@@ -666,13 +675,7 @@ uint64_t fast_write(uint32_t s, uint32_t alpha, uint32_t beta, uint32_t d,
     uint32_t reply = refuse_board(&b, chip_len, ct_len, bt_len, fst_len,
                                   bst_len, wear_len, marks_len);
 
-    b.chip = chip;
-    b.ct = ct;
-    b.bt = bt;
-    b.fst = fst;
-    b.bst = bst;
-    b.wear = wear;
-    b.marks = marks;
+    look_at(&b, chip, ct, bt, fst, bst, wear, marks);
     if (reply == ACCEPTED)
         reply = refuse_request(&b, lba, count, data_len);
     if (reply != ACCEPTED)
@@ -716,13 +719,7 @@ uint64_t fast_queue(uint32_t s, uint32_t alpha, uint32_t beta, uint32_t d,
                                   bst_len, wear_len, marks_len);
     bool in_order;
 
-    b.chip = chip;
-    b.ct = ct;
-    b.bt = bt;
-    b.fst = fst;
-    b.bst = bst;
-    b.wear = wear;
-    b.marks = marks;
+    look_at(&b, chip, ct, bt, fst, bst, wear, marks);
     if (reply == ACCEPTED && requests_len % 3 != 0)
         reply = WRONG_LENGTH;
     if (reply == ACCEPTED && answers_len < requests_len / 3)
