@@ -40,7 +40,7 @@ pub record Names (p : Params) (b : Board) : Type 0 where
   pub low : (r v : ℕ) → r < p .mu → v < p .gamma → (btAt p (b .bt) r v ≡ none → ⊥) → btAt p (b .bt) r v < p .N
 
 -- a used block is full exactly if its last frame is programmed
-last-full : (p : Params) → Sizes p → (r : ℕ) (blk : List ℕ) → blockRule p r blk ≡ true → eqb (filled p blk) (frames p) ≡ programmed p (frame p blk (frames p - 1))
+pub last-full : (p : Params) → Sizes p → (r : ℕ) (blk : List ℕ) → blockRule p r blk ≡ true → eqb (filled p blk) (frames p) ≡ programmed p (frame p blk (frames p - 1))
 unfolding blockRule
 last-full p z r blk h = go (up-to p r (filled p blk) blk (and-right (ltb 0 (filled p blk)) h)) (ℕ-discrete (filled p blk) (frames p))
   where

@@ -21,6 +21,10 @@ vblockOk p chip bt bst r v =
     cond (eqb (btAt p bt r v) none) true
     (differs p bt r v && (eqb (bstAt bst (btAt p bt r v)) 1 && blockRule p r (block p chip (btAt p bt r v))))
 
+-- how many of its frames are programmed, where it is so: all of them where there is no block; 0 where it is not so
+unfoldable pub vblockFrames : Params → List ℕ → List ℕ → List ℕ → ℕ → ℕ → ℕ
+vblockFrames p chip bt bst r v = cond (vblockOk p chip bt bst r v) (cond (eqb (btAt p bt r v) none) (frames p) (filled p (block p chip (btAt p bt r v)))) 0
+
 -- virtual block v is the open block, or has no block, or is full: its frames are programmed in order, so the last one tells
 unfoldable pub fullOk : Params → List ℕ → List ℕ → ℕ → ℕ → ℕ → Bool
 fullOk p chip bt r o v =

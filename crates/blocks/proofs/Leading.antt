@@ -3,23 +3,22 @@
 -- Assumes nothing.
 use mathlib.Core.Path.{_≡_, ap, sym, _∙_}
 use mathlib.Core.Logic.{_⊎_, inl, inr}
-use mathlib.Core.Bool.{Bool, _&&_, false, true}
+use mathlib.Core.Bool.{cond, false, not, true}
 use mathlib.Core.List.{List}
 use Prim.Native.Nat.{ℕ, zero, suc, _*_, _+_, _-_, _<_, _≤_}
 use native.Mathlib.Decide.{decLt}
 use native.Mathlib.Omega.{arith}
-use lib.Dec.{ltb}
+use lib.Dec.{eqb, ltb}
 use native.Mathlib.Nat.{add-mul, zero-mul}
 use lib.ListN.{drop, length, length-drop, take}
 use lib.Seq.{take-all}
-use borrow.Author.Tests.{lt-ltb, ltb-true}
+use borrow.Author.Tests.{lt-ltb, ltb-true, ne-eqb}
 use Rattle.lists.specs.Below.{allBelow}
 use Rattle.lists.specs.Parts.{allAre, part}
-use Rattle.lists.proofs.Parts.{next}
 use Rattle.lists.proofs.Tests.{all-at, and-left, and-right, never, so}
 use Rattle.loops.proofs.Elements.{parts-fail, parts-more, part-from}
 use Rattle.rules.specs.declared.Params.{Params}
-use Rattle.rules.specs.Orderly.{blockRule, goodFrame, goodUpTo}
+use Rattle.rules.specs.Orderly.{blockRule, goodFrame}
 use Rattle.rules.specs.Pages.{filled, frame}
 use Rattle.rules.specs.Parameters.{blockBytes, frameBytes, frames}
 use Rattle.rules.proofs.Frames.{erased-not, marked-programmed}
@@ -60,7 +59,7 @@ module _ (p : Params) (z : Sizes p) (r : ℕ) (blk : List ℕ) (size : length bl
   good-at f h = good-frame p r (frame p blk f) (all-at k _ good f h)
 
   -- a used block has these frames programmed
-  filled-is : blockRule p r blk ≡ true → filled p blk ≡ k
+  pub filled-is : blockRule p r blk ≡ true → filled p blk ≡ k
   unfolding blockRule
   filled-is h = go (up-to p r (filled p blk) blk (and-right (ltb 0 (filled p blk)) h)) (decLt (filled p blk) k) (decLt k (filled p blk))
     where
@@ -102,3 +101,13 @@ module _ (p : Params) (z : Sizes p) (r : ℕ) (blk : List ℕ) (size : length bl
       go (inl t) s = t ∙ sym (used some t)
       go (inr t) (inr h) = t ∙ sym h
       go (inr t) (inl h) = absurd (never (rest-erased h) t)
+
+-- a used block has a programmed frame, so that 0 is left for one that is not used
+pub used-some : (p : Params) (r : ℕ) (blk : List ℕ) → not (eqb (cond (blockRule p r blk) (filled p blk) 0) 0) ≡ blockRule p r blk
+used-some p r blk = go (so (blockRule p r blk))
+  where
+    go : (blockRule p r blk ≡ true) ⊎ (blockRule p r blk ≡ false) → not (eqb (cond (blockRule p r blk) (filled p blk) 0) 0) ≡ blockRule p r blk
+    go (inl h) =
+        let some : 0 < filled p blk = ltb-true 0 (filled p blk) (unfold blockRule in and-left (ltb 0 (filled p blk)) _ h) in
+        rw (h, ne-eqb (filled p blk) 0 (λ e. omega (arith, some, e)))
+    go (inr h) = rw h

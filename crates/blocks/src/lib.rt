@@ -1,6 +1,6 @@
 // One block of the chip, read: its frames, the clusters that they hold, and whether it is as its region wants it.
 ghost use mathlib.Core.Path.{_≡_};
-ghost use mathlib.Core.Bool.{false, true};
+ghost use mathlib.Core.Bool.{cond, false, true};
 ghost use Prim.Native.Nat.{ℕ, _*_, _-_, _≤_, _<_};
 ghost use lib.ListN.{drop, length};
 ghost use Rattle.lists.specs.Below.{allBelow};
@@ -158,17 +158,29 @@ fn rest_erased(p: Params, blk: &[u8], k: usize) -> bool
     nand::are_erased(&blk[a..], page, m)
 }
 
+// How many frames of the block are programmed, if it is a used block of region r; 0 if it is not one.
+pub fn used_frames(p: Params, r: usize, blk: &[u8]) -> usize
+    requires { ⌜ allowed p ≡ true ⌝ }
+    requires { ⌜ length (now blk) ≡ blockBytes p ⌝ }
+    ensures { λ k. ⌜ k ≡ cond (blockRule p r (now (blk .entry))) (filled p (now (blk .entry))) 0 ⌝ }
+{
+    let k = good_frames(p, r, blk);
+    if k == 0 {
+        return 0;
+    }
+    if !rest_erased(p, blk, k) {
+        return 0;
+    }
+    k
+}
+
 // Is the block a used block of region r?
 pub fn block_ok(p: Params, r: usize, blk: &[u8]) -> bool
     requires { ⌜ allowed p ≡ true ⌝ }
     requires { ⌜ length (now blk) ≡ blockBytes p ⌝ }
     ensures { λ ok. ⌜ ok ≡ blockRule p r (now (blk .entry)) ⌝ }
 {
-    let k = good_frames(p, r, blk);
-    if k == 0 {
-        return false;
-    }
-    rest_erased(p, blk, k)
+    used_frames(p, r, blk) != 0
 }
 
 // The last of the β frames in place k of the block that holds cluster c; 65535 if none does.

@@ -22,20 +22,21 @@ use Rattle.rules.specs.Orderly.{blockRule, bstRule, btRule, freeRule, orderly}
 use Rattle.rules.specs.Pages.{block}
 use Rattle.rules.specs.Parameters.{frames}
 use Rattle.rules.specs.Regions.{view, viewOf}
-use Rattle.rules.specs.Tables.{Board, boardOf, btAt, ctAt, none}
+use Rattle.rules.specs.Tables.{Board, boardOf, btAt, ctAt, fstAt, none}
 use Rattle.rules.proofs.Admitted.{orderly-region}
 use Rattle.rules.proofs.RegionFacts.{Entry, Neat, neat}
 use Rattle.rules.proofs.Sizes.{Sizes, sizes}
-use Rattle.agree.specs.Check.{Lengths, Lent, chipOk, clusterOk, clustersOk, fstOk, regionOk, tablesOk, vblockOk}
+use Rattle.agree.specs.Check.{Lengths, Lent, chipOk, clusterOk, clustersOk, fstOk, regionOk, tablesOk, vblockFrames, vblockOk}
 use Rattle.agree.proofs.Agree.{check-agrees, same-truth}
 use Rattle.agree.proofs.Same.{Names}
 use Rattle.state.proofs.Blocks.{names-in}
 use Rattle.marks.specs.Marks.{markIn, marked, marksLength, marksRule, wordAt}
 use Rattle.marks.proofs.Tables.{mark-at, marks-are, right, rule-of}
 use Rattle.valid.specs.Shown.{marksValid}
-use Rattle.order.specs.Order.{bitAt, blockHeld, countsOk, named, orderOk, regionHeld}
+use Rattle.order.specs.Order.{bitAt, blockHeld, countsOk, entryOk, framesOk, named, orderOk, regionHeld}
 use Rattle.order.proofs.Blocks.{rule-of-block}
 use Rattle.order.proofs.Places.{bit-frame, bit-here, bit-in, bit-is, bit-mark, bit-region, bit-vblock, bitOf, frameAt, marks-in, marks-out, region-in, regionAt, vblock-in, vblockAt}
+use Rattle.order.proofs.Open.{frames-block, frames-of-rule, rule-of-frames}
 use Rattle.order.proofs.Held.{Held, clusterIn, entry-held, frameNamed, held-named, held-ok, held-one, marked-held, vblockNamed}
 
 -- BT's entries, where the tables' rules hold
@@ -197,6 +198,9 @@ module _ (p : Params) (chip ct bt fst bst marks : List ℕ) (l : Lengths p chip 
   abbrev holds : Bool
   holds = orderly p board && marksRule p board marks
 
+  z′ : Sizes p
+  z′ = sizes p (l .fine)
+
   -- the counts, by the lengths that are asked
   counts-are : countsOk ct marks ≡ eqb (countBelow (p .C) (named ct)) (countBelow (64 * marksLength p) (bitAt marks))
   unfolding countsOk
@@ -217,27 +221,35 @@ module _ (p : Params) (chip ct bt fst bst marks : List ℕ) (l : Lengths p chip 
       rest : allBelow (p .mu) (regionHeld p chip ct bt fst bst marks) && countsOk ct marks ≡ true
       rest = and-right (freeRule p chip bst) (and-right (tablesOk p bt bst) h)
 
-      at-region : (r : ℕ) → r < p .mu → allBelow (p .gamma) (blockHeld p chip ct bt bst marks r) && fstOk p chip bt fst r ≡ true
+      at-region : (r : ℕ) → r < p .mu → entryOk p bt r (fstAt fst r) && allBelow (p .gamma) (blockHeld p chip ct bt bst marks r (fstAt fst r)) ≡ true
       at-region r hr = unfold regionHeld in all-at (p .mu) (regionHeld p chip ct bt fst bst marks) (and-left (allBelow (p .mu) (regionHeld p chip ct bt fst bst marks)) _ rest) r hr
 
-      at-block : (r v : ℕ) → r < p .mu → v < p .gamma → vblockOk p chip bt bst r v && marksValid p chip ct bt marks r v ≡ true
+      at-block : (r v : ℕ) → r < p .mu → v < p .gamma → framesOk p (fstAt fst r) v (vblockFrames p chip bt bst r v) && marksValid p chip ct bt marks r v ≡ true
       at-block r v hr hv =
-          unfold blockHeld in all-at (p .gamma) (blockHeld p chip ct bt bst marks r) (and-left (allBelow (p .gamma) (blockHeld p chip ct bt bst marks r)) _ (at-region r hr)) v hv
+          unfold blockHeld in all-at (p .gamma) (blockHeld p chip ct bt bst marks r (fstAt fst r)) (and-right (entryOk p bt r (fstAt fst r)) (at-region r hr)) v hv
+
+      right-frames : (r v : ℕ) → r < p .mu → v < p .gamma → framesOk p (fstAt fst r) v (vblockFrames p chip bt bst r v) ≡ true
+      right-frames r v hr hv = and-left (framesOk p (fstAt fst r) v (vblockFrames p chip bt bst r v)) _ (at-block r v hr hv)
 
       block : (r v : ℕ) → r < p .mu → v < p .gamma → vblockOk p chip bt bst r v ≡ true
-      block r v hr hv = and-left (vblockOk p chip bt bst r v) _ (at-block r v hr hv)
+      block r v hr hv = frames-block p z′ chip bt bst r (fstAt fst r) v (right-frames r v hr hv)
 
       sub : (r v f : ℕ) → r < p .mu → v < p .gamma → f < 256 → markIn p marks r v f ≡ true → marked p (view p board r) v f ≡ true
-      sub r v f hr hv hf = marks-out p chip ct bt fst marks r v (and-right (vblockOk p chip bt bst r v) (at-block r v hr hv)) f hf
+      sub r v f hr hv hf = marks-out p chip ct bt fst marks r v (and-right (framesOk p (fstAt fst r) v (vblockFrames p chip bt bst r v)) (at-block r v hr hv)) f hf
 
       few : countBelow (p .C) (named ct) ≤ countBelow (64 * marksLength p) (bitAt marks)
       few = omega (arith, eqb-true (countBelow (p .C) (named ct)) _ (sym counts-are ∙ and-right (allBelow (p .mu) (regionHeld p chip ct bt fst bst marks)) rest))
+
+      entry : (r : ℕ) → r < p .mu → fstOk p chip bt fst r ≡ true
+      entry r hr =
+          unfold fstOk in
+          rule-of-frames p z′ chip bt bst r (λ v. block r v hr) (fstAt fst r) (and-left (entryOk p bt r (fstAt fst r)) _ (at-region r hr)) (λ v. right-frames r v hr)
 
       region : (r : ℕ) → r < p .mu → regionOk p chip ct bt fst bst r ≡ true
       region r hr =
           unfold regionOk in
           and-intro (all-below-intro (p .gamma) _ (λ v hv. block r v hr hv))
-          (and-intro (and-right (allBelow (p .gamma) (blockHeld p chip ct bt bst marks r)) (at-region r hr)) (clusters-ok p board marks l long k block sub few r))
+          (and-intro (entry r hr) (clusters-ok p board marks l long k block sub few r))
 
   fails-not : holds ≡ true → orderOk p chip ct bt fst bst marks ≡ true
   unfolding orderOk
@@ -271,14 +283,17 @@ module _ (p : Params) (chip ct bt fst bst marks : List ℕ) (l : Lengths p chip 
       right-marks : (r v : ℕ) → r < p .mu → v < p .gamma → marksValid p chip ct bt marks r v ≡ true
       right-marks r v hr hv = marks-in p chip ct bt fst marks r v (λ f hf e. sym (mark-is p board marks l long k block o m r v f hr hv hf) ∙ e)
 
-      held : (r v : ℕ) → r < p .mu → v < p .gamma → blockHeld p chip ct bt bst marks r v ≡ true
-      held r v hr hv = unfold blockHeld in and-intro (block r v hr hv) (right-marks r v hr hv)
+      frames-right : (r : ℕ) → r < p .mu
+          → (entryOk p bt r (fstAt fst r) ≡ true) × ((v : ℕ) → v < p .gamma → framesOk p (fstAt fst r) v (vblockFrames p chip bt bst r v) ≡ true)
+      frames-right r hr =
+          frames-of-rule p z′ chip bt bst r (λ v. block r v hr) (fstAt fst r)
+          (unfold fstOk in and-left (fstOk p chip bt fst r) _ (and-right (allBelow (p .gamma) (vblockOk p chip bt bst r)) (at-region r hr)))
+
+      held : (r v : ℕ) → r < p .mu → v < p .gamma → blockHeld p chip ct bt bst marks r (fstAt fst r) v ≡ true
+      held r v hr hv = unfold blockHeld in and-intro ((frames-right r hr) .1 v hv) (right-marks r v hr hv)
 
       region : (r : ℕ) → r < p .mu → regionHeld p chip ct bt fst bst marks r ≡ true
-      region r hr =
-          unfold regionHeld in
-          and-intro (all-below-intro (p .gamma) _ (λ v hv. held r v hr hv))
-          (and-left (fstOk p chip bt fst r) _ (and-right (allBelow (p .gamma) (vblockOk p chip bt bst r)) (at-region r hr)))
+      region r hr = unfold regionHeld in and-intro ((frames-right r hr) .0) (all-below-intro (p .gamma) _ (λ v hv. held r v hr hv))
 
   -- the tables, the free blocks, the regions and the counts are right exactly where the state is orderly and its marks are
   pub order-agrees : orderOk p chip ct bt fst bst marks ≡ orderly p board && marksRule p board marks

@@ -1,4 +1,5 @@
 pub mod Blocks
 pub mod Places
+pub mod Open
 pub mod Held
 pub mod Counted

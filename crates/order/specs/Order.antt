@@ -3,26 +3,37 @@
 -- each valid frame its mark.
 -- Assumes nothing.
 use mathlib.Core.Path.{_≡_}
-use mathlib.Core.Bool.{_&&_, Bool, not}
+use mathlib.Core.Bool.{_&&_, Bool, cond, not}
 use mathlib.Core.List.{List}
-use Prim.Native.Nat.{_*_, _/_, _%_, ℕ}
-use lib.Dec.{eqb}
+use Prim.Native.Nat.{_*_, _-_, _/_, _%_, ℕ}
+use lib.Dec.{eqb, ltb}
 use lib.ListN.{length}
 use Rattle.lists.specs.Below.{allBelow, countBelow}
 use Rattle.rules.specs.declared.Params.{Params}
+use Rattle.rules.specs.Numbers.{segmentOf, vblockOf}
 use Rattle.rules.specs.Orderly.{freeRule}
-use Rattle.rules.specs.Tables.{ctAt, none}
-use Rattle.agree.specs.Check.{Lent, fstOk, tablesOk, vblockOk}
+use Rattle.rules.specs.Parameters.{frames}
+use Rattle.rules.specs.Tables.{btAt, ctAt, fstAt, none}
+use Rattle.tables.specs.Entries.{emptyAt}
+use Rattle.agree.specs.Check.{Lent, tablesOk, vblockFrames}
 use Rattle.marks.specs.Marks.{marksLength, wordAt}
 use Rattle.valid.specs.Shown.{bitIn, marksValid}
 
+-- segment sg, FST's entry of region r, is none exactly if the region has no block, and else one of a virtual block that has one
+unfoldable pub entryOk : Params → List ℕ → ℕ → ℕ → Bool
+entryOk p bt r sg = cond (emptyAt p bt r) (eqb sg none) (ltb sg (p .gamma * p .d) && not (eqb (btAt p bt r (vblockOf p sg)) none))
+
+-- where virtual block v has k programmed frames: sg is the segment of the last of them, if v is the one of sg, and else they are all
+unfoldable pub framesOk : Params → ℕ → ℕ → ℕ → Bool
+framesOk p sg v k = not (eqb k 0) && cond (eqb v (vblockOf p sg)) (eqb (segmentOf p v (k - 1)) sg) (eqb k (frames p))
+
 -- the block of virtual block v of region r is as it should be, and so is each of its marks
-unfoldable pub blockHeld : Params → List ℕ → List ℕ → List ℕ → List ℕ → List ℕ → ℕ → ℕ → Bool
-blockHeld p chip ct bt bst marks r v = vblockOk p chip bt bst r v && marksValid p chip ct bt marks r v
+unfoldable pub blockHeld : Params → List ℕ → List ℕ → List ℕ → List ℕ → List ℕ → ℕ → ℕ → ℕ → Bool
+blockHeld p chip ct bt bst marks r sg v = framesOk p sg v (vblockFrames p chip bt bst r v) && marksValid p chip ct bt marks r v
 
 -- the rules of region r but for CT
 unfoldable pub regionHeld : Params → List ℕ → List ℕ → List ℕ → List ℕ → List ℕ → List ℕ → ℕ → Bool
-regionHeld p chip ct bt fst bst marks r = allBelow (p .gamma) (blockHeld p chip ct bt bst marks r) && fstOk p chip bt fst r
+regionHeld p chip ct bt fst bst marks r = entryOk p bt r (fstAt fst r) && allBelow (p .gamma) (blockHeld p chip ct bt bst marks r (fstAt fst r))
 
 -- CT names a segment for cluster c
 unfoldable pub named : List ℕ → ℕ → Bool

@@ -1,19 +1,41 @@
-// Is the state in order, and its table of marks? One pass over the chip, and two counts instead of a look at each CT entry.
+// Is the state in order, and its table of marks? One pass over the chip, in which FST's rule is held to the frames that it counts, and then two counts instead
+// of a look at each CT entry.
 ghost use mathlib.Core.Path.{_≡_};
-ghost use mathlib.Core.Bool.{_&&_};
+ghost use mathlib.Core.Bool.{_&&_, true};
 ghost use mathlib.Core.List.{List};
 ghost use Prim.Native.Nat.{ℕ, _*_, _<_, _≤_};
 ghost use lib.ListN.{length};
 ghost use Rattle.lists.specs.Below.{allBelow, countBelow};
+ghost use Rattle.rules.specs.Numbers.{vblockOf};
 ghost use Rattle.rules.specs.Orderly.{orderly};
+ghost use Rattle.rules.specs.Parameters.{allowed, frames};
 ghost use Rattle.rules.specs.Tables.{boardOf};
 ghost use Rattle.agree.specs.Check.{Lengths};
 ghost use Rattle.marks.specs.Marks.{marksLength, marksRule};
-ghost use Rattle.order.specs.Order.{BlocksAsked, bitAt, blockHeld, countsOk, named, regionHeld};
+ghost use Rattle.order.specs.Order.{BlocksAsked, bitAt, blockHeld, countsOk, entryOk, framesOk, named, regionHeld};
 use rules::Params;
+use rules::Segment;
 use rules::VBlock;
 
-// Virtual block v of region r: its block is one of that region,
+// Are k programmed frames right for virtual block v, where FST names segment sg of virtual block o?
+// The last of them is in that segment, if v is o; they are all F, if it is not.
+fn frames_ok(p: Params, sg: Segment, o: VBlock, v: VBlock, k: usize) -> bool
+    requires { ⌜ allowed p ≡ true ⌝ }
+    requires { ⌜ o .0 ≡ vblockOf p (sg .0) ⌝ }
+    requires { ⌜ v .0 < p .gamma ⌝ }
+    requires { ⌜ k ≤ frames p ⌝ }
+    ensures { λ ok. ⌜ ok ≡ framesOk p (sg .0) (v .0) k ⌝ }
+{
+    if k == 0 {
+        return false;
+    }
+    if v.0 != o.0 {
+        return k == sizes::frames(p);
+    }
+    rules::segment_of(p, v, k - 1).0 == sg.0
+}
+
+// Virtual block v of region r: its block is one of that region, with the right frames programmed,
 // and each of its marks is that of a valid frame.
 fn vblock_ok(
     p: Params,
@@ -23,14 +45,18 @@ fn vblock_ok(
     bst: &[u8],
     marks: &[u64],
     r: usize,
+    sg: Segment,
+    o: VBlock,
     v: VBlock,
 ) -> bool
     requires { ⌜ BlocksAsked p (now chip) (now ct) (now bt) (now bst) (now marks) ⌝ }
     requires { ⌜ r < p .mu ⌝ }
+    requires { ⌜ o .0 ≡ vblockOf p (sg .0) ⌝ }
     requires { ⌜ v .0 < p .gamma ⌝ }
-    ensures { λ ok. ⌜ ok ≡ blockHeld p (now (chip .entry)) (now (ct .entry)) (now (bt .entry)) (now (bst .entry)) (now (marks .entry)) r (v .0) ⌝ }
+    ensures { λ ok. ⌜ ok ≡ blockHeld p (now (chip .entry)) (now (ct .entry)) (now (bt .entry)) (now (bst .entry)) (now (marks .entry)) r (sg .0) (v .0) ⌝ }
 {
-    if !state::vblock_ok(p, chip, bt, bst, r, v) {
+    let k = state::vblock_frames(p, chip, bt, bst, r, v);
+    if !frames_ok(p, sg, o, v, k) {
         return false;
     }
     valid::marks_ok(p, chip, ct, bt, marks, r, v)
@@ -46,15 +72,18 @@ fn vblocks_ok(
     bst: &[u8],
     marks: &[u64],
     r: usize,
+    sg: Segment,
 ) -> bool
     requires { ⌜ BlocksAsked p (now chip) (now ct) (now bt) (now bst) (now marks) ⌝ }
     requires { ⌜ r < p .mu ⌝ }
-    ensures { λ ok. ⌜ ok ≡ allBelow (p .gamma) (blockHeld p (now (chip .entry)) (now (ct .entry)) (now (bt .entry)) (now (bst .entry)) (now (marks .entry)) r) ⌝ }
+    requires { ⌜ sg .0 < 65536 ⌝ }
+    ensures { λ ok. ⌜ ok ≡ allBelow (p .gamma) (blockHeld p (now (chip .entry)) (now (ct .entry)) (now (bt .entry)) (now (bst .entry)) (now (marks .entry)) r (sg .0)) ⌝ }
 {
+    let o = sizes::vblock_of(p, sg);
     let m = p.gamma;
     let mut v = 0;
     while v < m {
-        if !vblock_ok(p, chip, ct, bt, bst, marks, r, VBlock(v)) {
+        if !vblock_ok(p, chip, ct, bt, bst, marks, r, sg, o, VBlock(v)) {
             return false;
         }
         v += 1;
@@ -62,8 +91,26 @@ fn vblocks_ok(
     true
 }
 
+// Is FST's entry sg none exactly if region r has no block,
+// and else a segment of a virtual block that has one?
+fn entry_ok(p: Params, bt: &[u16], r: usize, sg: Segment) -> bool
+    requires { ⌜ allowed p ≡ true ⌝ }
+    requires { ⌜ length (now bt) ≡ p .mu * p .gamma ⌝ }
+    requires { ⌜ r < p .mu ⌝ }
+    requires { ⌜ sg .0 < 65536 ⌝ }
+    ensures { λ ok. ⌜ ok ≡ entryOk p (now (bt .entry)) r (sg .0) ⌝ }
+{
+    if tables::empty_at(p, bt, r) {
+        return sg.0 == 65535;
+    }
+    if sg.0 >= p.gamma * p.d {
+        return false;
+    }
+    tables::bt_at(p, bt, r, sizes::vblock_of(p, sg)).0 != 65535
+}
+
 // The rules of region r:
-// its blocks and their marks, and its FST entry.
+// its FST entry, its blocks and their marks.
 fn region_ok(
     p: Params,
     chip: &[u8],
@@ -79,10 +126,11 @@ fn region_ok(
     requires { ⌜ r < p .mu ⌝ }
     ensures { λ ok. ⌜ ok ≡ regionHeld p (now (chip .entry)) (now (ct .entry)) (now (bt .entry)) (now (fst .entry)) (now (bst .entry)) (now (marks .entry)) r ⌝ }
 {
-    if !vblocks_ok(p, chip, ct, bt, bst, marks, r) {
+    let sg = tables::fst_at(fst, r);
+    if !entry_ok(p, bt, r, sg) {
         return false;
     }
-    state::fst_ok(p, chip, bt, fst, r)
+    vblocks_ok(p, chip, ct, bt, bst, marks, r, sg)
 }
 
 // The same of every region,

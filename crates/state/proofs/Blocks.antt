@@ -1,21 +1,26 @@
--- The blocks that BT names, and the virtual block of a segment.
+-- The blocks that BT names, their programmed frames, and the virtual block of a segment.
 -- Assumes nothing.
 use mathlib.Core.Path.{refl, _∙_, _≡_}
 use mathlib.Core.Logic.{inl, inr, _⊎_}
-use mathlib.Core.Bool.{true, _||_}
+use mathlib.Core.Bool.{_&&_, cond, false, not, true, _||_}
 use mathlib.Core.List.{List}
 use Prim.Native.Nat.{_*_, _+_, _/_, _<_, ℕ}
 use native.Mathlib.Nat.{div-lt-iff-lt-mul}
+use native.Mathlib.Omega.{arith}
 use lib.Dec.{eqb, ltb}
-use borrow.Author.Tests.{eqb-true, ltb-true}
-use Rattle.lists.proofs.Tests.{all-at, or-cases}
+use borrow.Author.Tests.{eqb-true, ltb-true, ne-eqb}
+use Rattle.lists.proofs.Tests.{all-at, or-cases, so}
 use Rattle.rules.specs.declared.Params.{Params}
-use Rattle.rules.specs.Orderly.{btRule}
-use Rattle.rules.specs.Tables.{Board, btAt, btEntry, none}
-use Rattle.rules.proofs.Sizes.{sizes}
+use Rattle.rules.specs.Orderly.{blockRule, btRule}
+use Rattle.rules.specs.Pages.{block, filled}
+use Rattle.rules.specs.Parameters.{frames}
+use Rattle.rules.specs.Tables.{Board, bstAt, btAt, btEntry, none}
+use Rattle.rules.proofs.Sizes.{Sizes, sizes}
 use Rattle.rules.proofs.TableFacts.{chip-size}
+use Rattle.tables.specs.Entries.{differs}
 use Rattle.tables.proofs.Indices.{entry-in}
-use Rattle.agree.specs.Check.{Lent}
+use Rattle.blocks.proofs.Leading.{used-some}
+use Rattle.agree.specs.Check.{Lent, vblockFrames, vblockOk}
 use Rattle.agree.proofs.Same.{Names}
 
 -- an entry that is not none names a block
@@ -39,3 +44,19 @@ names-in p b t =
 
 pub vblock-low : (m k sg : ℕ) → 0 < k → sg < m * k → sg / k < m
 vblock-low m k sg h l = div-lt-iff-lt-mul h .1 l
+
+-- a block that is as it should be has a programmed frame, so that 0 is left for one that is not
+pub frames-some : (p : Params) → Sizes p → (chip bt bst : List ℕ) (r v : ℕ) → not (eqb (vblockFrames p chip bt bst r v) 0) ≡ vblockOk p chip bt bst r v
+unfolding vblockFrames vblockOk
+frames-some p z chip bt bst r v = go (so (eqb n none)) (so (differs p bt r v)) (so (eqb (bstAt bst n) 1))
+  where
+    n : ℕ
+    n = btAt p bt r v
+
+    go : (eqb n none ≡ true) ⊎ (eqb n none ≡ false) → (differs p bt r v ≡ true) ⊎ (differs p bt r v ≡ false) → (eqb (bstAt bst n) 1 ≡ true) ⊎ (eqb (bstAt bst n) 1 ≡ false)
+        → not (eqb (cond (cond (eqb n none) true (differs p bt r v && (eqb (bstAt bst n) 1 && blockRule p r (block p chip n)))) (cond (eqb n none) (frames p) (filled p (block p chip n))) 0) 0)
+        ≡ cond (eqb n none) true (differs p bt r v && (eqb (bstAt bst n) 1 && blockRule p r (block p chip n)))
+    go (inl x) d u = rw (x, ne-eqb (frames p) 0 (λ e. omega (arith, z .some, e)))
+    go (inr x) (inr d) u = rw (x, d)
+    go (inr x) (inl d) (inr u) = rw (x, d, u)
+    go (inr x) (inl d) (inl u) = rw (x, d, u) (used-some p r (block p chip n))

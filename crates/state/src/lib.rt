@@ -11,7 +11,7 @@ ghost use Rattle.rules.specs.Parameters.{allowed, chipBytes};
 ghost use Rattle.rules.specs.Tables.{boardOf, bstAt};
 ghost use Rattle.rules.specs.Pages.{block, erased};
 ghost use Rattle.rules.specs.Orderly.{freeRule, orderly};
-ghost use Rattle.agree.specs.Check.{Lengths, Lent, vblockOk, fullOk, openOk, fstOk, regionOk, segmentOk, clusterOk, clustersOk, tablesOk, chipOk};
+ghost use Rattle.agree.specs.Check.{Lengths, Lent, vblockFrames, vblockOk, fullOk, openOk, fstOk, regionOk, segmentOk, clusterOk, clustersOk, tablesOk, chipOk};
 use rules::Cluster;
 use rules::PBlock;
 use rules::Params;
@@ -50,25 +50,37 @@ pub fn frees_ok(p: Params, chip: &[u8], bst: &[u8]) -> bool
     true
 }
 
-// The block that virtual block v of region r has is named once there, is used, and is a block of that region.
-pub fn vblock_ok(p: Params, chip: &[u8], bt: &[u16], bst: &[u8], r: usize, v: VBlock) -> bool
+// How many frames of virtual block v of region r are programmed, if its block is named once there, is used, and is a block of that region.
+// All F if it has no block; 0 if its block is not so.
+pub fn vblock_frames(p: Params, chip: &[u8], bt: &[u16], bst: &[u8], r: usize, v: VBlock) -> usize
+    requires { ⌜ Lent p (now chip) (now bt) ⌝ }
+    requires { ⌜ length (now bst) ≡ p .N ⌝ }
+    requires { ⌜ r < p .mu ⌝ }
+    requires { ⌜ v .0 < p .gamma ⌝ }
+    ensures { λ k. ⌜ k ≡ vblockFrames p (now (chip .entry)) (now (bt .entry)) (now (bst .entry)) r (v .0) ⌝ }
+{
+    let n = tables::bt_at(p, bt, r, v);
+    if n.0 == 65535 {
+        return sizes::frames(p);
+    }
+    if !tables::differs(p, bt, r, v) {
+        return 0;
+    }
+    if tables::bst_at(bst, n) != 1 {
+        return 0;
+    }
+    blocks::used_frames(p, r, blocks::block_of(p, chip, n))
+}
+
+// Virtual block v of region r has no block, or one that is so.
+fn vblock_ok(p: Params, chip: &[u8], bt: &[u16], bst: &[u8], r: usize, v: VBlock) -> bool
     requires { ⌜ Lent p (now chip) (now bt) ⌝ }
     requires { ⌜ length (now bst) ≡ p .N ⌝ }
     requires { ⌜ r < p .mu ⌝ }
     requires { ⌜ v .0 < p .gamma ⌝ }
     ensures { λ ok. ⌜ ok ≡ vblockOk p (now (chip .entry)) (now (bt .entry)) (now (bst .entry)) r (v .0) ⌝ }
 {
-    let n = tables::bt_at(p, bt, r, v);
-    if n.0 == 65535 {
-        return true;
-    }
-    if !tables::differs(p, bt, r, v) {
-        return false;
-    }
-    if tables::bst_at(bst, n) != 1 {
-        return false;
-    }
-    blocks::block_ok(p, r, blocks::block_of(p, chip, n))
+    vblock_frames(p, chip, bt, bst, r, v) != 0
 }
 
 // The same of every virtual block of region r.

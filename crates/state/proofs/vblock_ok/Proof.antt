@@ -1,66 +1,16 @@
--- `state::vblock_ok`: test by test.
+-- `state::vblock_ok`: a block that is as it should be has a programmed frame.
 -- Assumes nothing.
-use mathlib.Core.Path.{_≡_}
-use Prim.Native.Nat.{_<_, ℕ}
-use native.Mathlib.Omega.{arith}
-use borrow.Author.Tests.{eq-eqb, ne-eqb, not-false, not-true}
-use Rattle.rules.specs.Tables.{btAt, none}
-use Rattle.agree.specs.Check.{vblockOk}
-use Rattle.state.proofs.Blocks.{name-low}
+use borrow.Author.Needs.{needs}
+use Rattle.rules.proofs.Sizes.{sizes}
+use Rattle.state.proofs.Blocks.{frames-some}
 use Rattle.state.proofs.vblock_ok.Statement.{statement}
 use Rattle.state.proofs.vblock_ok.Tie as tie
 
--- BT has a block for v
-low : (a : tie.Start) (n : ℕ) → n ≡ btAt (a .args .p) (a .args .bt .now) (a .args .r) (a .args .v .0) → (n ≡ none → ⊥) → n < a .args .p .N
-low a n = name-low (a .args .p) (a .args .chip .now) (a .args .bt .now) (a .pre .0) (a .args .r) (a .args .v .0) n (a .pre .1 .1 .0) (a .pre .1 .1 .1)
-
-bt-at-requires : tie.Need-bt-at-requires
-bt-at-requires c κs = let a = c .before .before .before in (a .pre .0 .btLength, (a .pre .1 .1 .0, a .pre .1 .1 .1))
+vblock-frames-requires : tie.Need-vblock-frames-requires
+vblock-frames-requires c κs = search needs
 
 returns : tie.Need-returns
-unfolding vblockOk
-returns c = rw (← (c .before .before .bt-at .ensures .0), eq-eqb _ none (c .if1 .taken))
-
-differs-requires : tie.Need-differs-requires
-differs-requires c κs = let a = c .before .before .before .before .before .before in (a .pre .0 .btLength, (a .pre .1 .1 .0, a .pre .1 .1 .1))
-
-returns-2 : tie.Need-returns-2
-unfolding vblockOk
-returns-2 c =
-    rw (← (c .before .before .before .before .bt-at .ensures .0), ne-eqb (c .before .before .before .before .bt-at .result .0) none (c .before .before .if1 .left), ← (c .before .differs .ensures), not-true (c .before .differs .result) (c .if2 .taken))
-
-bst-at-requires : tie.Need-bst-at-requires
-bst-at-requires c κs = let a = c .before .before .before .before .before .before .before .before in omega (arith, low a (c .before .before .before .before .bt-at .result .0) (c .before .before .before .before .bt-at .ensures .0) (c .before .before .if1 .left), a .pre .1 .0)
-
-returns-3 : tie.Need-returns-3
-unfolding vblockOk
-returns-3 c =
-    rw
-    (← (c .before .before .before .before .before .before .bt-at .ensures .0), ne-eqb (c .before .before .before .before .before .before .bt-at .result .0) none (c .before .before .before .before .if1 .left), ← (c .before .before .before .differs .ensures), not-false (c .before .before .before .differs .result) (c .before .before .if2 .left), ← (c .before .bst-at .ensures), ne-eqb _ 1 (c .if3 .taken))
-
-block-of-requires : tie.Need-block-of-requires
-block-of-requires c κs = let a = c .before .before .before .before .before .before .before .before .before .before in (a .pre .0 .fine, (a .pre .0 .chipLength, low a (c .before .before .before .before .before .before .bt-at .result .0) (c .before .before .before .before .before .before .bt-at .ensures .0) (c .before .before .before .before .if1 .left)))
-
-block-ok-requires : tie.Need-block-ok-requires
-block-ok-requires c κs = (c .before .before .before .before .before .before .before .before .before .before .before .pre .0 .fine, c .block-of .ensures .1)
-
-returns-4 : tie.Need-returns-4
-unfolding vblockOk
-returns-4 c =
-    rw
-    (← (c .before .before .before .before .before .before .before .before .bt-at .ensures .0), ne-eqb (c .before .before .before .before .before .before .before .before .bt-at .result .0) none (c .before .before .before .before .before .before .if1 .left), ← (c .before .before .before .before .before .differs .ensures), not-false (c .before .before .before .before .before .differs .result) (c .before .before .before .before .if2 .left), ← (c .before .before .before .bst-at .ensures), eq-eqb _ 1 (c .before .before .if3 .left), ← (c .before .block-of .ensures .0))
-    (c .block-ok .ensures)
+returns c = rw (c .vblock-frames .ensures) (frames-some _ (sizes _ (c .before .before .before .before .pre .0 .fine)) _ _ _ _ _)
 
 pub vblock-ok-spec : {M : Type 1} → statement M
-vblock-ok-spec =
-    tie.close
-    (tie.spec
-    bt-at-requires
-    returns
-    differs-requires
-    returns-2
-    bst-at-requires
-    returns-3
-    block-of-requires
-    block-ok-requires
-    returns-4)
+vblock-ok-spec = tie.close (tie.spec vblock-frames-requires returns)
