@@ -1,20 +1,22 @@
--- The rules of the used blocks and of FST, of the views of the regions and of the lent tables: the same where the rules before them hold.
+-- The rules of the used blocks, of FST and of CT, of the views of the regions and of the lent tables: the same where the rules before them hold.
 -- Assumes nothing.
-use mathlib.Core.Path.{sym, _≡_}
+use mathlib.Core.Path.{refl, sym, _≡_}
 use mathlib.Core.Bool.{not, true, _||_}
 use Prim.Native.Nat.{_<_, ℕ}
 use native.Mathlib.Decide.{ℕ-discrete}
+use native.Mathlib.Nat.{mod-lt}
 use lib.Dec.{eqb}
 use borrow.Author.Tests.{eq-eqb, ne-eqb}
 use Rattle.lists.specs.Below.{allBelow}
 use Rattle.lists.proofs.Tests.{all-at, all-cong}
 use Rattle.rules.specs.declared.Params.{Params}
-use Rattle.rules.specs.Orderly.{blockRule, blocksRule, fstRule, regionBlocks, regionFst}
+use Rattle.rules.specs.Numbers.{regionOf}
+use Rattle.rules.specs.Orderly.{blockRule, blocksRule, clusterRule, ctRule, entryRule, fstRule, regionBlocks, regionFst}
 use Rattle.rules.specs.Pages.{block}
 use Rattle.rules.specs.Regions.{assigned, view}
 use Rattle.rules.specs.Tables.{Board, btAt, none}
-use Rattle.agree.specs.Check.{Lent, fstOk}
-use Rattle.agree.proofs.Same.{Names, assigned-no, assigned-yes, body-is, open-same}
+use Rattle.agree.specs.Check.{Lent, clusterOk, fstOk}
+use Rattle.agree.proofs.Same.{Names, assigned-no, assigned-yes, body-is, entry-same, open-same}
 use Rattle.state.proofs.Blocks.{names-in}
 use Rattle.broken.specs.Tests.{blockOk, regionBlocksOk}
 
@@ -46,3 +48,10 @@ module _ (p : Params) (b : Board) (t : Lent p (b .chip) (b .bt)) where
       used r h v hv ne =
           rw (ne-eqb (btAt p (b .bt) r v) none ne) at
           (all-at (p .gamma) (λ v. eqb (btAt p (b .bt) r v) none || blockRule p r (block p (b .chip) (btAt p (b .bt) r v))) (all-at (p .mu) (regionBlocksOk p (b .chip) (b .bt)) k r h) v hv)
+
+  -- CT
+  pub cts-same : allBelow (p .C) (λ c. clusterOk p (b .chip) (b .ct) (b .bt) (regionOf p c) c) ≡ ctRule p b
+  unfolding ctRule clusterRule
+  cts-same =
+      all-cong (p .C) _ (λ c. eqb ((view p b (regionOf p c)) .segOf c) none || entryRule p (view p b (regionOf p c)) c)
+      (λ c h. sym (entry-same p b names (regionOf p c) (mod-lt c (names .fine .regions)) c refl))

@@ -2,7 +2,7 @@
 -- Assumes nothing.
 use mathlib.Core.Path.{refl, sym, _≡_}
 use mathlib.Core.Logic.{inl, inr, _⊎_}
-use mathlib.Core.Bool.{_&&_, Bool, false, false≢true, not, true}
+use mathlib.Core.Bool.{_&&_, Bool, cond, false, false≢true, not, true}
 use mathlib.Core.List.{List, [], _++_, _∷_}
 use Prim.Native.Nat.{_+_, _-_, suc, zero, ℕ}
 use native.Mathlib.Omega.{arith}
@@ -15,7 +15,7 @@ use Rattle.rules.specs.Orderly.{orderly, rulesOf}
 use Rattle.rules.specs.Tables.{Board}
 use Rattle.marks.specs.Marks.{marksRule}
 use Rattle.broken.specs.declared.Rule.{Rule}
-use Rattle.broken.specs.declared.Rule.the-variants.{Ct}
+use Rattle.broken.specs.declared.Rule.the-variants.{Marks}
 use Rattle.broken.specs.Broken.{FirstFails, brokenRule, firstBroken, firstOf, ruleNames, ruleNumber}
 
 -- the names are numbered one after the other, from k on
@@ -68,17 +68,17 @@ broken-rule p b marks e = go (so (orderly p b))
     go (inr o) = unfold brokenRule in rw o (longer _ (rulesOf p b) (marksRule p b marks ∷ []) (first-broken p b o))
 
 -- a test that passes is left behind
-pub skip : (ts : List Bool) (rs : List Rule) (ok t : Bool) (r told : Rule) → ok ≡ t → not ok ≡ false → told ≡ firstOf ts rs → told ≡ firstOf (t ∷ ts) (r ∷ rs)
-unfolding firstOf
+pub skip : (ts : List Bool) (rs : List Rule) (ok t : Bool) (r told : Rule) → ok ≡ t → not ok ≡ false → told ≡ cond (allTrue ts) Marks (firstOf ts rs)
+    → told ≡ cond (allTrue (t ∷ ts)) Marks (firstOf (t ∷ ts) (r ∷ rs))
+unfolding allTrue firstOf
 skip ts rs ok t r told e k h = rw (← e, not-false ok k) h
 
 -- one that fails is told
-pub here : (ts : List Bool) (rs : List Rule) (ok t : Bool) (r : Rule) → ok ≡ t → not ok ≡ true → r ≡ firstOf (t ∷ ts) (r ∷ rs)
-unfolding firstOf
+pub here : (ts : List Bool) (rs : List Rule) (ok t : Bool) (r : Rule) → ok ≡ t → not ok ≡ true → r ≡ cond (allTrue (t ∷ ts)) Marks (firstOf (t ∷ ts) (r ∷ rs))
+unfolding allTrue firstOf
 here ts rs ok t r e k = rw (← e, not-true ok k)
 
--- and the last, whether it passes or not
-pub last : (t : Bool) → Ct ≡ firstOf (t ∷ []) (Ct ∷ [])
-unfolding firstOf
-last true = refl
-last false = refl
+-- and where none is left, the marks are
+pub end : Marks ≡ cond (allTrue []) Marks (firstOf [] [])
+unfolding allTrue
+end = refl

@@ -7,11 +7,10 @@ ghost use Prim.Native.Nat.{ℕ, _*_, _<_};
 ghost use lib.ListN.{length};
 ghost use lib.Dec.{eqb};
 ghost use Rattle.lists.specs.Below.{allBelow};
-ghost use Rattle.rules.specs.Parameters.{allowed, chipBytes};
 ghost use Rattle.rules.specs.Tables.{boardOf, none, btEntry, bstAt};
 ghost use Rattle.rules.specs.Orderly.{onceRule, named, usedRule};
-ghost use Rattle.agree.specs.Check.{Lengths, Lent, fstOk};
-ghost use Rattle.broken.specs.Broken.{ruleNumber, firstBroken, brokenRule};
+ghost use Rattle.agree.specs.Check.{Lengths, Lent};
+ghost use Rattle.broken.specs.Broken.{ruleNumber, brokenRule};
 ghost use Rattle.broken.specs.Tests.{blockOk, regionBlocksOk};
 use rules::PBlock;
 use rules::Params;
@@ -192,32 +191,11 @@ fn blocks_ok(p: Params, chip: &[u8], bt: &[u16]) -> bool
     true
 }
 
-// FST is as it should be for every region.
-fn fsts_ok(p: Params, chip: &[u8], bt: &[u16], fst: &[u16]) -> bool
-    requires { ⌜ Lent p (now chip) (now bt) ⌝ }
-    requires { ⌜ length (now fst) ≡ p .mu ⌝ }
-    ensures { λ ok. ⌜ ok ≡ allBelow (p .mu) (fstOk p (now (chip .entry)) (now (bt .entry)) (now (fst .entry))) ⌝ }
-{
-    let m = p.mu;
-    let mut r = 0;
-    while r < m {
-        if !state::fst_ok(p, chip, bt, fst, r) {
-            return false;
-        }
-        r += 1;
-    }
-    true
-}
-
-// The first rule that does not hold, of a state that is not orderly: each is looked at only where those before it hold. The last needs no look: where the eight
-// others hold it is the one, whatever CT has.
-pub fn first_broken(p: Params, chip: &[u8], bt: &[u16], fst: &[u16], bst: &[u8]) -> Rule
-    requires { ⌜ allowed p ≡ true ⌝ }
-    requires { ⌜ length (now chip) ≡ chipBytes p ⌝ }
-    requires { ⌜ length (now bt) ≡ p .mu * p .gamma ⌝ }
-    requires { ⌜ length (now fst) ≡ p .mu ⌝ }
-    requires { ⌜ length (now bst) ≡ p .N ⌝ }
-    ensures { λ r. ⌜ ((ct wear : List ℕ) → r ≡ firstBroken p (boardOf (now (chip .entry)) ct (now (bt .entry)) (now (fst .entry)) (now (bst .entry)) wear)) ⌝ }
+// The first rule that does not hold, of a state and marks that are not both right: each is looked at only where those before it hold.
+// The last, that of the marks, needs no look: where the nine others hold it is the one.
+pub fn broken_rule(p: Params, chip: &[u8], ct: &[u16], bt: &[u16], fst: &[u16], bst: &[u8]) -> Rule
+    requires { ⌜ Lengths p (now chip) (now ct) (now bt) (now fst) (now bst) ⌝ }
+    ensures { λ k. ⌜ ((wear : List ℕ) → k ≡ brokenRule p (boardOf (now (chip .entry)) (now (ct .entry)) (now (bt .entry)) (now (fst .entry)) (now (bst .entry)) wear)) ⌝ }
 {
     if !tables::bst_ok(p, bst) {
         return Rule::BstValues;
@@ -240,19 +218,11 @@ pub fn first_broken(p: Params, chip: &[u8], bt: &[u16], fst: &[u16], bst: &[u8])
     if !blocks_ok(p, chip, bt) {
         return Rule::UsedBlock;
     }
-    if !fsts_ok(p, chip, bt, fst) {
+    if !entries::fsts_ok(p, chip, bt, fst) {
         return Rule::Fst;
     }
-    Rule::Ct
-}
-
-// The first rule that does not hold, of a state and marks that are not both right: where the state is orderly it is the one of the marks, which needs no look.
-pub fn broken_rule(p: Params, chip: &[u8], ct: &[u16], bt: &[u16], fst: &[u16], bst: &[u8]) -> Rule
-    requires { ⌜ Lengths p (now chip) (now ct) (now bt) (now fst) (now bst) ⌝ }
-    ensures { λ k. ⌜ ((wear : List ℕ) → k ≡ brokenRule p (boardOf (now (chip .entry)) (now (ct .entry)) (now (bt .entry)) (now (fst .entry)) (now (bst .entry)) wear)) ⌝ }
-{
-    if state::is_orderly(p, chip, ct, bt, fst, bst) {
-        return Rule::Marks;
+    if !entries::cts_ok(p, chip, ct, bt) {
+        return Rule::Ct;
     }
-    first_broken(p, chip, bt, fst, bst)
+    Rule::Marks
 }

@@ -1,4 +1,4 @@
--- `state::open_ok`: test by test.
+-- `entries::open_ok`: test by test.
 -- Assumes nothing.
 use mathlib.Core.Path.{_≡_}
 use Prim.Native.Nat.{_*_, _/_, _<_, ℕ}
@@ -9,9 +9,9 @@ use Rattle.rules.specs.Tables.{none}
 use Rattle.rules.proofs.RegionFacts.{filled-le}
 use Rattle.rules.proofs.Sizes.{sizes}
 use Rattle.agree.specs.Check.{openOk}
 use Rattle.state.proofs.Blocks.{name-low, vblock-low}
-use Rattle.state.proofs.open_ok.Statement.{statement}
-use Rattle.state.proofs.open_ok.Tie as tie
+use Rattle.entries.proofs.open_ok.Statement.{statement}
+use Rattle.entries.proofs.open_ok.Tie as tie
 
 -- the virtual block of sg is one of the region
 vlow : (a : tie.Start) (v : ℕ) → v ≡ a .args .sg .0 / a .args .p .d → a .args .sg .0 < a .args .p .gamma * a .args .p .d → v < a .args .p .gamma

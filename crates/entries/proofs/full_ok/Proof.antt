@@ -1,13 +1,13 @@
--- `state::full_ok`: test by test.
+-- `entries::full_ok`: test by test.
 -- Assumes nothing.
 use mathlib.Core.Path.{_≡_}
 use Prim.Native.Nat.{_<_, ℕ}
 use borrow.Author.Tests.{eq-eqb, ne-eqb}
 use Rattle.rules.specs.Tables.{btAt, none}
 use Rattle.agree.specs.Check.{fullOk}
 use Rattle.state.proofs.Blocks.{name-low}
-use Rattle.state.proofs.full_ok.Statement.{statement}
-use Rattle.state.proofs.full_ok.Tie as tie
+use Rattle.entries.proofs.full_ok.Statement.{statement}
+use Rattle.entries.proofs.full_ok.Tie as tie
 
 -- BT has a block for v
 low : (a : tie.Start) (n : ℕ) → n ≡ btAt (a .args .p) (a .args .bt .now) (a .args .r) (a .args .v .0) → (n ≡ none → ⊥) → n < a .args .p .N

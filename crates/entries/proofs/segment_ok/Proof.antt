@@ -1,4 +1,4 @@
--- `state::segment_ok`: test by test.
+-- `entries::segment_ok`: test by test.
 -- Assumes nothing.
 use mathlib.Core.Path.{_≡_}
 use Prim.Native.Nat.{_*_, _/_, _<_, ℕ}
@@ -8,9 +8,9 @@ use borrow.Author.Tests.{eq-eqb, le-ltb, lt-ltb, ne-eqb}
 use Rattle.rules.specs.Tables.{none}
 use Rattle.rules.proofs.Sizes.{sizes}
 use Rattle.agree.specs.Check.{segmentOk}
 use Rattle.state.proofs.Blocks.{name-low, vblock-low}
-use Rattle.state.proofs.segment_ok.Statement.{statement}
-use Rattle.state.proofs.segment_ok.Tie as tie
+use Rattle.entries.proofs.segment_ok.Statement.{statement}
+use Rattle.entries.proofs.segment_ok.Tie as tie
 
 -- the virtual block of sg is one of the region
 vlow : (a : tie.Start) (v : ℕ) → v ≡ a .args .sg .0 / a .args .p .d → a .args .sg .0 < a .args .p .gamma * a .args .p .d → v < a .args .p .gamma

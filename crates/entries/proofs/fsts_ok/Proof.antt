@@ -1,4 +1,4 @@
--- `broken::fsts_ok`: every entry passed is as it should be.
+-- `entries::fsts_ok`: every entry passed is as it should be.
 -- Assumes nothing.
 use mathlib.Core.Path.{sym, _∙_, _≡_}
 use mathlib.Core.Bool.{true}
@@ -8,8 +8,8 @@ use borrow.Author.Tests.{not-false, not-true}
 use Rattle.lists.specs.Below.{allBelow}
 use Rattle.loops.proofs.Below.{all-end, all-fails, all-more, all-start}
 use Rattle.agree.specs.Check.{fstOk}
-use Rattle.broken.proofs.fsts_ok.Statement.{statement}
-use Rattle.broken.proofs.fsts_ok.Tie as tie
+use Rattle.entries.proofs.fsts_ok.Statement.{statement}
+use Rattle.entries.proofs.fsts_ok.Tie as tie
 
 abbrev Inv-loop : tie.InvT-loop
 Inv-loop p chip bt fst m r₀ r = (r ≤ m) × (allBelow r (fstOk p chip bt fst) ≡ true)

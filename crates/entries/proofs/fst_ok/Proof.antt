@@ -1,9 +1,9 @@
--- `state::fst_ok`: by whether the region has a block.
+-- `entries::fst_ok`: by whether the region has a block.
 -- Assumes nothing.
 use native.Mathlib.Omega.{arith}
 use Rattle.agree.specs.Check.{fstOk}
-use Rattle.state.proofs.fst_ok.Statement.{statement}
-use Rattle.state.proofs.fst_ok.Tie as tie
+use Rattle.entries.proofs.fst_ok.Statement.{statement}
+use Rattle.entries.proofs.fst_ok.Tie as tie
 
 fst-at-requires : tie.Need-fst-at-requires
 fst-at-requires c κs = omega (arith, c .before .before .before .pre .1)

@@ -1,4 +1,4 @@
--- `state::fulls_ok`: every virtual block passed is as it should be.
+-- `entries::fulls_ok`: every virtual block passed is as it should be.
 -- Assumes nothing.
 use mathlib.Core.Path.{sym, _∙_, _≡_}
 use mathlib.Core.Bool.{true}
@@ -8,8 +8,8 @@ use borrow.Author.Tests.{not-false, not-true}
 use Rattle.lists.specs.Below.{allBelow}
 use Rattle.loops.proofs.Below.{all-end, all-fails, all-more, all-start}
 use Rattle.agree.specs.Check.{fullOk}
-use Rattle.state.proofs.fulls_ok.Statement.{statement}
-use Rattle.state.proofs.fulls_ok.Tie as tie
+use Rattle.entries.proofs.fulls_ok.Statement.{statement}
+use Rattle.entries.proofs.fulls_ok.Tie as tie
 
 abbrev Inv-loop : tie.InvT-loop
 Inv-loop p chip bt r o m v₀ v = (v ≤ m) × (allBelow v (fullOk p chip bt r (o .0)) ≡ true)

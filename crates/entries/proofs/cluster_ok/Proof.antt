@@ -1,10 +1,10 @@
--- `state::cluster_ok`: by whether CT has a segment.
+-- `entries::cluster_ok`: by whether CT has a segment.
 -- Assumes nothing.
 use borrow.Author.Tests.{eq-eqb, ne-eqb}
 use Rattle.rules.specs.Tables.{none}
 use Rattle.agree.specs.Check.{clusterOk}
-use Rattle.state.proofs.cluster_ok.Statement.{statement}
-use Rattle.state.proofs.cluster_ok.Tie as tie
+use Rattle.entries.proofs.cluster_ok.Statement.{statement}
+use Rattle.entries.proofs.cluster_ok.Tie as tie
 
 ct-at-requires : tie.Need-ct-at-requires
 ct-at-requires c κs = c .before .before .before .pre .1 .1
