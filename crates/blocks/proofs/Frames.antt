@@ -19,11 +19,15 @@ use Rattle.rules.specs.Pages.{block, frame, held, holds, lastIn, spare, spareBy
 use Rattle.rules.specs.Parameters.{blockBytes, chipBytes, frameBytes, frames, pageBytes}
 use Rattle.rules.specs.Tables.{none}
 use Rattle.rules.proofs.Sizes.{Sizes}
+use Rattle.rules.proofs.TableFacts.{chip-size}
 use Rattle.loops.proofs.Below.{last-skip}
 use Rattle.loops.proofs.Lent.{lent-part}
-use Rattle.nand.proofs.Places.{block-fits}
 
 -- ---- a block of the chip
+
+-- block n ends on the chip
+block-fits : (p : Params) (chip : List ℕ) (n : ℕ) → length chip ≡ chipBytes p → n < p .N → n * blockBytes p + blockBytes p ≤ length chip
+block-fits p chip n e h = rw (e, chip-size p) (next (blockBytes p) n (p .N) h)
 
 pub block-in : (p : Params) (chip : List ℕ) (n w : ℕ) → w ≡ blockBytes p → length chip ≡ chipBytes p → n < p .N → n * w + w ≤ length chip
 block-in p chip n w e k h = rw e (block-fits p chip n k h)

@@ -47,7 +47,7 @@ fn good_frame(p: Params, r: usize, fr: &[u8]) -> bool
     requires { ⌜ length (now fr) ≡ frameBytes p ⌝ }
     ensures { λ ok. ⌜ ok ≡ goodFrame p r (now (fr .entry)) ⌝ }
 {
-    let c = nand::cluster_in(p, fr);
+    let c = spares::cluster_in(p, fr);
     if c.0 >= p.C {
         return false;
     }
@@ -57,7 +57,7 @@ fn good_frame(p: Params, r: usize, fr: &[u8]) -> bool
     let m = p.alpha;
     let mut j = 0;
     while j < m {
-        if !nand::is_marked(p, fr, c, j) {
+        if !spares::is_marked(p, fr, c, j) {
             return false;
         }
         j += 1;
@@ -71,10 +71,10 @@ pub fn holds(p: Params, fr: &[u8], c: Cluster) -> bool
     requires { ⌜ length (now fr) ≡ frameBytes p ⌝ }
     ensures { λ ok. ⌜ ok ≡ holds p (now (fr .entry)) (c .0) ⌝ }
 {
-    if nand::cluster_in(p, fr).0 != c.0 {
+    if spares::cluster_in(p, fr).0 != c.0 {
         return false;
     }
-    nand::is_programmed(p, fr)
+    spares::is_programmed(p, fr)
 }
 
 // How many frames of the block are programmed.
@@ -87,7 +87,7 @@ pub fn filled(p: Params, blk: &[u8]) -> usize
     let mut k = 0;
     let mut f = 0;
     while f < n {
-        if nand::is_programmed(p, frame_of(p, blk, f)) {
+        if spares::is_programmed(p, frame_of(p, blk, f)) {
             k += 1;
         }
         f += 1;
@@ -106,7 +106,7 @@ pub fn next_free(p: Params, blk: &[u8], from: usize) -> usize
     let n = sizes::frames(p);
     let mut f = from;
     while f < n {
-        if !nand::is_programmed(p, frame_of(p, blk, f)) {
+        if !spares::is_programmed(p, frame_of(p, blk, f)) {
             return f;
         }
         f += 1;
@@ -121,7 +121,7 @@ pub fn is_full(p: Params, blk: &[u8]) -> bool
     ensures { λ ok. ⌜ ok ≡ programmed p (frame p (now (blk .entry)) (frames p - 1)) ⌝ }
 {
     let f = sizes::frames(p) - 1;
-    nand::is_programmed(p, frame_of(p, blk, f))
+    spares::is_programmed(p, frame_of(p, blk, f))
 }
 
 // How many frames, from the first on, are good frames of region r: up to the first that is not.
@@ -155,7 +155,7 @@ fn rest_erased(p: Params, blk: &[u8], k: usize) -> bool
     let n = sizes::frames(p) - k;
     let a = k * w;
     let m = n * p.alpha;
-    nand::are_erased(&blk[a..], page, m)
+    erased::are_erased(&blk[a..], page, m)
 }
 
 // How many frames of the block are programmed, if it is a used block of region r; 0 if it is not one.
@@ -211,5 +211,5 @@ pub fn block_erased(p: Params, blk: &[u8]) -> bool
     let page = sizes::page_bytes(p);
     let n = sizes::frames(p);
     let k = p.alpha * n;
-    nand::are_erased(blk, page, k)
+    erased::are_erased(blk, page, k)
 }

@@ -1,8 +1,8 @@
--- Where pages and blocks stand on the chip, each bound once; an erased page and what is put into it.
+-- Where a page stands on the chip; an erased page and what is put into it.
 -- Assumes nothing.
-use mathlib.Core.Path.{_≡_, refl, sym, ap, _∙_}
+use mathlib.Core.Path.{_≡_, sym, ap, _∙_}
 use mathlib.Core.Bool.{true}
-use mathlib.Core.List.{List, [], _∷_, _++_, append-nil}
+use mathlib.Core.List.{List, [], _++_, append-nil}
 use Prim.Native.Nat.{ℕ, _+_, _*_, _-_, _≤_, _<_}
 use native.Mathlib.Omega.{arith}
 use lib.ListN.{length, take, drop, replicate, length-append, length-replicate, replicate-append-replicate, drop-of-length-le}
@@ -11,18 +11,13 @@ use Rattle.lists.specs.Parts.{part, allAre}
 use Rattle.lists.proofs.Parts.{next, part-length}
 use Rattle.lists.proofs.Joins.{replicate-of}
 use Rattle.rules.specs.declared.Params.{Params}
-use Rattle.rules.specs.Parameters.{allowed, pages, pageBytes, blockBytes, chipBytes}
+use Rattle.rules.specs.Parameters.{allowed, pages, pageBytes, chipBytes}
 use Rattle.rules.specs.Traces.{pageAt}
 use Rattle.rules.proofs.Sizes.{sizes}
-use Rattle.rules.proofs.TableFacts.{chip-size}
-use Rattle.loops.proofs.Lent.{width, lent-part}
+use Rattle.loops.proofs.Lent.{lent-part}
 use Rattle.nand.specs.Asked.{Blank}
 
--- ---- the ends of pages and blocks
-
--- block n ends on the chip
-pub block-fits : (p : Params) (chip : List ℕ) (n : ℕ) → length chip ≡ chipBytes p → n < p .N → n * blockBytes p + blockBytes p ≤ length chip
-block-fits p chip n e h = rw (e, chip-size p) (next (blockBytes p) n (p .N) h)
+-- ---- the end of a page
 
 -- page q of block n ends on the chip
 pub page-fits : (p : Params) (chip : List ℕ) (n q : ℕ) → length chip ≡ chipBytes p → n < p .N → q < pages p

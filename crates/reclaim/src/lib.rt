@@ -14,7 +14,7 @@ fn cluster_at(p: Params, chip: &[u8], n: PBlock, f: usize) -> Cluster
     requires { ⌜ OnChip p (now chip) (n .0) f ⌝ }
     ensures { λ c. ⌜ c .0 ≡ held p (frame p (block p (now (chip .entry)) (n .0)) f) ⌝ }
 {
-    nand::cluster_in(p, blocks::frame_of(p, blocks::block_of(p, chip, n), f))
+    spares::cluster_in(p, blocks::frame_of(p, blocks::block_of(p, chip, n), f))
 }
 
 // Frame f of block o is copied to frame k of block n, and CT follows.

@@ -73,10 +73,10 @@ fn is_valid(p: Params, blk: &[u8], ct: &[u16], v: VBlock, k: usize, f: usize) ->
     ensures { λ ok. ⌜ ((r : ℕ) (vw : View) → Shows p r (v .0) (now (blk .entry)) (now (ct .entry)) vw → ok ≡ valid p vw (v .0) f) ⌝ }
 {
     let fr = blocks::frame_of(p, blk, f);
-    if !nand::is_programmed(p, fr) {
+    if !spares::is_programmed(p, fr) {
         return false;
     }
-    let c = nand::cluster_in(p, fr);
+    let c = spares::cluster_in(p, fr);
     if tables::ct_at(ct, c).0 != segment_in(p, v, k).0 {
         return false;
     }

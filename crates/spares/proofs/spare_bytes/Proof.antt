@@ -1,10 +1,10 @@
--- `nand::spare_bytes`: the list is written out.
+-- `spares::spare_bytes`: the list is written out.
 -- Assumes nothing.
 use mathlib.Core.Path.{refl}
 use borrow.Author.Needs.{needs}
 use Rattle.rules.specs.Pages.{bytes32, spareBytes}
-use Rattle.nand.proofs.spare_bytes.Statement.{statement}
-use Rattle.nand.proofs.spare_bytes.Tie as tie
+use Rattle.spares.proofs.spare_bytes.Statement.{statement}
+use Rattle.spares.proofs.spare_bytes.Tie as tie
 
 cast-t4 : tie.Need-cast-t4
 cast-t4 c = search needs

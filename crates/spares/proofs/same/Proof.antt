@@ -1,12 +1,12 @@
--- `nand::same`: two words each.
+-- `spares::same`: two words each.
 -- Assumes nothing.
 use mathlib.Core.Path.{sym}
 use native.Mathlib.Omega.{arith}
 use lib.Seq.{length-take-le}
 use borrow.Author.Needs.{needs}
-use Rattle.nand.proofs.Words.{same-words}
-use Rattle.nand.proofs.same.Statement.{statement}
-use Rattle.nand.proofs.same.Tie as tie
+use Rattle.spares.proofs.Words.{same-words}
+use Rattle.spares.proofs.same.Statement.{statement}
+use Rattle.spares.proofs.same.Tie as tie
 
 slice-aggregate-word : tie.Need-slice-aggregate-word
 slice-aggregate-word c = sym (length-take-le 8 (c .before .before .before .args .a .now) (omega (arith, c .before .before .before .pre .0)))

@@ -1,11 +1,11 @@
--- `nand::cluster_in`: the first four bytes of the first spare area.
+-- `spares::cluster_in`: the first four bytes of the first spare area.
 -- Assumes nothing.
 use mathlib.Core.Path.{sym, _∙_}
 use native.Mathlib.Omega.{arith}
 use Rattle.rules.proofs.Sizes.{sizes}
-use Rattle.nand.proofs.Spares.{first-page, held-is}
-use Rattle.nand.proofs.cluster_in.Statement.{statement}
-use Rattle.nand.proofs.cluster_in.Tie as tie
+use Rattle.spares.proofs.Spares.{first-page, held-is}
+use Rattle.spares.proofs.cluster_in.Statement.{statement}
+use Rattle.spares.proofs.cluster_in.Tie as tie
 
 half-requires : tie.Need-half-requires
 half-requires c κs = let b = sizes _ (c .before .pre .0) in omega (arith, first-page (c .before .args .p) (b .sectors), c .before .pre .1)

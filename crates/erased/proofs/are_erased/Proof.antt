@@ -1,4 +1,4 @@
--- `nand::are_erased`: in each half every page passed is all 255; what is left behind the halves is looked at last.
+-- `erased::are_erased`: in each half every page passed is all 255; what is left behind the halves is looked at last.
 -- Assumes nothing.
 use mathlib.Core.Path.{ap, refl, sym, _∙_, _≡_}
 use mathlib.Core.Logic.{inl, inr, _⊎_}
@@ -16,8 +16,8 @@ use Rattle.lists.proofs.Parts.{next}
 use Rattle.lists.proofs.Tests.{and-left, and-right, so}
 use Rattle.loops.proofs.Elements.{halves, part-from, parts-fail, parts-more}
 use Rattle.loops.proofs.Lent.{lent-length, lent-part}
-use Rattle.nand.proofs.are_erased.Statement.{statement}
-use Rattle.nand.proofs.are_erased.Tie as tie
+use Rattle.erased.proofs.are_erased.Statement.{statement}
+use Rattle.erased.proofs.are_erased.Tie as tie
 
 abbrev Inv-loop : tie.InvT-loop
 Inv-loop pages w k h i₀ i = (i ≤ h) × (allAre 255 (take (i * w) pages) ≡ true) × (allAre 255 (take (i * w) (drop (h * w) pages)) ≡ true)

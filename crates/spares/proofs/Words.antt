@@ -12,7 +12,7 @@ use borrow.Author.Tests.{eq-eqb, ne-eqb}
 use Rattle.lists.specs.Parts.{sameList}
 use Rattle.lists.proofs.Joins.{sameList→eq}
 use Rattle.rules.specs.Pages.{le32}
-use Rattle.nand.specs.Words.{le}
+use Rattle.spares.specs.Words.{le}
 
 -- ---- one number for a list
 

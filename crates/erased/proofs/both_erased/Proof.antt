@@ -1,4 +1,4 @@
--- `nand::both_erased`: the bits gathered are all bits exactly if the bytes passed so far, of both parts, are 255.
+-- `erased::both_erased`: the bits gathered are all bits exactly if the bytes passed so far, of both parts, are 255.
 -- Assumes nothing.
 use mathlib.Core.Path.{refl, _≡_}
 use mathlib.Core.Bool.{_&&_}
@@ -9,8 +9,8 @@ use lib.ListN.{getD, length, take}
 use borrow.Author.Needs.{needs}
 use Rattle.lists.specs.Parts.{allAre}
 use Rattle.loops.proofs.Elements.{bits-more-two, both-done}
-use Rattle.nand.proofs.both_erased.Statement.{statement}
-use Rattle.nand.proofs.both_erased.Tie as tie
+use Rattle.erased.proofs.both_erased.Statement.{statement}
+use Rattle.erased.proofs.both_erased.Tie as tie
 
 abbrev Inv-loop : tie.InvT-loop
 Inv-loop a b all₀ i₀ all i = (i ≤ length a) × (all < 256) × (eqb all 255 ≡ allAre 255 (take i a) && allAre 255 (take i b))

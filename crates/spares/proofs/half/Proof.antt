@@ -1,10 +1,10 @@
--- `nand::half`: the sum, byte by byte.
+-- `spares::half`: the sum, byte by byte.
 -- Assumes nothing.
 use native.Mathlib.Omega.{arith}
 use borrow.Author.Needs.{needs}
-use Rattle.nand.proofs.Spares.{four-bytes}
-use Rattle.nand.proofs.half.Statement.{statement}
-use Rattle.nand.proofs.half.Tie as tie
+use Rattle.spares.proofs.Spares.{four-bytes}
+use Rattle.spares.proofs.half.Statement.{statement}
+use Rattle.spares.proofs.half.Tie as tie
 
 shared-slice-read-wide : tie.Need-shared-slice-read-wide
 shared-slice-read-wide c = search needs

@@ -1,11 +1,11 @@
--- `nand::is_programmed`: byte 6 of the first spare area.
+-- `spares::is_programmed`: byte 6 of the first spare area.
 -- Assumes nothing.
 use mathlib.Core.Path.{sym}
 use native.Mathlib.Omega.{arith}
 use Rattle.rules.proofs.Sizes.{sizes}
-use Rattle.nand.proofs.Spares.{first-page, programmed-is}
-use Rattle.nand.proofs.is_programmed.Statement.{statement}
-use Rattle.nand.proofs.is_programmed.Tie as tie
+use Rattle.spares.proofs.Spares.{first-page, programmed-is}
+use Rattle.spares.proofs.is_programmed.Statement.{statement}
+use Rattle.spares.proofs.is_programmed.Tie as tie
 
 add-a : tie.Need-add-a
 add-a c = omega (arith, sizes _ (c .before .pre .0))

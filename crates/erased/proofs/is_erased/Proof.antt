@@ -1,4 +1,4 @@
--- `nand::is_erased`: the bits gathered are all bits exactly if the bytes passed so far are 255.
+-- `erased::is_erased`: the bits gathered are all bits exactly if the bytes passed so far are 255.
 -- Assumes nothing.
 use mathlib.Core.Path.{_≡_}
 use Prim.Native.Nat.{_-_, _<_, _≤_}
@@ -8,8 +8,8 @@ use lib.ListN.{getD, length, take}
 use borrow.Author.Needs.{needs}
 use Rattle.lists.specs.Parts.{allAre}
 use Rattle.loops.proofs.Elements.{all-done, all-none, bits-more}
-use Rattle.nand.proofs.is_erased.Statement.{statement}
-use Rattle.nand.proofs.is_erased.Tie as tie
+use Rattle.erased.proofs.is_erased.Statement.{statement}
+use Rattle.erased.proofs.is_erased.Tie as tie
 
 abbrev Inv-loop : tie.InvT-loop
 Inv-loop part all₀ i₀ all i = (i ≤ length part) × (all < 256) × (eqb all 255 ≡ allAre 255 (take i part))

@@ -1,4 +1,4 @@
--- `nand::is_marked`: the lent part is the spare area of the page.
+-- `spares::is_marked`: the lent part is the spare area of the page.
 -- Assumes nothing.
 use mathlib.Core.Path.{_≡_}
 use Prim.Native.Nat.{_*_, _+_, ℕ, _≤_}
@@ -7,9 +7,9 @@ use lib.ListN.{length}
 use borrow.Author.Needs.{needs}
 use Rattle.rules.specs.Parameters.{pageBytes}
 use Rattle.rules.proofs.Sizes.{sizes}
-use Rattle.nand.proofs.Spares.{spare-fits, spare-lent}
-use Rattle.nand.proofs.is_marked.Statement.{statement}
-use Rattle.nand.proofs.is_marked.Tie as tie
+use Rattle.spares.proofs.Spares.{spare-fits, spare-lent}
+use Rattle.spares.proofs.is_marked.Statement.{statement}
+use Rattle.spares.proofs.is_marked.Tie as tie
 
 -- the end of the spare area, in the frame
 end : (a : tie.Start) (w : ℕ) → w ≡ pageBytes (a .args .p) → a .args .j * w + a .args .p .s + 16 ≤ length (a .args .frame .now)

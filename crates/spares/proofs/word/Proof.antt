@@ -1,10 +1,10 @@
--- `nand::word`: two times four bytes.
+-- `spares::word`: two times four bytes.
 -- Assumes nothing.
 use native.Mathlib.Omega.{arith}
 use borrow.Author.Needs.{needs}
-use Rattle.nand.proofs.Words.{two-halves}
-use Rattle.nand.proofs.word.Statement.{statement}
-use Rattle.nand.proofs.word.Tie as tie
+use Rattle.spares.proofs.Words.{two-halves}
+use Rattle.spares.proofs.word.Statement.{statement}
+use Rattle.spares.proofs.word.Tie as tie
 
 half-requires : tie.Need-half-requires
 half-requires c κs = search needs
