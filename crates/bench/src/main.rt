@@ -1,8 +1,7 @@
 // The bench program: formats Board T, then answers each line of standard input with a line on standard output.
 ghost use mathlib.Core.Path.{_≡_};
-ghost use Prim.Native.Nat.{_*_, _≤_, min};
-ghost use lib.ListN.{length, replicate};
-ghost use Rattle.rules.specs.BoardT.{boardT};
+ghost use Prim.Native.Nat.{_≤_};
+ghost use lib.ListN.{length};
 ghost use Rattle.rules.specs.Tables.{boardOf};
 ghost use Rattle.bench.specs.Turned.{Started, Turned};
 use libc::STDIN_FILENO;
@@ -10,48 +9,6 @@ use libc::STDOUT_FILENO;
 use lines::Held;
 use lines::Line;
 use rules::Answer;
-use rules::Params;
-
-// Board T.
-fn board() -> Params
-    ensures { λ p. ⌜ p ≡ boardT ⌝ }
-{
-    Params {
-        s: 16,
-        alpha: 2,
-        beta: 1,
-        d: 2,
-        mu: 2,
-        gamma: 2,
-        C: 6,
-        N: 5,
-    }
-}
-
-// A chip of 5 blocks, all 255: 4 pages of 32 bytes a block.
-fn blank_chip() -> [u8; 640]
-    ensures { λ r. ⌜ r ≡ replicate 640 255 ⌝ }
-{
-    [255; 640]
-}
-
-// A cluster's bytes, each of one value.
-fn filled(value: u8) -> [u8; 32]
-    ensures { λ r. ⌜ r ≡ replicate 32 value ⌝ }
-{
-    [value; 32]
-}
-
-// How many bytes go with a call: those of `count` sectors, and no more than a cluster has.
-fn lent(count: u32) -> usize
-    ensures { λ r. ⌜ r ≡ min count 2 * 16 ⌝ }
-{
-    match count {
-        0 => 0,
-        1 => 16,
-        _ => 32,
-    }
-}
 
 // Prints the line of a format or a write.
 fn say_counts(letter: u8, a: Answer) {
@@ -92,10 +49,10 @@ fn write(
 )
     ensures { λ _. ⌜ Turned (Line.Write lba count value) (boardOf (now (chip .entry)) (now (ct .entry)) (now (bt .entry)) (now (fst .entry)) (now (bst .entry)) (now (wear .entry))) (now (marks .entry)) (boardOf (now (chip .exit)) (now (ct .exit)) (now (bt .exit)) (now (fst .exit)) (now (bst .exit)) (now (wear .exit))) (now (marks .exit)) ⌝ }
 {
-    let bytes = filled(value);
-    let n = lent(count);
+    let bytes = boardt::filled(value);
+    let n = boardt::lent(count);
     let a = layer::write(
-        board(),
+        boardt::board(),
         chip,
         ct,
         bt,
@@ -126,7 +83,7 @@ fn read_into(
     requires { ⌜ length (now bytes) ≤ 32 ⌝ }
 {
     let a = layer::read(
-        board(),
+        boardt::board(),
         chip,
         ct,
         bt,
@@ -153,8 +110,8 @@ fn read(
     lba: u32,
     count: u32,
 ) {
-    let mut bytes = filled(0);
-    let n = lent(count);
+    let mut bytes = boardt::filled(0);
+    let n = boardt::lent(count);
     read_into(
         chip,
         ct,
@@ -277,7 +234,7 @@ fn start(
     requires { ⌜ length (now marks) ≡ 16 ⌝ }
     ensures { λ _. ⌜ Started (boardOf (now (chip .entry)) (now (ct .entry)) (now (bt .entry)) (now (fst .entry)) (now (bst .entry)) (now (wear .entry))) (boardOf (now (chip .exit)) (now (ct .exit)) (now (bt .exit)) (now (fst .exit)) (now (bst .exit)) (now (wear .exit))) (now (marks .exit)) ⌝ }
 {
-    let a = layer::format(board(), chip, ct, bt, fst, bst, wear, marks);
+    let a = layer::format(boardt::board(), chip, ct, bt, fst, bst, wear, marks);
     say_counts(b'F', a);
 }
 
@@ -298,7 +255,7 @@ fn session(
 }
 
 fn main() {
-    let mut chip = blank_chip();
+    let mut chip = boardt::blank_chip();
     let mut ct = [0u16; 6];
     let mut bt = [0u16; 4];
     let mut fst = [0u16; 2];

@@ -1,7 +1,6 @@
 -- `bench::read` is safe: the part that is lent is within the cluster's bytes.
 -- Assumes nothing.
 use mathlib.Core.Path.{sym}
-use Prim.Native.Nat.{_≤_}
 use lib.ListN.{length, length-replicate}
 use lib.Seq.{length-take-le}
 use native.Mathlib.Omega.{arith}

@@ -1,7 +1,6 @@
 -- `bench::write`: the part that is lent is within the cluster's bytes, and is what the line's turn asks to be written.
 -- Assumes nothing.
 use mathlib.Core.Path.{sym}
-use Prim.Native.Nat.{_≤_}
 use lib.ListN.{length, length-replicate}
 use lib.Seq.{length-take-le}
 use native.Mathlib.Omega.{arith}

@@ -1,9 +1,9 @@
--- `bench::board`: the parameters one by one.
+-- `boardt::board`: the parameters one by one.
 -- Assumes nothing.
 use mathlib.Core.Path.{refl}
 use Rattle.rules.specs.BoardT.{boardT, paramsT}
-use Rattle.bench.proofs.board.Statement.{statement}
-use Rattle.bench.proofs.board.Tie as tie
+use Rattle.boardt.proofs.board.Statement.{statement}
+use Rattle.boardt.proofs.board.Tie as tie
 
 returns : tie.Need-returns
 unfolding boardT paramsT
