@@ -11,18 +11,18 @@ use borrow.Author.Tests.{eq-eqb, eqb-true, ne-eqb}
 use lib.ListN.{length}
 use Rattle.rules.specs.declared.Params.{Params}
 use Rattle.rules.specs.declared.Reply.{Reply}
-use Rattle.rules.specs.declared.Reply.the-variants.{Accepted, BadParameter, WrongLength, NotOrderly}
+use Rattle.rules.specs.declared.Reply.the-variants.{Accepted, BadParameter, WrongLength, BadCount, BadAddress, WrongData, NotOrderly}
 use Rattle.rules.specs.Parameters.{allowed}
 use Rattle.rules.specs.Numbers.{sectorOf}
 use Rattle.rules.specs.Orderly.{orderly}
 use Rattle.rules.specs.Tables.{Board}
 use Rattle.rules.specs.Format.{goodBlocks}
 use Rattle.rules.specs.Write.{Request}
-use Rattle.rules.specs.Replies.{Row, row, numberOf, isAccepted, lengthsFit, badParameter, wrongLength, badAddress, tooFewBlocks, notOrderly, firstRow}
+use Rattle.rules.specs.Replies.{Row, row, numberOf, isAccepted, lengthsFit, badParameter, wrongLength, badCount, badAddress, wrongData, tooFewBlocks, notOrderly, firstRow, accessReply}
 use Rattle.rules.proofs.Sizes.{sizes}
 use Rattle.marks.specs.Marks.{marksLength, marksRule}
 use Rattle.marks.specs.MarkedCalls.{markedReply, wrongMark, wrongMarksLength}
-use Rattle.replies.specs.Rows.{boardReply, stateReply}
+use Rattle.replies.specs.Rows.{boardReply, requestReply, stateReply}
 
 -- ---- no sum and no product wraps
 
@@ -115,6 +115,32 @@ module _ (p : Params) (b : Board) (marks : List ℕ) where
         go true y = refl
         go false true = refl
         go false false = refl
+
+  -- a read and a write: the rows of the request, then the state's
+  module _ (h : Passed p b marks) (q : Request) (r : Reply) (is : r ≡ requestReply p q) (n : ℕ) (m : n ≡ numberOf r) where
+    abbrev rows : List Row
+    rows = row (badCount p q) BadCount ∷ row (badAddress p q) BadAddress ∷ row (wrongData p q) WrongData ∷ row (notOrderly p b) NotOrderly ∷ []
+
+    pub request-refuses : (n ≡ 0 → ⊥) → r ≡ markedReply p b marks true (accessReply p b q)
+    unfolding requestReply accessReply firstRow
+    request-refuses ne = row-refuses h r rows true (λ (e : numberOf r ≡ 0). ne (m ∙ e)) (go (badCount p q) (badAddress p q) (wrongData p q) is)
+      where
+        go : (x y z : Bool) → r ≡ cond x BadCount (cond y BadAddress (cond z WrongData Accepted)) → r ≡ cond x BadCount (cond y BadAddress (cond z WrongData (cond (notOrderly p b) NotOrderly Accepted)))
+        go true y z e = e
+        go false true z e = e
+        go false false true e = e
+        go false false false e = absurd (ne (m ∙ ap numberOf e))
+
+    pub request-passes : n ≡ 0 → (s : Reply) → s ≡ stateReply p b marks → s ≡ markedReply p b marks true (accessReply p b q)
+    unfolding requestReply accessReply firstRow
+    request-passes z s e = state-last h s rows (go (badCount p q) (badAddress p q) (wrongData p q) (sym (ap numberOf is) ∙ sym m ∙ z)) e
+      where
+        go : (x y w : Bool) → numberOf (cond x BadCount (cond y BadAddress (cond w WrongData Accepted))) ≡ 0
+            → cond (notOrderly p b) NotOrderly Accepted ≡ cond x BadCount (cond y BadAddress (cond w WrongData (cond (notOrderly p b) NotOrderly Accepted)))
+        go true y w k = absurd (omega arith)
+        go false true w k = absurd (omega arith)
+        go false false true k = absurd (omega arith)
+        go false false false k = refl
 
 -- the rows of the state, by one test
 pub state-row : (p : Params) (b : Board) (marks : List ℕ) (ok t : Bool) → ok ≡ orderly p b && marksRule p b marks → ok ≡ t → cond t Accepted NotOrderly ≡ stateReply p b marks

@@ -14,7 +14,7 @@ ghost use Rattle.rules.specs.Calls.{answerOf};
 ghost use Rattle.agree.specs.Check.{Lengths};
 ghost use Rattle.marks.specs.Marks.{marksLength, marksRule};
 ghost use Rattle.marks.specs.MarkedCalls.{markedReply};
-ghost use Rattle.replies.specs.Rows.{boardReply, stateReply};
+ghost use Rattle.replies.specs.Rows.{boardReply, requestReply, stateReply};
 use rules::Answer;
 use rules::Params;
 use rules::Reply;
@@ -44,6 +44,23 @@ fn wrong_data(p: Params, count: u32, len: usize) -> bool
     ensures { λ bad. ⌜ ((q : Request) → q .count ≡ count → length (q .bytes) ≡ len → bad ≡ wrongData p q) ⌝ }
 {
     len != count as usize * p.s
+}
+
+// The reply by the request of a read or a write: its count, its address, and whether its data has the wrong length. 3, 4 or 5, else 0.
+fn request_reply(p: Params, lba: u32, count: u32, wrong: bool) -> Reply
+    requires { ⌜ allowed p ≡ true ⌝ }
+    ensures { λ r. ⌜ ((q : Request) → q .lba ≡ lba → q .count ≡ count → (badCount p q ≡ false → wrongData p q ≡ wrong) → r ≡ requestReply p q) ⌝ }
+{
+    if bad_count(p, lba, count) {
+        return Reply::BadCount;
+    }
+    if bad_address(p, lba) {
+        return Reply::BadAddress;
+    }
+    if wrong {
+        return Reply::WrongData;
+    }
+    Reply::Accepted
 }
 
 // Is a cluster not below C? Reply 4 of a release if so.
@@ -134,14 +151,9 @@ pub fn access_reply(
     if rules::number(head) != 0 {
         return head;
     }
-    if bad_count(p, lba, count) {
-        return Reply::BadCount;
-    }
-    if bad_address(p, lba) {
-        return Reply::BadAddress;
-    }
-    if wrong_data(p, count, len) {
-        return Reply::WrongData;
+    let asked = request_reply(p, lba, count, wrong_data(p, count, len));
+    if rules::number(asked) != 0 {
+        return asked;
     }
     state_reply(p, chip, ct, bt, fst, bst, marks)
 }
@@ -152,13 +164,11 @@ pub fn item_reply(p: Params, ordered: bool, lba: u32, count: u32, fits: bool) ->
     requires { ⌜ allowed p ≡ true ⌝ }
     ensures { λ r. ⌜ ((b : Board) (marks : List ℕ) (q : Request) → lengthsFit p b ≡ true → length marks ≡ marksLength p → ordered ≡ orderly p b && marksRule p b marks → q .lba ≡ lba → q .count ≡ count → (badCount p q ≡ false → wrongData p q ≡ not fits) → r ≡ markedReply p b marks true (accessReply p b q)) ⌝ }
 {
-    if bad_count(p, lba, count) {
-        Reply::BadCount
-    } else if bad_address(p, lba) {
-        Reply::BadAddress
-    } else if !fits {
-        Reply::WrongData
-    } else if ordered {
+    let asked = request_reply(p, lba, count, !fits);
+    if rules::number(asked) != 0 {
+        return asked;
+    }
+    if ordered {
         Reply::Accepted
     } else {
         Reply::NotOrderly
