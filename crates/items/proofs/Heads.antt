@@ -16,8 +16,8 @@ use Rattle.marks.specs.Marks.{marksRule}
 use Rattle.marks.specs.MarkedCalls.{wrongMarksLength}
 use Rattle.marks.specs.MarkedConditions.{MarkedBoard}
 use Rattle.queued.specs.Queue.{queueReply, tooFewAnswers}
-use Rattle.replies.specs.Rows.{boardReply, stateReply}
-use Rattle.replies.proofs.Rows.{Passed, head-passes, state-row}
+use Rattle.refusals.specs.Rows.{boardReply, stateReply}
+use Rattle.refusals.proofs.Rows.{Passed, head-passes, state-row}
 use Rattle.items.specs.Items.{HeadIs}
 
 -- a state is answered 0 where it is orderly with each mark right

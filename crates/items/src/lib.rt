@@ -85,9 +85,9 @@ pub fn item(
     ensures { λ a. ⌜ ItemIs p ordered (lentBoard (now (chip .entry)) (now (ct .entry)) (now (bt .entry)) (now (fst .entry)) (now (bst .entry)) (now (wear .entry)) (now (marks .entry))) (now (bytes .entry)) (itemOf lba count first) a (lentBoard (now (chip .exit)) (now (ct .exit)) (now (bt .exit)) (now (fst .exit)) (now (bst .exit)) (now (wear .exit)) (now (marks .exit))) ⌝ }
 {
     let fits = has_bytes(p, bytes.len(), count, first);
-    let reply = replies::item_reply(p, ordered, lba, count, fits);
+    let reply = refusals::item_reply(p, ordered, lba, count, fits);
     if rules::number(reply) != 0 {
-        return replies::idle(reply);
+        return refusals::idle(reply);
     }
     let from = first as usize;
     let to = from + count as usize * p.s;

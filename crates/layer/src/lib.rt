@@ -26,7 +26,7 @@ pub fn format(
 {
     let reply = replies::format_reply(p, chip, ct, bt, fst, bst, wear, marks);
     if rules::number(reply) != 0 {
-        return replies::idle(reply);
+        return refusals::idle(reply);
     }
     formatting::clear(ct);
     formatting::clear(bt);
@@ -70,10 +70,10 @@ pub fn read(
         bytes.len(),
     );
     if rules::number(reply) != 0 {
-        return replies::idle(reply);
+        return refusals::idle(reply);
     }
     reading::read_sectors(p, chip, ct, bt, lba as usize, count as usize, bytes);
-    replies::idle(reply)
+    refusals::idle(reply)
 }
 
 // The cluster of the LBA is rewritten with the lent data in the sectors asked for.
@@ -106,7 +106,7 @@ pub fn write(
         bytes.len(),
     );
     if rules::number(reply) != 0 {
-        return replies::idle(reply);
+        return refusals::idle(reply);
     }
     writing::write_orderly(
         p,
@@ -139,11 +139,11 @@ pub fn release(
 {
     let reply = replies::release_reply(p, chip, ct, bt, fst, bst, wear, marks, cluster);
     if rules::number(reply) != 0 {
-        return replies::idle(reply);
+        return refusals::idle(reply);
     }
     let c = Cluster(cluster as usize);
     let old = reading::find_frame(p, chip, ct, bt, c);
     keeping::unmark(p, marks, rules::region_of(p, c), old);
     tables::set_ct(ct, c, Segment(65535));
-    replies::idle(reply)
+    refusals::idle(reply)
 }

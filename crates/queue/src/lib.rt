@@ -55,5 +55,5 @@ pub fn queue(
         answers[i] = a;
         i = i + 1;
     }
-    replies::idle(h.reply)
+    refusals::idle(h.reply)
 }

@@ -2,7 +2,7 @@
 -- Assumes nothing.
 use native.Mathlib.Omega.{arith}
 use Rattle.queued.specs.Queue.{lies}
-use Rattle.replies.proofs.Rows.{bytes-low}
+use Rattle.refusals.proofs.Rows.{bytes-low}
 use Rattle.items.proofs.has_bytes.Statement.{statement}
 use Rattle.items.proofs.has_bytes.Tie as tie
 

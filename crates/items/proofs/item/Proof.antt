@@ -5,7 +5,7 @@ use native.Mathlib.Omega.{arith}
 use borrow.Author.Needs.{needs}
 use Rattle.marks.specs.MarkedConditions.{MarkedBoard}
 use Rattle.queued.specs.declared.Item.{Item}
-use Rattle.replies.proofs.Rows.{bytes-low}
+use Rattle.refusals.proofs.Rows.{bytes-low}
 use Rattle.items.specs.Items.{itemOf, lentBoard}
 use Rattle.items.proofs.Parts.{asked-accepted, inside, item-done, item-refused, marks-are}
 use Rattle.items.proofs.item.Statement.{statement}

@@ -84,10 +84,10 @@ use Rattle.items.proofs.item as item
 use Rattle.items.proofs.item.Symbol as item-def
 use Rattle.items.proofs.item.Symbol.{name as #items·item}
 use Rattle.items.proofs.item.Met as item-thm
-use Rattle.replies.proofs.idle as idle
-use Rattle.replies.proofs.idle.Symbol as idle-def
-use Rattle.replies.proofs.idle.Symbol.{name as #replies·idle}
-use Rattle.replies.proofs.idle.Met as idle-thm
+use Rattle.refusals.proofs.idle as idle
+use Rattle.refusals.proofs.idle.Symbol as idle-def
+use Rattle.refusals.proofs.idle.Symbol.{name as #refusals·idle}
+use Rattle.refusals.proofs.idle.Met as idle-thm
 use Rattle.queue.proofs.queue.Key.{name as #queue·queue}
 use Rattle.queue.proofs.queue as queue
 use Rattle.queue.proofs.queue.Statement as stated
@@ -351,7 +351,7 @@ module _ {M : Type 1} (𝓤 : URA M) (H : Heap 𝓤) (A : Atoms 𝓤) (W : Given
 
   -- ---- the walk: what the callees do, and the room of each slice, are known
   module _ (𝓣 : Tables 𝓤 H) (fm : FmC 𝓤 H (W .laws) (𝓣 .C)) (heads : Triple 𝓤 (𝓣 .C #items·head-of) (HeadOf 𝓤 H A mem rn))
-      (serves : Triple 𝓤 (𝓣 .C #items·item) (OneItem 𝓤 H A mem rn)) (idles : Triple 𝓤 (𝓣 .C #replies·idle) (Idle 𝓤 H A mem rn))
+      (serves : Triple 𝓤 (𝓣 .C #items·item) (OneItem 𝓤 H A mem rn)) (idles : Triple 𝓤 (𝓣 .C #refusals·idle) (Idle 𝓤 H A mem rn))
       (gp : Is Par.the-row p (vp ∷ [])) (gs : Rooms ds) (gr : Room It.the-row n) (gb : Room u8 (length bs)) (go : Room Ans.the-row no) where
     abbrev C : Calls 𝓤 H
     C = 𝓣 .C
@@ -860,7 +860,7 @@ module _ {M : Type 1} (𝓤 : URA M) (H : Heap 𝓤) (A : Atoms 𝓤) (W : Given
 -- ---- from the walk to the theorem
 module _ {M : Type 1} (𝓤 : URA M) (H : Heap 𝓤) (A : Atoms 𝓤) (W : Given 𝓤 H A) (mem : Memory → SProp 𝓤) (rn : Routine → Fun 𝓤) where
   queue-walks : (𝓣 : Tables 𝓤 H) → Triple 𝓤 (𝓣 .C #items·head-of) (HeadOf 𝓤 H A mem rn) → Triple 𝓤 (𝓣 .C #items·item) (OneItem 𝓤 H A mem rn) →
-      Triple 𝓤 (𝓣 .C #replies·idle) (Idle 𝓤 H A mem rn)
+      Triple 𝓤 (𝓣 .C #refusals·idle) (Idle 𝓤 H A mem rn)
       → Walks 𝓤 H A queue.ended stayed (WpFn 𝓤 H (𝓣 .C) (𝓣 .Λ) code.function) (queue.clauses 𝓤 H A mem rn)
   queue-walks 𝓣 heads serves idles = walked 𝓤 H A queue.ended stayed (queue.clauses 𝓤 H A mem rn) (WpFn 𝓤 H (𝓣 .C) (𝓣 .Λ) code.function)
       (λ κs. (LL.vals Par.the-type Par′.the-laws, (slice-vals, (slice-vals, (slice-vals, (slice-vals, (slice-vals, (slice-vals, (slice-vals, (slice-vals, (slice-vals, (slice-vals, tt))))))))))))
@@ -876,7 +876,7 @@ module _ {M : Type 1} (𝓤 : URA M) (H : Heap 𝓤) (A : Atoms 𝓤) (W : Given
 
 queue-meets : {M : Type 1} (𝓤 : URA M) (H : Heap 𝓤) (A : Atoms 𝓤) → Given 𝓤 H A → (mem : Memory → SProp 𝓤) (rn : Routine → Fun 𝓤) (𝓣 : Tables 𝓤 H) →
     Triple 𝓤 (𝓣 .C #items·head-of) (HeadOf 𝓤 H A mem rn) → Triple 𝓤 (𝓣 .C #items·item) (OneItem 𝓤 H A mem rn) →
-    Triple 𝓤 (𝓣 .C #replies·idle) (Idle 𝓤 H A mem rn)
+    Triple 𝓤 (𝓣 .C #refusals·idle) (Idle 𝓤 H A mem rn)
     → Meets 𝓤 H A queue.signature (WpFn 𝓤 H (𝓣 .C) (𝓣 .Λ) code.function) (queue.spec 𝓤 H A mem rn)
 queue-meets 𝓤 H A W mem rn 𝓣 heads serves idles = walk-meets 𝓤 H A queue.ended stayed W
     (goes-none 𝓤 H A W 10 (λ _. Par.the-row) yes (λ κs x f. refl), (goes-slice 𝓤 H A W 10 0 tt (plain (λ _. u8)), (goes-slice 𝓤 H A W 10 1 tt (plain (λ _. u16)), (goes-slice 𝓤 H A W 10 2 tt (plain (λ _. u16)), (goes-slice 𝓤 H A W 10 3 tt (plain (λ _. u16)), (goes-slice 𝓤 H A W 10 4 tt (plain (λ _. u8)), (goes-slice 𝓤 H A W 10 5 tt (plain (λ _. u32)), (goes-slice 𝓤 H A W 10 6 tt (plain (λ _. u64)), (goes-none-slice 𝓤 H A W 10 (7 ∷ []) tt (plain (λ _. It.the-row)) yes, (goes-none-slice 𝓤 H A W 10 (8 ∷ []) tt (plain (λ _. u8)) yes, (goes-slice 𝓤 H A W 10 9 tt (plain (λ _. Ans.the-row)), tt)))))))))))
@@ -892,4 +892,4 @@ queue-spec 𝓤 H 𝓜 𝓖 𝓡 =
     (cited 𝓤 H (HeadOf 𝓤 H (𝓖 .A) (𝓜 .mem) (𝓡 .run)) 𝓜 𝓡 code.env #items·head-of head-of-def.routine code.calls-items·head-of
     (head-of-thm.met 𝓤 H 𝓜 𝓖 𝓡))
     (cited 𝓤 H (OneItem 𝓤 H (𝓖 .A) (𝓜 .mem) (𝓡 .run)) 𝓜 𝓡 code.env #items·item item-def.routine code.calls-items·item (item-thm.met 𝓤 H 𝓜 𝓖 𝓡))
-    (cited 𝓤 H (Idle 𝓤 H (𝓖 .A) (𝓜 .mem) (𝓡 .run)) 𝓜 𝓡 code.env #replies·idle idle-def.routine code.calls-replies·idle (idle-thm.met 𝓤 H 𝓜 𝓖 𝓡)))
+    (cited 𝓤 H (Idle 𝓤 H (𝓖 .A) (𝓜 .mem) (𝓡 .run)) 𝓜 𝓡 code.env #refusals·idle idle-def.routine code.calls-refusals·idle (idle-thm.met 𝓤 H 𝓜 𝓖 𝓡)))

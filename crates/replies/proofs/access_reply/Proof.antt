@@ -5,7 +5,7 @@ use borrow.Author.Needs.{needs}
 use Rattle.rules.specs.Replies.{accessReply}
 use Rattle.rules.specs.Tables.{Board, boardOf}
 use Rattle.agree.proofs.Agree.{lengths-in}
-use Rattle.replies.proofs.Rows.{head-passes, head-refuses, request-passes, request-refuses}
+use Rattle.refusals.proofs.Rows.{head-passes, head-refuses, request-passes, request-refuses}
 use Rattle.replies.proofs.access_reply.Statement.{statement}
 use Rattle.replies.proofs.access_reply.Tie as tie
 

@@ -8,8 +8,8 @@ use Rattle.rules.specs.Replies.{badParameter, wrongLength}
 use Rattle.rules.specs.Tables.{Board, boardOf}
 use Rattle.sizes.proofs.Checks.{lengths-are}
 use Rattle.marks.specs.MarkedCalls.{wrongMarksLength}
-use Rattle.replies.specs.Rows.{boardReply}
-use Rattle.replies.proofs.Rows.{here, otherwise, skip}
+use Rattle.refusals.specs.Rows.{boardReply}
+use Rattle.refusals.proofs.Rows.{here, otherwise, skip}
 use Rattle.replies.proofs.board_reply.Statement.{statement}
 use Rattle.replies.proofs.board_reply.Tie as tie
 

@@ -9,7 +9,7 @@ use Rattle.rules.specs.Tables.{Board, boardOf}
 use Rattle.rules.proofs.Sizes.{sizes}
 use Rattle.rules.proofs.TableFacts.{chip-size}
 use Rattle.agree.proofs.Agree.{lengths-in}
-use Rattle.replies.proofs.Rows.{asks-nothing, few-is, head-passes, head-refuses, here, otherwise, row-refuses, skip}
+use Rattle.refusals.proofs.Rows.{asks-nothing, few-is, head-passes, head-refuses, here, otherwise, row-refuses, skip}
 use Rattle.replies.proofs.format_reply.Statement.{statement}
 use Rattle.replies.proofs.format_reply.Tie as tie
 

@@ -1,7 +1,7 @@
 -- `replies::state_reply`: the rows of the state, which one test has both of.
 -- Assumes nothing.
 use borrow.Author.Needs.{needs}
-use Rattle.replies.proofs.Rows.{state-row}
+use Rattle.refusals.proofs.Rows.{state-row}
 use Rattle.replies.proofs.state_reply.Statement.{statement}
 use Rattle.replies.proofs.state_reply.Tie as tie
 

@@ -6,7 +6,7 @@ use borrow.Author.Needs.{needs}
 use Rattle.rules.specs.Replies.{whyReply}
 use Rattle.rules.specs.Tables.{Board, boardOf}
 use Rattle.agree.proofs.Agree.{lengths-in}
-use Rattle.replies.proofs.Rows.{address-is, head-passes, head-refuses, here, row-refuses, skip, state-last}
+use Rattle.refusals.proofs.Rows.{address-is, head-passes, head-refuses, here, row-refuses, skip, state-last}
 use Rattle.replies.proofs.why_reply.Statement.{statement}
 use Rattle.replies.proofs.why_reply.Tie as tie
 

@@ -22,7 +22,7 @@ use Rattle.rules.specs.Replies.{Row, row, numberOf, isAccepted, lengthsFit, bad
 use Rattle.rules.proofs.Sizes.{sizes}
 use Rattle.marks.specs.Marks.{marksLength, marksRule}
 use Rattle.marks.specs.MarkedCalls.{markedReply, wrongMark, wrongMarksLength}
-use Rattle.replies.specs.Rows.{boardReply, requestReply, stateReply}
+use Rattle.refusals.specs.Rows.{boardReply, requestReply, stateReply}
 
 -- ---- no sum and no product wraps
 

@@ -1,10 +1,10 @@
--- `replies::wrong_data`: the number of bytes fits.
+-- `refusals::wrong_data`: the number of bytes fits.
 -- Assumes nothing.
 use native.Mathlib.Omega.{arith}
 use Rattle.rules.specs.Replies.{wrongData}
-use Rattle.replies.proofs.Rows.{bytes-low}
-use Rattle.replies.proofs.wrong_data.Statement.{statement}
-use Rattle.replies.proofs.wrong_data.Tie as tie
+use Rattle.refusals.proofs.Rows.{bytes-low}
+use Rattle.refusals.proofs.wrong_data.Statement.{statement}
+use Rattle.refusals.proofs.wrong_data.Tie as tie
 
 mul-result : tie.Need-mul-result
 mul-result c = omega (arith, bytes-low _ (c .before .pre) (c .before .args .count) (omega arith))

@@ -1,9 +1,9 @@
--- `replies::bad_cluster`: the comparison that the row makes.
+-- `refusals::bad_cluster`: the comparison that the row makes.
 -- Assumes nothing.
 use mathlib.Core.Path.{refl}
 use Rattle.rules.specs.Replies.{badCluster}
-use Rattle.replies.proofs.bad_cluster.Statement.{statement}
-use Rattle.replies.proofs.bad_cluster.Tie as tie
+use Rattle.refusals.proofs.bad_cluster.Statement.{statement}
+use Rattle.refusals.proofs.bad_cluster.Tie as tie
 
 returns : tie.Need-returns
 unfolding badCluster

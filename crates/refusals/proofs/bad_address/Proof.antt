@@ -1,10 +1,10 @@
--- `replies::bad_address`: the number of all sectors fits.
+-- `refusals::bad_address`: the number of all sectors fits.
 -- Assumes nothing.
 use native.Mathlib.Omega.{arith}
 use Rattle.rules.specs.Replies.{badAddress}
-use Rattle.replies.proofs.Rows.{sectors-low}
-use Rattle.replies.proofs.bad_address.Statement.{statement}
-use Rattle.replies.proofs.bad_address.Tie as tie
+use Rattle.refusals.proofs.Rows.{sectors-low}
+use Rattle.refusals.proofs.bad_address.Statement.{statement}
+use Rattle.refusals.proofs.bad_address.Tie as tie
 
 mul-result : tie.Need-mul-result
 mul-result c = omega (arith, sectors-low _ (c .before .pre))

@@ -1,12 +1,12 @@
--- `replies::bad_count`: the end of the run fits.
+-- `refusals::bad_count`: the end of the run fits.
 -- Assumes nothing.
 use native.Mathlib.Omega.{arith}
 use borrow.Author.Tests.{eq-eqb, ne-eqb}
 use Rattle.rules.specs.Replies.{badCount}
 use Rattle.rules.proofs.Sizes.{sizes}
-use Rattle.replies.proofs.Rows.{end-low}
-use Rattle.replies.proofs.bad_count.Statement.{statement}
-use Rattle.replies.proofs.bad_count.Tie as tie
+use Rattle.refusals.proofs.Rows.{end-low}
+use Rattle.refusals.proofs.bad_count.Statement.{statement}
+use Rattle.refusals.proofs.bad_count.Tie as tie
 
 returns : tie.Need-returns
 unfolding badCount

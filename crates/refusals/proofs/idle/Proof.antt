@@ -1,10 +1,10 @@
--- `replies::idle`: nothing is counted over no operations.
+-- `refusals::idle`: nothing is counted over no operations.
 -- Assumes nothing.
 use mathlib.Core.Path.{refl}
 use Rattle.rules.specs.Traces.{programsIn, erasesIn}
 use Rattle.rules.specs.Calls.{answerOf}
-use Rattle.replies.proofs.idle.Statement.{statement}
-use Rattle.replies.proofs.idle.Tie as tie
+use Rattle.refusals.proofs.idle.Statement.{statement}
+use Rattle.refusals.proofs.idle.Tie as tie
 
 returns : tie.Need-returns
 unfolding answerOf programsIn erasesIn

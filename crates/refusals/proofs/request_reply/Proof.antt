@@ -1,11 +1,11 @@
--- `replies::request_reply`: each return is the reply of the first row that applies.
+-- `refusals::request_reply`: each return is the reply of the first row that applies.
 -- Assumes nothing.
 use mathlib.Core.Path.{sym, _∙_}
 use borrow.Author.Needs.{needs}
-use Rattle.replies.specs.Rows.{requestReply}
-use Rattle.replies.proofs.Rows.{here, otherwise, skip}
-use Rattle.replies.proofs.request_reply.Statement.{statement}
-use Rattle.replies.proofs.request_reply.Tie as tie
+use Rattle.refusals.specs.Rows.{requestReply}
+use Rattle.refusals.proofs.Rows.{here, otherwise, skip}
+use Rattle.refusals.proofs.request_reply.Statement.{statement}
+use Rattle.refusals.proofs.request_reply.Tie as tie
 
 bad-count-requires : tie.Need-bad-count-requires
 bad-count-requires c κs = search needs

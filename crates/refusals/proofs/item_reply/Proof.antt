@@ -1,9 +1,9 @@
--- `replies::item_reply`: the rows of the request, then the state's, where the first two do not apply.
+-- `refusals::item_reply`: the rows of the request, then the state's, where the first two do not apply.
 -- Assumes nothing.
 use borrow.Author.Needs.{needs}
-use Rattle.replies.proofs.Rows.{request-passes, request-refuses, state-row}
-use Rattle.replies.proofs.item_reply.Statement.{statement}
-use Rattle.replies.proofs.item_reply.Tie as tie
+use Rattle.refusals.proofs.Rows.{request-passes, request-refuses, state-row}
+use Rattle.refusals.proofs.item_reply.Statement.{statement}
+use Rattle.refusals.proofs.item_reply.Tie as tie
 
 request-reply-requires : tie.Need-request-reply-requires
 request-reply-requires c κs = search needs

@@ -1,10 +1,10 @@
--- `replies::marks_fit`: the number of all words fits.
+-- `refusals::marks_fit`: the number of all words fits.
 -- Assumes nothing.
 use mathlib.Core.Path.{refl}
 use native.Mathlib.Omega.{arith}
 use Rattle.rules.proofs.Sizes.{sizes}
-use Rattle.replies.proofs.marks_fit.Statement.{statement}
-use Rattle.replies.proofs.marks_fit.Tie as tie
+use Rattle.refusals.proofs.marks_fit.Statement.{statement}
+use Rattle.refusals.proofs.marks_fit.Tie as tie
 
 mul-result : tie.Need-mul-result
 mul-result c = omega (arith, (sizes _ (c .before .pre)) .tableHigh)
