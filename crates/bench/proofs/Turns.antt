@@ -21,7 +21,7 @@ use Rattle.marks.specs.MarkedCalls.{MarkedOutcome, asksOrder, markedCall, marke
 use Rattle.marks.specs.MarkedConditions.{MarkedBoard, markedLeaves, markedOutcomeOf, markedReplyTo}
 use Rattle.marks.proofs.MarkedReplies.{as-before}
 use Rattle.marks.proofs.MarkedRuns.{keeps-own, leaves-own, withMarks}
-use Rattle.layer.specs.Claims.{outcome}
+use Rattle.ends.specs.Claims.{outcome}
 use Rattle.lines.specs.declared.Line.the-variants.{Other, Read, Write}
 use Rattle.session.specs.Session.{requested, turn}
 use Rattle.bench.specs.Turned.{Started, Turned}

@@ -11,7 +11,7 @@ use Rattle.rules.specs.Replies.{numberOf}
 use Rattle.rules.specs.Calls.{Call}
 use Rattle.marks.specs.MarkedCalls.{MarkedOutcome, markedCall, markedOutcome}
 use Rattle.claims.proofs.Outcomes.{number-low}
-use Rattle.layer.specs.Claims.{outcome}
+use Rattle.ends.specs.Claims.{outcome}
 use Rattle.flat.specs.Packed.{packed}
 use Rattle.flat.proofs.Counts.{few-marked}
 use Rattle.cnftl.specs.Packed.{Given}

@@ -1,10 +1,10 @@
--- `layer::format`: refused by the reply's number, or every block formatted, every entry cleared and every mark gone.
+-- `formats::format`: refused by the reply's number, or every block formatted, every entry cleared and every mark gone.
 -- Assumes nothing.
 use borrow.Author.Needs.{needs}
 use Rattle.rules.specs.Tables.{Board, boardOf}
-use Rattle.layer.proofs.Calls.{format-is, format-refused, blocks-asked, few, format-done}
-use Rattle.layer.proofs.format.Statement.{statement}
-use Rattle.layer.proofs.format.Tie as tie
+use Rattle.formats.proofs.Call.{format-is, format-refused, blocks-asked, few, format-done}
+use Rattle.formats.proofs.format.Statement.{statement}
+use Rattle.formats.proofs.format.Tie as tie
 
 abbrev board : tie.Start → Board
 board a = boardOf (a .args .chip .now) (a .args .ct .now) (a .args .bt .now) (a .args .fst .now) (a .args .bst .now) (a .args .wear .now)

@@ -1,12 +1,12 @@
--- `layer::read`: refused by the reply's number, or the sectors read.
+-- `reads::read`: refused by the reply's number, or the sectors read.
 -- Assumes nothing.
 use mathlib.Core.Path.{refl}
 use borrow.Author.Needs.{needs}
 use Rattle.rules.specs.Tables.{Board, boardOf}
 use Rattle.reading.specs.Sectors.{requestOf}
-use Rattle.layer.proofs.Calls.{asked, read-refused, read-done}
-use Rattle.layer.proofs.read.Statement.{statement}
-use Rattle.layer.proofs.read.Tie as tie
+use Rattle.reads.proofs.Call.{asked, read-refused, read-done}
+use Rattle.reads.proofs.read.Statement.{statement}
+use Rattle.reads.proofs.read.Tie as tie
 
 abbrev board : tie.Start → Board
 board a = boardOf (a .args .chip .now) (a .args .ct .now) (a .args .bt .now) (a .args .fst .now) (a .args .bst .now) (a .args .wear .now)

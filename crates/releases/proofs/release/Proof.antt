@@ -1,11 +1,11 @@
--- `layer::release`: refused by the reply's number, or the mark of the cluster's frame cleared and its CT entry set to none.
+-- `releases::release`: refused by the reply's number, or the mark of the cluster's frame cleared and its CT entry set to none.
 -- Assumes nothing.
 use native.Mathlib.Omega.{arith}
 use borrow.Author.Needs.{needs}
 use Rattle.rules.specs.Tables.{Board, boardOf}
-use Rattle.layer.proofs.Calls.{entry-there, regions, release-done, release-lookup, release-refused, release-unmark}
-use Rattle.layer.proofs.release.Statement.{statement}
-use Rattle.layer.proofs.release.Tie as tie
+use Rattle.releases.proofs.Call.{entry-there, regions, release-done, release-lookup, release-refused, release-unmark}
+use Rattle.releases.proofs.release.Statement.{statement}
+use Rattle.releases.proofs.release.Tie as tie
 
 abbrev board : tie.Start → Board
 board a = boardOf (a .args .chip .now) (a .args .ct .now) (a .args .bt .now) (a .args .fst .now) (a .args .bst .now) (a .args .wear .now)

@@ -1,0 +1,38 @@
+// Document 01, "Format", on the lent chip and tables, with T-06's table of marks. No `requires`: the contract says that the whole outcome is the rules', for every input.
+ghost use mathlib.Core.Path.{_≡_};
+ghost use mathlib.Core.List.{[]};
+ghost use Rattle.rules.specs.Tables.{boardOf};
+ghost use Rattle.rules.specs.Calls.{format};
+ghost use Rattle.marks.specs.MarkedCalls.{markedCall, markedOutcome};
+ghost use Rattle.ends.specs.Claims.{outcome};
+use rules::Answer;
+use rules::Params;
+
+// The bad blocks become reserved, all others are erased and free, and every table entry becomes none.
+pub fn format(
+    p: Params,
+    chip: &mut [u8],
+    ct: &mut [u16],
+    bt: &mut [u16],
+    fst: &mut [u16],
+    bst: &mut [u8],
+    wear: &mut [u32],
+    marks: &mut [u64],
+) -> Answer
+    ensures { λ a. ⌜ markedOutcome (outcome a [] (boardOf (now (chip .exit)) (now (ct .exit)) (now (bt .exit)) (now (fst .exit)) (now (bst .exit)) (now (wear .exit)))) (now (marks .exit)) ≡ markedCall p (boardOf (now (chip .entry)) (now (ct .entry)) (now (bt .entry)) (now (fst .entry)) (now (bst .entry)) (now (wear .entry))) (now (marks .entry)) format ⌝ }
+{
+    let reply = replies::format_reply(p, chip, ct, bt, fst, bst, wear, marks);
+    if rules::number(reply) != 0 {
+        return refusals::idle(reply);
+    }
+    formatting::clear(ct);
+    formatting::clear(bt);
+    formatting::clear(fst);
+    marking::clear_all(marks);
+    let k = formatting::format_blocks(p, chip, bst, wear);
+    Answer {
+        reply,
+        programs: 0,
+        erases: k as u32,
+    }
+}
