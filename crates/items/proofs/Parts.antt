@@ -1,28 +1,26 @@
 -- The two ends of an item: refused by its reply's number, and accepted with its work done. Both are the single write that it asks for.
 -- Assumes nothing.
 use mathlib.Core.Path.{_≡_, refl, sym, ap, _∙_}
-use mathlib.Core.Logic.{_⊎_, inl, inr}
-use mathlib.Core.Bool.{Bool, true, false, not, _&&_, cond}
+use mathlib.Core.Bool.{Bool, true, false, not, _&&_}
 use mathlib.Core.List.{List, []}
 use Prim.Native.Nat.{ℕ, _+_, _*_, _-_, _≤_}
 use lib.ListN.{length, take, drop}
 use borrow.Author.Tests.{leb-true, not-false}
-use native.Mathlib.Omega.{arith}
-use Rattle.lists.proofs.Tests.{and-intro, never}
+use Rattle.lists.proofs.Tests.{and-intro}
 use Rattle.loops.proofs.Lent.{width}
 use Rattle.rules.specs.declared.Params.{Params}
 use Rattle.rules.specs.declared.Reply.{Reply}
-use Rattle.rules.specs.declared.Reply.the-variants.{Accepted, BadParameter, WrongLength, NotOrderly}
+use Rattle.rules.specs.declared.Reply.the-variants.{Accepted}
 use Rattle.rules.specs.declared.Answer.{Answer}
 use Rattle.rules.specs.Orderly.{orderly}
 use Rattle.rules.specs.Calls.{Call, answerOf, outcomeOf, refuses, writeCall}
-use Rattle.rules.specs.Replies.{accessReply, badCount, badParameter, isAccepted, lengthsFit, numberOf, wrongData}
+use Rattle.rules.specs.Replies.{accessReply, badCount, badParameter, lengthsFit, numberOf, wrongData}
 use Rattle.rules.specs.Tables.{Board}
 use Rattle.rules.specs.Write.{Request, written}
 use Rattle.rules.proofs.Admitted.{access-checks}
 use Rattle.claims.specs.Runs.{leaves}
 use Rattle.claims.proofs.Condition1.{condition-1}
-use Rattle.claims.proofs.Outcomes.{accepted-by, is-refused, reply-cases, write-leaves, write-reply}
+use Rattle.claims.proofs.Outcomes.{accepted-by, is-refused, write-leaves, write-reply}
 use Rattle.marks.specs.Marks.{marksLength, marksOf, marksRule}
 use Rattle.marks.specs.MarkedCalls.{MarkedOutcome, asksOrder, markedReply, wrongMark, wrongMarksLength}
 use Rattle.marks.specs.MarkedConditions.{MarkedBoard, markedLeaves, markedOutcomeOf}
@@ -33,6 +31,7 @@ use Rattle.queued.specs.declared.Item.{Item}
 use Rattle.queued.specs.Queue.{itemRequest, itemWrite, lies}
 use Rattle.reading.specs.Sectors.{requestOf}
 use Rattle.writing.specs.Clusters.{Gives}
+use Rattle.ends.proofs.Ends.{none-wrong}
 use Rattle.items.specs.Items.{ItemIs, Ready}
 use Rattle.queued.proofs.Queues.{data-in-its-turn}
 
@@ -45,18 +44,6 @@ abbrev Replied : Params → Bool → ℕ → ℕ → Bool → Reply → Type 0
 Replied p ordered lba count fits r =
     (b : Board) (marks : List ℕ) (q : Request) → lengthsFit p b ≡ true → length marks ≡ marksLength p → ordered ≡ orderly p b && marksRule p b marks
     → q .lba ≡ lba → q .count ≡ count → (badCount p q ≡ false → wrongData p q ≡ not fits) → r ≡ markedReply p b marks true (accessReply p b q)
-
--- 0 with the marks: no mark is wrong where the call without them replies 0, as it does
-no-wrong : (a l w : Bool) (r : Reply) → cond a BadParameter (cond l WrongLength (cond (isAccepted r && w) NotOrderly r)) ≡ Accepted → (w ≡ false) × (r ≡ Accepted)
-unfolding isAccepted
-no-wrong true l w r e = absurd (omega (arith, ap numberOf e))
-no-wrong false true w r e = absurd (omega (arith, ap numberOf e))
-no-wrong false false w r e = go w (reply-cases r) e
-  where
-    go : (t : Bool) → (r ≡ Accepted) ⊎ (isAccepted r ≡ false) → cond (isAccepted r && t) NotOrderly r ≡ Accepted → (t ≡ false) × (r ≡ Accepted)
-    go true (inl a) k = absurd (omega (arith, ap numberOf (rw a at k)))
-    go false (inl a) k = (refl, a)
-    go t (inr f) k = absurd (never (ap isAccepted (rw f at k)) f)
 
 module _ (p : Params) (ordered : Bool) (x : MarkedBoard) (y : Ready p ordered x) (bytes : List ℕ) (it : Item) where
   -- the write that it asks for
@@ -92,7 +79,7 @@ module _ (p : Params) (ordered : Bool) (x : MarkedBoard) (y : Ready p ordered x)
       -- it passes without the marks, and no mark is wrong
       both : (wrongMark p (x .board) (x .marks) ≡ false) × (accessReply p (x .board) request ≡ Accepted)
       unfolding markedReply
-      both = no-wrong (badParameter p) (wrongMarksLength p (x .marks)) (wrongMark p (x .board) (x .marks)) (accessReply p (x .board) request) (sym is ∙ accepted-by r n m z)
+      both = (none-wrong (badParameter p) (wrongMarksLength p (x .marks)) (wrongMark p (x .board) (x .marks)) (accessReply p (x .board) request) (sym is ∙ accepted-by r n m z)) .1
 
       right-marks : marksRule p (x .board) (x .marks) ≡ true
       unfolding wrongMark
