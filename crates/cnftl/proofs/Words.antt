@@ -1,33 +1,17 @@
--- The layer's outcome with its answer packed; and that the number tells the reply and both counts.
+-- The layer's outcome with its answer packed.
 -- Assumes nothing.
 use mathlib.Core.Path.{_≡_, sym, ap, _∙_}
 use mathlib.Core.List.{List}
 use Prim.Native.Nat.{ℕ, _<_}
-use native.Mathlib.Omega.{arith}
 use Rattle.rules.specs.declared.Params.{Params}
 use Rattle.rules.specs.declared.Answer.{Answer}
 use Rattle.rules.specs.Tables.{Board}
-use Rattle.rules.specs.Replies.{numberOf}
 use Rattle.rules.specs.Calls.{Call}
 use Rattle.marks.specs.MarkedCalls.{MarkedOutcome, markedCall, markedOutcome}
-use Rattle.claims.proofs.Outcomes.{number-low}
 use Rattle.ends.specs.Claims.{outcome}
-use Rattle.flat.specs.Packed.{packed}
-use Rattle.flat.proofs.Counts.{few-marked}
+use Rattle.packing.specs.Packed.{packed}
+use Rattle.packing.proofs.Counts.{few-marked}
 use Rattle.cnftl.specs.Packed.{Given}
-
--- ---- the number
-
--- two answers with the same number have the same reply number and the same counts
-pub packed-apart : (a b : Answer) → a .programs < 65536 → b .programs < 65536 → packed a ≡ packed b
-    → (numberOf (a .reply) ≡ numberOf (b .reply)) × (a .programs ≡ b .programs) × (a .erases ≡ b .erases)
-unfolding packed
-packed-apart a b h k e =
-    let m = number-low (a .reply) in
-    let n = number-low (b .reply) in
-    (omega arith, omega arith, omega arith)
-
--- ---- a call with its answer packed
 
 module _ (p p′ : Params) (same : p ≡ p′) (a : Answer) (bytes : List ℕ) (b b′ : Board) (marks marks′ : List ℕ) (c : Call) (e : markedOutcome (outcome a bytes b′) marks′ ≡ markedCall p b marks c) where
   pub few : a .programs < 65536

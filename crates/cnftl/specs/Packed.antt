@@ -5,7 +5,7 @@ use mathlib.Core.List.{List}
 use Prim.Native.Nat.{ℕ}
 use Rattle.rules.specs.Tables.{Board}
 use Rattle.marks.specs.MarkedCalls.{MarkedOutcome}
-use Rattle.flat.specs.Packed.{packed}
+use Rattle.packing.specs.Packed.{packed}
 
 -- what a call through the C interface gives: the packed answer, the lent data, the board and the table of marks of the outcome
 pub record Given (o : MarkedOutcome) (word : ℕ) (bytes : List ℕ) (b : Board) (marks : List ℕ) : Type 0 where

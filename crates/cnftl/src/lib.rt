@@ -10,7 +10,7 @@ ghost use Rattle.reading.specs.Sectors.{requestOf};
 ghost use Rattle.why.specs.Why.{Small, forecastNumbers, numbersOf};
 ghost use Rattle.items.specs.Items.{lentBoard};
 ghost use Rattle.flat.specs.Flat.{flatCall, flatOutcome};
-ghost use Rattle.flat.specs.Packed.{paramsOf};
+ghost use Rattle.packing.specs.Packed.{paramsOf};
 ghost use Rattle.cnftl.specs.Packed.{Given};
 ghost use Rattle.cnftl.specs.Listed.{Listed, tells};
 use rules::Params;
@@ -55,7 +55,7 @@ pub extern "C" fn cnftl_format(
     ensures { λ word. ⌜ Given (markedCall (paramsOf s alpha beta d mu gamma c n) (boardOf (now (chip .entry)) (now (ct .entry)) (now (bt .entry)) (now (fst .entry)) (now (bst .entry)) (now (wear .entry))) (now (marks .entry)) format) word [] (boardOf (now (chip .exit)) (now (ct .exit)) (now (bt .exit)) (now (fst .exit)) (now (bst .exit)) (now (wear .exit))) (now (marks .exit)) ⌝ }
 {
     let p = params(s, alpha, beta, d, mu, gamma, c, n);
-    flat::pack(layer::format(p, chip, ct, bt, fst, bst, wear, marks))
+    packing::pack(layer::format(p, chip, ct, bt, fst, bst, wear, marks))
 }
 
 // Document 01's read.
@@ -83,7 +83,7 @@ pub extern "C" fn cnftl_read(
     ensures { λ word. ⌜ Given (markedCall (paramsOf s alpha beta d mu gamma c n) (boardOf (now (chip .entry)) (now (ct .entry)) (now (bt .entry)) (now (fst .entry)) (now (bst .entry)) (now (wear .entry))) (now (marks .entry)) (read (requestOf lba count (now (bytes .entry))))) word (now (bytes .exit)) (boardOf (now (chip .entry)) (now (ct .entry)) (now (bt .entry)) (now (fst .entry)) (now (bst .entry)) (now (wear .entry))) (now (marks .entry)) ⌝ }
 {
     let p = params(s, alpha, beta, d, mu, gamma, c, n);
-    flat::pack(layer::read(p, chip, ct, bt, fst, bst, wear, marks, lba, count, bytes))
+    packing::pack(layer::read(p, chip, ct, bt, fst, bst, wear, marks, lba, count, bytes))
 }
 
 // Document 01's write.
@@ -111,7 +111,7 @@ pub extern "C" fn cnftl_write(
     ensures { λ word. ⌜ Given (markedCall (paramsOf s alpha beta d mu gamma c n) (boardOf (now (chip .entry)) (now (ct .entry)) (now (bt .entry)) (now (fst .entry)) (now (bst .entry)) (now (wear .entry))) (now (marks .entry)) (write (requestOf lba count (now (bytes .entry))))) word (now (bytes .entry)) (boardOf (now (chip .exit)) (now (ct .exit)) (now (bt .exit)) (now (fst .exit)) (now (bst .exit)) (now (wear .exit))) (now (marks .exit)) ⌝ }
 {
     let p = params(s, alpha, beta, d, mu, gamma, c, n);
-    flat::pack(layer::write(p, chip, ct, bt, fst, bst, wear, marks, lba, count, bytes))
+    packing::pack(layer::write(p, chip, ct, bt, fst, bst, wear, marks, lba, count, bytes))
 }
 
 // Document 02's queue of writes, from flat lists.
@@ -177,7 +177,7 @@ pub extern "C" fn cnftl_release(
     ensures { λ word. ⌜ Given (markedCall (paramsOf s alpha beta d mu gamma c n) (boardOf (now (chip .entry)) (now (ct .entry)) (now (bt .entry)) (now (fst .entry)) (now (bst .entry)) (now (wear .entry))) (now (marks .entry)) (release cluster)) word [] (boardOf (now (chip .entry)) (now (ct .exit)) (now (bt .entry)) (now (fst .entry)) (now (bst .entry)) (now (wear .entry))) (now (marks .exit)) ⌝ }
 {
     let p = params(s, alpha, beta, d, mu, gamma, c, n);
-    flat::pack(layer::release(p, chip, ct, bt, fst, bst, wear, marks, cluster))
+    packing::pack(layer::release(p, chip, ct, bt, fst, bst, wear, marks, cluster))
 }
 
 // The numbers of a forecast, for the end of the list.

@@ -1,3 +1,2 @@
-pub mod Counts
 pub mod Requests
 pub mod Taking

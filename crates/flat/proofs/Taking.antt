@@ -25,9 +25,9 @@ use Rattle.queued.specs.Served.{servedFrom}
 use Rattle.queued.proofs.Served.{none-left, one-served, served-all}
 use Rattle.items.specs.declared.Head.{Head}
 use Rattle.items.specs.Items.{HeadIs, ItemIs, Ready, itemOf}
-use Rattle.flat.specs.Packed.{packed, packedIn}
+use Rattle.packing.specs.Packed.{packed, packedIn}
 use Rattle.flat.specs.Flat.{FlatHead, FlatOutcome, TurnAsked, TurnDone, TurnsAsked, flatCall, flatOutcome, flatReply, itemsOf, requestAt}
-use Rattle.flat.proofs.Counts.{few-marked}
+use Rattle.packing.proofs.Counts.{few-marked}
 use Rattle.flat.proofs.Requests.{items-at, items-length}
 
 -- ---- one turn

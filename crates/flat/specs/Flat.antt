@@ -16,7 +16,7 @@ use Rattle.queued.specs.declared.Item.{Item}
 use Rattle.queued.specs.Queue.{itemWrite, itemWrites, queueReply}
 use Rattle.items.specs.declared.Head.{Head}
 use Rattle.items.specs.Items.{Ready, itemOf}
-use Rattle.flat.specs.Packed.{packed, packedIn}
+use Rattle.packing.specs.Packed.{packed, packedIn}
 
 -- the requests: LBA, count and first byte, one after the other
 abbrev pub itemsOf : List ℕ → List Item

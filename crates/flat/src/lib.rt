@@ -1,34 +1,13 @@
 // T-01's queue as C lends it: the requests as a flat list of numbers, three to each, and the answers as numbers. The items are those of `items`.
 ghost use mathlib.Core.Path.{_≡_};
-ghost use lib.ListN.{length, set, take};
-ghost use Prim.Native.Nat.{_<_};
+ghost use lib.ListN.{take};
 ghost use Rattle.queued.specs.Served.{servedFrom};
 ghost use Rattle.items.specs.Items.{Ready, lentBoard};
-ghost use Rattle.flat.specs.Packed.{packed, packedIn};
+ghost use Rattle.packing.specs.Packed.{packedIn};
 ghost use Rattle.flat.specs.Flat.{FlatHead, TurnAsked, TurnDone, TurnsAsked, flatCall, flatOutcome, itemsOf};
 use items::Head;
-use rules::Answer;
 use rules::Params;
 use rules::Reply;
-
-// The answer as one number: reply + 65,536 × programs + 4,294,967,296 × erases.
-pub fn pack(a: Answer) -> u64
-    requires { ⌜ a .programs < 65536 ⌝ }
-    ensures { λ word. ⌜ word ≡ packed a ⌝ }
-{
-    let reply = a.reply;
-    rules::number(reply) as u64 + 65536 * (a.programs as u64) + 4294967296 * (a.erases as u64)
-}
-
-// An answer, packed, in its place;
-// the others stay.
-fn put(answers: &mut [u64], i: usize, a: Answer)
-    requires { ⌜ a .programs < 65536 ⌝ }
-    requires { ⌜ i < length (now answers) ⌝ }
-    ensures { λ _. ⌜ now (answers .exit) ≡ set (now (answers .entry)) i (packed a) ⌝ }
-{
-    answers[i] = pack(a);
-}
 
 // One turn of the queue: the i-th request is served,
 // and its answer packed into its place.
@@ -66,7 +45,7 @@ fn turn(
         requests[3 * i + 2],
         bytes,
     );
-    put(answers, i, a);
+    packing::put(answers, i, a);
 }
 
 // The first n requests are served,

@@ -14,7 +14,7 @@ use Rattle.rules.specs.Traces.{programsIn}
 use Rattle.marks.specs.MarkedConditions.{MarkedBoard, markedLeaves, markedOutcomeOf, markedOutcomes}
 use Rattle.queued.specs.declared.Item.{Item}
 use Rattle.queued.specs.Queue.{QueueOutcome, answerIn, itemWrite, itemWrites, queueCall, queueOutcome, queueReply}
-use Rattle.flat.proofs.Counts.{few-marked}
+use Rattle.packing.proofs.Counts.{few-marked}
 use Rattle.pair.specs.Two.{placed, unset}
 
 abbrev AllFew : List Answer → Type 0

@@ -7,7 +7,7 @@ use Rattle.rules.specs.declared.Answer.{Answer}
 use Rattle.rules.specs.declared.Reply.the-variants.{Accepted}
 use Rattle.marks.specs.MarkedConditions.{MarkedBoard}
 use Rattle.queued.specs.Queue.{QueueOutcome, queueOutcome}
-use Rattle.flat.specs.Packed.{packed}
+use Rattle.packing.specs.Packed.{packed}
 
 -- what both places of the answer list hold before the call
 abbrev pub unset : Answer

@@ -3,7 +3,7 @@ ghost use mathlib.Core.Path.{_≡_};
 ghost use mathlib.Core.List.{[], _∷_};
 ghost use Rattle.queued.specs.Queue.{queueCall, queueOutcome};
 ghost use Rattle.items.specs.Items.{itemOf, lentBoard};
-ghost use Rattle.flat.specs.Packed.{paramsOf};
+ghost use Rattle.packing.specs.Packed.{paramsOf};
 ghost use Rattle.pair.specs.Two.{Two, placed, unset};
 use queued::Item;
 use rules::Answer;
@@ -163,6 +163,6 @@ pub extern "C" fn cnftl_queue_two(
     let own = r.own;
     let a = r.first;
     let b = r.second;
-    put_two(answers, flat::pack(a), flat::pack(b));
-    flat::pack(own)
+    put_two(answers, packing::pack(a), packing::pack(b));
+    packing::pack(own)
 }

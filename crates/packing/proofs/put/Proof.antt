@@ -1,10 +1,10 @@
--- `flat::put`: one entry is set, to the packed answer.
+-- `packing::put`: one entry is set, to the packed answer.
 -- Assumes nothing.
 use mathlib.Core.Path.{ap}
 use lib.ListN.{set}
 use borrow.Author.Needs.{needs}
-use Rattle.flat.proofs.put.Statement.{statement}
-use Rattle.flat.proofs.put.Tie as tie
+use Rattle.packing.proofs.put.Statement.{statement}
+use Rattle.packing.proofs.put.Tie as tie
 
 pack-requires : tie.Need-pack-requires
 pack-requires c κs = search needs

@@ -1,11 +1,11 @@
--- `flat::pack`: no sum wraps, since the reply and the programs are below 65,536.
+-- `packing::pack`: no sum wraps, since the reply and the programs are below 65,536.
 -- Assumes nothing.
 use native.Mathlib.Omega.{arith}
 use borrow.Author.Needs.{needs}
-use Rattle.flat.specs.Packed.{packed}
+use Rattle.packing.specs.Packed.{packed}
 use Rattle.claims.proofs.Outcomes.{number-low}
-use Rattle.flat.proofs.pack.Statement.{statement}
-use Rattle.flat.proofs.pack.Tie as tie
+use Rattle.packing.proofs.pack.Statement.{statement}
+use Rattle.packing.proofs.pack.Tie as tie
 
 number-requires : tie.Need-number-requires
 number-requires c κs = search needs

@@ -1,0 +1,25 @@
+// An answer as one number, as C gets it, and such a number in its place of a list.
+ghost use mathlib.Core.Path.{_≡_};
+ghost use lib.ListN.{length, set};
+ghost use Prim.Native.Nat.{_<_};
+ghost use Rattle.packing.specs.Packed.{packed};
+use rules::Answer;
+
+// The answer as one number: reply + 65,536 × programs + 4,294,967,296 × erases.
+pub fn pack(a: Answer) -> u64
+    requires { ⌜ a .programs < 65536 ⌝ }
+    ensures { λ word. ⌜ word ≡ packed a ⌝ }
+{
+    let reply = a.reply;
+    rules::number(reply) as u64 + 65536 * (a.programs as u64) + 4294967296 * (a.erases as u64)
+}
+
+// An answer, packed, in its place;
+// the others stay.
+pub fn put(answers: &mut [u64], i: usize, a: Answer)
+    requires { ⌜ a .programs < 65536 ⌝ }
+    requires { ⌜ i < length (now answers) ⌝ }
+    ensures { λ _. ⌜ now (answers .exit) ≡ set (now (answers .entry)) i (packed a) ⌝ }
+{
+    answers[i] = pack(a);
+}
