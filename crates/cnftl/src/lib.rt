@@ -8,7 +8,7 @@ ghost use Rattle.rules.specs.Calls.{format, read, write, release};
 ghost use Rattle.marks.specs.MarkedCalls.{markedCall};
 ghost use Rattle.reading.specs.Sectors.{requestOf};
 ghost use Rattle.why.specs.Why.{Small, forecastNumbers, numbersOf};
-ghost use Rattle.items.specs.Items.{lentBoard};
+ghost use Rattle.heads.specs.Heads.{lentBoard};
 ghost use Rattle.flat.specs.Flat.{flatCall, flatOutcome};
 ghost use Rattle.packing.specs.Packed.{paramsOf};
 ghost use Rattle.cnftl.specs.Packed.{Given};

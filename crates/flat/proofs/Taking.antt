@@ -2,31 +2,28 @@
 -- Assumes nothing.
 use mathlib.Core.Path.{_≡_, refl, sym, ap, ap₂, _∙_}
 use mathlib.Core.Logic.{_⊎_, inl, inr}
-use mathlib.Core.Bool.{Bool, true, false, not, cond}
+use mathlib.Core.Bool.{Bool, true, false}
 use mathlib.Core.List.{List, [], _∷_}
-use Prim.Native.Nat.{ℕ, _+_, _*_, _/_, _%_, _<_, _≤_}
+use Prim.Native.Nat.{ℕ, _+_, _*_, _<_, _≤_}
 use native.Mathlib.Omega.{arith}
-use lib.Dec.{eqb}
 use lib.ListN.{drop, getD, length, set, take}
-use borrow.Author.Tests.{eq-eqb, ne-eqb}
 use Rattle.lists.proofs.Tests.{so}
 use Rattle.rules.specs.declared.Params.{Params}
 use Rattle.rules.specs.declared.Answer.{Answer}
 use Rattle.rules.specs.declared.Reply.{Reply}
-use Rattle.rules.specs.declared.Reply.the-variants.{BadParameter, WrongLength}
 use Rattle.rules.specs.Calls.{answerOf}
-use Rattle.rules.specs.Parameters.{allowed}
-use Rattle.rules.specs.Replies.{badParameter, firstRow, isAccepted, numberOf}
+use Rattle.rules.specs.Replies.{isAccepted, numberOf}
 use Rattle.rules.specs.Traces.{erasesIn, programsIn}
 use Rattle.marks.specs.MarkedConditions.{MarkedBoard, markedOutcomeOf}
 use Rattle.queued.specs.declared.Item.{Item}
-use Rattle.queued.specs.Queue.{itemWrite, queueReply}
+use Rattle.queued.specs.Queue.{itemWrite}
 use Rattle.queued.specs.Served.{servedFrom}
 use Rattle.queued.proofs.Served.{none-left, one-served, served-all}
-use Rattle.items.specs.declared.Head.{Head}
-use Rattle.items.specs.Items.{HeadIs, ItemIs, Ready, itemOf}
+use Rattle.heads.specs.declared.Head.{Head}
+use Rattle.heads.specs.Heads.{FlatHead, Ready, flatReply}
+use Rattle.items.specs.Items.{ItemIs, itemOf}
 use Rattle.packing.specs.Packed.{packed, packedIn}
-use Rattle.flat.specs.Flat.{FlatHead, FlatOutcome, TurnAsked, TurnDone, TurnsAsked, flatCall, flatOutcome, flatReply, itemsOf, requestAt}
+use Rattle.flat.specs.Flat.{FlatOutcome, TurnAsked, TurnDone, TurnsAsked, flatCall, flatOutcome, itemsOf, requestAt}
 use Rattle.packing.proofs.Counts.{few-marked}
 use Rattle.flat.proofs.Requests.{items-at, items-length}
 
@@ -89,37 +86,6 @@ module _ (p : Params) (ordered : Bool) (requests bytes : List ℕ) (n : ℕ) (x�
     pub done : (i : ℕ) → n ≤ i → (x : MarkedBoard) (answers : List ℕ) → So i x answers
         → (x, answers) ≡ servedFrom packedIn p bytes (take n (itemsOf requests)) 0 x₀ answers₀
     done i h x answers s = none-left packedIn p bytes (itemsOf requests) n i x answers h ∙ s .same
-
--- ---- the head
-
-module _ (p : Params) (x : MarkedBoard) (numbers answers : ℕ) where
-  -- three to a request
-  pub whole : numbers % 3 ≡ 0 → (h : Head) → HeadIs p x (numbers / 3) answers h → FlatHead p x numbers answers h
-  unfolding flatReply
-  whole e h is =
-      record { replied = is .replied ∙ sym (rw (eq-eqb (numbers % 3) 0 e) (first (badParameter p) refl)); counted = is .counted; fits = is .fits; room = is .room; ready = is .ready }
-    where
-      first : (t : Bool) → badParameter p ≡ t → cond t BadParameter (queueReply p x (numbers / 3) answers) ≡ queueReply p x (numbers / 3) answers
-      first true k = unfold queueReply firstRow in rw k
-      first false k = refl
-
-  -- or not
-  pub cut : (numbers % 3 ≡ 0 → ⊥) → (r : Reply) → (t : Bool) → t ≡ allowed p → r ≡ cond t WrongLength BadParameter
-      → FlatHead p x numbers answers (record { reply = r; ordered = false; items = 0 })
-  unfolding flatReply badParameter isAccepted
-  cut ne r t is e =
-      record { replied = e ∙ given t is; counted = none t e; fits = omega arith; room = omega arith; ready = λ k. absurd (omega arith) }
-    where
-      given : (t : Bool) → t ≡ allowed p → cond t WrongLength BadParameter ≡ cond (not (allowed p)) BadParameter (cond (not (eqb (numbers % 3) 0)) WrongLength (queueReply p x (numbers / 3) answers))
-      given t k = rw (← k, ne-eqb (numbers % 3) 0 ne) (both t)
-        where
-          both : (t : Bool) → cond t WrongLength BadParameter ≡ cond (not t) BadParameter WrongLength
-          both true = refl
-          both false = refl
-
-      none : (t : Bool) → r ≡ cond t WrongLength BadParameter → 0 ≡ cond (isAccepted r) (numbers / 3) 0
-      none true k = unfold isAccepted in rw k
-      none false k = unfold isAccepted in rw k
 
 -- ---- the end
 

@@ -1,21 +1,18 @@
 -- T-01's queue as C lends it: the requests as a flat list, three numbers to each, and the answers as numbers.
 -- Assumes nothing.
-use Prim.Native.Nat.{ℕ, _+_, _*_, _/_, _%_, _≤_, _<_}
+use Prim.Native.Nat.{ℕ, _+_, _*_, _≤_, _<_}
 use mathlib.Core.Path.{_≡_}
-use mathlib.Core.Bool.{Bool, not, cond}
+use mathlib.Core.Bool.{Bool, cond}
 use mathlib.Core.List.{List, [], _∷_, _++_, map}
-use lib.Dec.{eqb}
 use lib.ListN.{drop, getD, length, set}
 use Rattle.rules.specs.declared.Params.{Params}
-use Rattle.rules.specs.declared.Reply.{Reply}
-use Rattle.rules.specs.declared.Reply.the-variants.{BadParameter, WrongLength}
 use Rattle.rules.specs.Calls.{answerOf}
-use Rattle.rules.specs.Replies.{badParameter, isAccepted}
+use Rattle.rules.specs.Replies.{isAccepted}
 use Rattle.marks.specs.MarkedConditions.{MarkedBoard, markedAfter, markedLeaves, markedOutcomeOf, markedOutcomes}
 use Rattle.queued.specs.declared.Item.{Item}
-use Rattle.queued.specs.Queue.{itemWrite, itemWrites, queueReply}
-use Rattle.items.specs.declared.Head.{Head}
-use Rattle.items.specs.Items.{Ready, itemOf}
+use Rattle.queued.specs.Queue.{itemWrite, itemWrites}
+use Rattle.heads.specs.Heads.{Ready, flatReply}
+use Rattle.items.specs.Items.{itemOf}
 use Rattle.packing.specs.Packed.{packed, packedIn}
 
 -- the requests: LBA, count and first byte, one after the other
@@ -24,11 +21,6 @@ itemsOf [] = []
 itemsOf (lba ∷ []) = []
 itemsOf (lba ∷ count ∷ []) = []
 itemsOf (lba ∷ count ∷ first ∷ rest) = itemOf lba count first ∷ itemsOf rest
-
--- "a list whose length is no multiple of three is reply 2", after 1; by the lengths of both lists
-unfoldable pub flatReply : Params → MarkedBoard → ℕ → ℕ → Reply
-flatReply p x numbers answers =
-    cond (badParameter p) BadParameter (cond (not (eqb (numbers % 3) 0)) WrongLength (queueReply p x (numbers / 3) answers))
 
 -- the call's own number, the answer list, and chip and tables, as the call leaves them
 pub record FlatOutcome : Type 0 where
@@ -49,14 +41,6 @@ flatCall p x requests bytes answers =
     (flatOutcome (packed (answerOf r [])) answers x)
 
 -- ---- as the loop goes
-
--- the head of such a queue: the call's reply, and how many requests are to be served, none if it is refused
-pub record FlatHead (p : Params) (x : MarkedBoard) (numbers answers : ℕ) (h : Head) : Type 0 where
-  pub replied : h .reply ≡ flatReply p x numbers answers
-  pub counted : h .items ≡ cond (isAccepted (h .reply)) (numbers / 3) 0
-  pub fits : h .items ≤ numbers / 3
-  pub room : h .items ≤ answers
-  pub ready : 0 < h .items → Ready p (h .ordered) x
 
 -- the i-th request of the list
 unfoldable pub requestAt : List ℕ → ℕ → Item

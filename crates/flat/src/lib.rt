@@ -2,12 +2,10 @@
 ghost use mathlib.Core.Path.{_≡_};
 ghost use lib.ListN.{take};
 ghost use Rattle.queued.specs.Served.{servedFrom};
-ghost use Rattle.items.specs.Items.{Ready, lentBoard};
+ghost use Rattle.heads.specs.Heads.{Ready, lentBoard};
 ghost use Rattle.packing.specs.Packed.{packedIn};
-ghost use Rattle.flat.specs.Flat.{FlatHead, TurnAsked, TurnDone, TurnsAsked, flatCall, flatOutcome, itemsOf};
-use items::Head;
+ghost use Rattle.flat.specs.Flat.{TurnAsked, TurnDone, TurnsAsked, flatCall, flatOutcome, itemsOf};
 use rules::Params;
-use rules::Reply;
 
 // One turn of the queue: the i-th request is served,
 // and its answer packed into its place.
@@ -89,39 +87,6 @@ fn turns(
     }
 }
 
-// The head of a queue whose request list has `len` numbers:
-// 2 where they are not three to a request, after 1.
-fn head_flat(
-    p: Params,
-    chip: &[u8],
-    ct: &[u16],
-    bt: &[u16],
-    fst: &[u16],
-    bst: &[u8],
-    wear: &[u32],
-    marks: &[u64],
-    len: usize,
-    answers: usize,
-) -> Head
-    ensures { λ h. ⌜ FlatHead p (lentBoard (now (chip .entry)) (now (ct .entry)) (now (bt .entry)) (now (fst .entry)) (now (bst .entry)) (now (wear .entry)) (now (marks .entry))) len answers h ⌝ }
-{
-    if len % 3 == 0 {
-        return items::head_of(p, chip, ct, bt, fst, bst, wear, marks, len / 3, answers);
-    }
-    if sizes::parameters_allowed(p) {
-        return Head {
-            reply: Reply::WrongLength,
-            ordered: false,
-            items: 0,
-        };
-    }
-    Head {
-        reply: Reply::BadParameter,
-        ordered: false,
-        items: 0,
-    }
-}
-
 // The items are written in list order, each answered in its place; the state is checked once.
 pub fn queue(
     p: Params,
@@ -138,7 +103,7 @@ pub fn queue(
 ) -> u64
     ensures { λ word. ⌜ flatOutcome word (now (answers .exit)) (lentBoard (now (chip .exit)) (now (ct .exit)) (now (bt .exit)) (now (fst .exit)) (now (bst .exit)) (now (wear .exit)) (now (marks .exit))) ≡ flatCall p (lentBoard (now (chip .entry)) (now (ct .entry)) (now (bt .entry)) (now (fst .entry)) (now (bst .entry)) (now (wear .entry)) (now (marks .entry))) (now (requests .entry)) (now (bytes .entry)) (now (answers .entry)) ⌝ }
 {
-    let h = head_flat(
+    let h = heads::head_flat(
         p,
         chip,
         ct,

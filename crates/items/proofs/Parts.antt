@@ -32,7 +32,8 @@ use Rattle.queued.specs.Queue.{itemRequest, itemWrite, lies}
 use Rattle.reading.specs.Sectors.{requestOf}
 use Rattle.writing.specs.Clusters.{Gives}
 use Rattle.ends.proofs.Ends.{none-wrong}
-use Rattle.items.specs.Items.{ItemIs, Ready}
+use Rattle.heads.specs.Heads.{Ready}
+use Rattle.items.specs.Items.{ItemIs}
 use Rattle.queued.proofs.Queues.{data-in-its-turn}
 
 -- what a call with the marks leaves, read off its outcome

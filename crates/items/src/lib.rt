@@ -1,5 +1,5 @@
-// Document 02, T-01: the two parts of a queue of writes that do the work. The head looks at lengths and state once, for all items; an item is then the
-// single write without that look.
+// Document 02, T-01: one item of a queue of writes. The head has looked at lengths and state once, for all items; an item is then the single write
+// without that look.
 ghost use mathlib.Core.Path.{_≡_};
 ghost use mathlib.Core.Bool.{true};
 ghost use mathlib.Core.List.{List};
@@ -7,55 +7,10 @@ ghost use Prim.Native.Nat.{ℕ};
 ghost use lib.ListN.{length};
 ghost use Rattle.rules.specs.Parameters.{allowed};
 ghost use Rattle.queued.specs.Queue.{lies};
-ghost use Rattle.items.specs.Items.{HeadIs, ItemIs, Ready, itemOf, lentBoard};
+ghost use Rattle.heads.specs.Heads.{Ready, lentBoard};
+ghost use Rattle.items.specs.Items.{ItemIs, itemOf};
 use rules::Answer;
 use rules::Params;
-use rules::Reply;
-
-// What the head found: the reply of the call itself, whether the state is orderly, and how many items are to be served.
-pub struct Head {
-    pub reply: Reply,
-    pub ordered: bool,
-    pub items: usize,
-}
-
-// The reply to the call itself, 1, 2 or 8, and the one look at the state.
-pub fn head_of(
-    p: Params,
-    chip: &[u8],
-    ct: &[u16],
-    bt: &[u16],
-    fst: &[u16],
-    bst: &[u8],
-    wear: &[u32],
-    marks: &[u64],
-    items: usize,
-    answers: usize,
-) -> Head
-    ensures { λ h. ⌜ HeadIs p (lentBoard (now (chip .entry)) (now (ct .entry)) (now (bt .entry)) (now (fst .entry)) (now (bst .entry)) (now (wear .entry)) (now (marks .entry))) items answers h ⌝ }
-{
-    let board = replies::board_reply(p, chip, ct, bt, fst, bst, wear, marks);
-    if rules::number(board) != 0 {
-        return Head {
-            reply: board,
-            ordered: false,
-            items: 0,
-        };
-    }
-    if answers < items {
-        return Head {
-            reply: Reply::TooFewAnswers,
-            ordered: false,
-            items: 0,
-        };
-    }
-    let state = replies::state_reply(p, chip, ct, bt, fst, bst, marks);
-    Head {
-        reply: board,
-        ordered: rules::number(state) == 0,
-        items,
-    }
-}
 
 // Do the bytes of an item lie in the data part, of which `len` are lent? The sum cannot wrap: both numbers are of 32 bits, and s is at most 512.
 fn has_bytes(p: Params, len: usize, count: u32, first: u32) -> bool

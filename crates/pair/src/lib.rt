@@ -2,7 +2,8 @@
 ghost use mathlib.Core.Path.{_≡_};
 ghost use mathlib.Core.List.{[], _∷_};
 ghost use Rattle.queued.specs.Queue.{queueCall, queueOutcome};
-ghost use Rattle.items.specs.Items.{itemOf, lentBoard};
+ghost use Rattle.heads.specs.Heads.{lentBoard};
+ghost use Rattle.items.specs.Items.{itemOf};
 ghost use Rattle.packing.specs.Packed.{paramsOf};
 ghost use Rattle.pair.specs.Two.{Two, placed, unset};
 use queued::Item;

@@ -19,8 +19,8 @@ use Rattle.queued.specs.declared.Item.{Item}
 use Rattle.queued.specs.Served.{servedFrom}
 use Rattle.queued.proofs.Served.{one-served, served-all}
 use Rattle.queued.specs.Queue.{answerIn, itemWrite, itemWrites, queueCall, queueOutcome}
-use Rattle.items.specs.Items.{HeadIs}
-use Rattle.items.specs.declared.Head.{Head}
+use Rattle.heads.specs.Heads.{HeadIs}
+use Rattle.heads.specs.declared.Head.{Head}
 
 module _ (p : Params) (bytes : List ℕ) where
   -- the answers of the items' writes, in order

@@ -1,7 +1,7 @@
 // Document 02, T-01: one call that takes a list of write requests and fills a list of answers.
 ghost use mathlib.Core.Path.{_≡_};
 ghost use Rattle.queued.specs.Queue.{queueCall, queueOutcome};
-ghost use Rattle.items.specs.Items.{lentBoard};
+ghost use Rattle.heads.specs.Heads.{lentBoard};
 use queued::Item;
 use rules::Answer;
 use rules::Params;
@@ -22,7 +22,7 @@ pub fn queue(
 ) -> Answer
     ensures { λ a. ⌜ queueOutcome a (now (answers .exit)) (lentBoard (now (chip .exit)) (now (ct .exit)) (now (bt .exit)) (now (fst .exit)) (now (bst .exit)) (now (wear .exit)) (now (marks .exit))) ≡ queueCall p (lentBoard (now (chip .entry)) (now (ct .entry)) (now (bt .entry)) (now (fst .entry)) (now (bst .entry)) (now (wear .entry)) (now (marks .entry))) (now (requests .entry)) (now (bytes .entry)) (now (answers .entry)) ⌝ }
 {
-    let h = items::head_of(
+    let h = heads::head_of(
         p,
         chip,
         ct,

@@ -4,7 +4,7 @@ use mathlib.Core.Path.{ap, _∙_}
 use borrow.Author.Needs.{needs}
 use Rattle.rules.specs.declared.Params.{Params}
 use Rattle.marks.specs.MarkedConditions.{MarkedBoard}
-use Rattle.items.specs.Items.{lentBoard}
+use Rattle.heads.specs.Heads.{lentBoard}
 use Rattle.flat.specs.Flat.{flatCall}
 use Rattle.cnftl.proofs.cnftl_queue.Statement.{statement}
 use Rattle.cnftl.proofs.cnftl_queue.Tie as tie

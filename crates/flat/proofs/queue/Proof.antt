@@ -2,7 +2,7 @@
 -- Assumes nothing.
 use borrow.Author.Needs.{needs}
 use Rattle.marks.specs.MarkedConditions.{MarkedBoard}
-use Rattle.items.specs.Items.{lentBoard}
+use Rattle.heads.specs.Heads.{lentBoard}
 use Rattle.flat.proofs.Taking.{all-done, turns-asked}
 use Rattle.flat.proofs.queue.Statement.{statement}
 use Rattle.flat.proofs.queue.Tie as tie

@@ -2,7 +2,7 @@
 -- Assumes nothing.
 use borrow.Author.Needs.{needs}
 use Rattle.marks.specs.MarkedConditions.{MarkedBoard}
-use Rattle.items.specs.Items.{lentBoard}
+use Rattle.heads.specs.Heads.{lentBoard}
 use Rattle.flat.proofs.Taking.{few-item, turn-done}
 use Rattle.flat.proofs.turn.Statement.{statement}
 use Rattle.flat.proofs.turn.Tie as tie

@@ -4,7 +4,7 @@ use mathlib.Core.Path.{refl, _∙_}
 use Prim.Native.Nat.{_-_, _≤_}
 use native.Mathlib.Omega.{arith}
 use Rattle.marks.specs.MarkedConditions.{MarkedBoard}
-use Rattle.items.specs.Items.{lentBoard}
+use Rattle.heads.specs.Heads.{lentBoard}
 use Rattle.flat.specs.Flat.{TurnsAsked}
 use Rattle.flat.proofs.Taking.{Long, So, asked, done, next, start}
 use Rattle.flat.proofs.turns.Statement.{statement}

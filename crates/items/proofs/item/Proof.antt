@@ -6,7 +6,8 @@ use borrow.Author.Needs.{needs}
 use Rattle.marks.specs.MarkedConditions.{MarkedBoard}
 use Rattle.queued.specs.declared.Item.{Item}
 use Rattle.refusals.proofs.Rows.{bytes-low}
-use Rattle.items.specs.Items.{itemOf, lentBoard}
+use Rattle.heads.specs.Heads.{lentBoard}
+use Rattle.items.specs.Items.{itemOf}
 use Rattle.items.proofs.Parts.{asked-accepted, inside, item-done, item-refused, marks-are}
 use Rattle.items.proofs.item.Statement.{statement}
 use Rattle.items.proofs.item.Tie as tie

@@ -50,7 +50,7 @@ use Rattle.rules.specs.declared.Answer.{Answer}
 use Rattle.marks.specs.MarkedConditions.{MarkedBoard}
 use Rattle.queued.specs.declared.Item.{Item}
 use Rattle.queued.specs.Queue.{queueCall, queueOutcome}
-use Rattle.items.specs.Items.{lentBoard}
+use Rattle.heads.specs.Heads.{lentBoard}
 use Rattle.pair.specs.declared.Pair.{Pair}
 use Rattle.pair.proofs.Local.{chain, unchain, rechain, Elems, as-elems, as-room, as-cells, from-lies}
 use Rattle.rules.proofs.Params as Par

@@ -60,8 +60,9 @@ use Rattle.rules.specs.Calls.{answerOf}
 use Rattle.marks.specs.MarkedConditions.{MarkedBoard}
 use Rattle.queued.specs.declared.Item.{Item}
 use Rattle.queued.specs.Queue.{answerIn, queueCall, queueOutcome}
-use Rattle.items.specs.declared.Head.{Head}
-use Rattle.items.specs.Items.{HeadIs, ItemIs, Ready, itemOf, lentBoard}
+use Rattle.heads.specs.declared.Head.{Head}
+use Rattle.heads.specs.Heads.{HeadIs, Ready, lentBoard}
+use Rattle.items.specs.Items.{ItemIs, itemOf}
 use Rattle.queued.specs.Served.{servedFrom}
 use Rattle.queued.proofs.Served.{none-left}
 use Rattle.queue.proofs.Folded.{one-answered, fold-is}
@@ -74,12 +75,12 @@ use Rattle.rules.proofs.Answer as Ans
 use Rattle.rules.proofs.Answer.Laws as Ans′
 use Rattle.queued.proofs.Item as It
 use Rattle.queued.proofs.Item.Laws as It′
-use Rattle.items.proofs.Head as Hd
-use Rattle.items.proofs.Head.Laws as Hd′
-use Rattle.items.proofs.head_of as head-of
-use Rattle.items.proofs.head_of.Symbol as head-of-def
-use Rattle.items.proofs.head_of.Symbol.{name as #items·head-of}
-use Rattle.items.proofs.head_of.Met as head-of-thm
+use Rattle.heads.proofs.Head as Hd
+use Rattle.heads.proofs.Head.Laws as Hd′
+use Rattle.heads.proofs.head_of as head-of
+use Rattle.heads.proofs.head_of.Symbol as head-of-def
+use Rattle.heads.proofs.head_of.Symbol.{name as #heads·head-of}
+use Rattle.heads.proofs.head_of.Met as head-of-thm
 use Rattle.items.proofs.item as item
 use Rattle.items.proofs.item.Symbol as item-def
 use Rattle.items.proofs.item.Symbol.{name as #items·item}
@@ -350,7 +351,7 @@ module _ {M : Type 1} (𝓤 : URA M) (H : Heap 𝓤) (A : Atoms 𝓤) (W : Given
       move ! (0 ∷ 2 ∷ []) $ join ! $ done !
 
   -- ---- the walk: what the callees do, and the room of each slice, are known
-  module _ (𝓣 : Tables 𝓤 H) (fm : FmC 𝓤 H (W .laws) (𝓣 .C)) (heads : Triple 𝓤 (𝓣 .C #items·head-of) (HeadOf 𝓤 H A mem rn))
+  module _ (𝓣 : Tables 𝓤 H) (fm : FmC 𝓤 H (W .laws) (𝓣 .C)) (heads : Triple 𝓤 (𝓣 .C #heads·head-of) (HeadOf 𝓤 H A mem rn))
       (serves : Triple 𝓤 (𝓣 .C #items·item) (OneItem 𝓤 H A mem rn)) (idles : Triple 𝓤 (𝓣 .C #refusals·idle) (Idle 𝓤 H A mem rn))
       (gp : Is Par.the-row p (vp ∷ [])) (gs : Rooms ds) (gr : Room It.the-row n) (gb : Room u8 (length bs)) (go : Room Ans.the-row no) where
     abbrev C : Calls 𝓤 H
@@ -859,7 +860,7 @@ module _ {M : Type 1} (𝓤 : URA M) (H : Heap 𝓤) (A : Atoms 𝓤) (W : Given
 
 -- ---- from the walk to the theorem
 module _ {M : Type 1} (𝓤 : URA M) (H : Heap 𝓤) (A : Atoms 𝓤) (W : Given 𝓤 H A) (mem : Memory → SProp 𝓤) (rn : Routine → Fun 𝓤) where
-  queue-walks : (𝓣 : Tables 𝓤 H) → Triple 𝓤 (𝓣 .C #items·head-of) (HeadOf 𝓤 H A mem rn) → Triple 𝓤 (𝓣 .C #items·item) (OneItem 𝓤 H A mem rn) →
+  queue-walks : (𝓣 : Tables 𝓤 H) → Triple 𝓤 (𝓣 .C #heads·head-of) (HeadOf 𝓤 H A mem rn) → Triple 𝓤 (𝓣 .C #items·item) (OneItem 𝓤 H A mem rn) →
       Triple 𝓤 (𝓣 .C #refusals·idle) (Idle 𝓤 H A mem rn)
       → Walks 𝓤 H A queue.ended stayed (WpFn 𝓤 H (𝓣 .C) (𝓣 .Λ) code.function) (queue.clauses 𝓤 H A mem rn)
   queue-walks 𝓣 heads serves idles = walked 𝓤 H A queue.ended stayed (queue.clauses 𝓤 H A mem rn) (WpFn 𝓤 H (𝓣 .C) (𝓣 .Λ) code.function)
@@ -875,7 +876,7 @@ module _ {M : Type 1} (𝓤 : URA M) (H : Heap 𝓤) (A : Atoms 𝓤) (W : Given
       (are .1 .0 .0 .1, (are .1 .1 .0 .0 .1, (are .1 .1 .1 .0 .0 .1, (are .1 .1 .1 .1 .0 .0 .1, (are .1 .1 .1 .1 .1 .0 .0 .1, (are .1 .1 .1 .1 .1 .1 .0 .0 .1, (are .1 .1 .1 .1 .1 .1 .1 .0 .0 .1, tt))))))) (are .1 .1 .1 .1 .1 .1 .1 .1 .0 .0 .1) (are .1 .1 .1 .1 .1 .1 .1 .1 .1 .0 .0 .1) (are .1 .1 .1 .1 .1 .1 .1 .1 .1 .1 .0 .0 .1)))
 
 queue-meets : {M : Type 1} (𝓤 : URA M) (H : Heap 𝓤) (A : Atoms 𝓤) → Given 𝓤 H A → (mem : Memory → SProp 𝓤) (rn : Routine → Fun 𝓤) (𝓣 : Tables 𝓤 H) →
-    Triple 𝓤 (𝓣 .C #items·head-of) (HeadOf 𝓤 H A mem rn) → Triple 𝓤 (𝓣 .C #items·item) (OneItem 𝓤 H A mem rn) →
+    Triple 𝓤 (𝓣 .C #heads·head-of) (HeadOf 𝓤 H A mem rn) → Triple 𝓤 (𝓣 .C #items·item) (OneItem 𝓤 H A mem rn) →
     Triple 𝓤 (𝓣 .C #refusals·idle) (Idle 𝓤 H A mem rn)
     → Meets 𝓤 H A queue.signature (WpFn 𝓤 H (𝓣 .C) (𝓣 .Λ) code.function) (queue.spec 𝓤 H A mem rn)
 queue-meets 𝓤 H A W mem rn 𝓣 heads serves idles = walk-meets 𝓤 H A queue.ended stayed W
@@ -889,7 +890,7 @@ queue-spec 𝓤 H 𝓜 𝓖 𝓡 =
     entered 𝓤 H (tripleOf 𝓤 H (𝓖 .A) queue.signature (queue.spec 𝓤 H (𝓖 .A) (𝓜 .mem) (𝓡 .run)))
     (tables 𝓤 H 𝓜 𝓡 code.env .C) (tables 𝓤 H 𝓜 𝓡 code.env .Λ) #queue·queue code.function (code.unfolded 𝓤 H 𝓜 𝓡)
     (queue-meets 𝓤 H (𝓖 .A) (givenOf 𝓤 H 𝓜 𝓖) (𝓜 .mem) (𝓡 .run) (tablesOf 𝓤 H 𝓜 (tables 𝓤 H 𝓜 𝓡 code.env))
-    (cited 𝓤 H (HeadOf 𝓤 H (𝓖 .A) (𝓜 .mem) (𝓡 .run)) 𝓜 𝓡 code.env #items·head-of head-of-def.routine code.calls-items·head-of
+    (cited 𝓤 H (HeadOf 𝓤 H (𝓖 .A) (𝓜 .mem) (𝓡 .run)) 𝓜 𝓡 code.env #heads·head-of head-of-def.routine code.calls-heads·head-of
     (head-of-thm.met 𝓤 H 𝓜 𝓖 𝓡))
     (cited 𝓤 H (OneItem 𝓤 H (𝓖 .A) (𝓜 .mem) (𝓡 .run)) 𝓜 𝓡 code.env #items·item item-def.routine code.calls-items·item (item-thm.met 𝓤 H 𝓜 𝓖 𝓡))
     (cited 𝓤 H (Idle 𝓤 H (𝓖 .A) (𝓜 .mem) (𝓡 .run)) 𝓜 𝓡 code.env #refusals·idle idle-def.routine code.calls-refusals·idle (idle-thm.met 𝓤 H 𝓜 𝓖 𝓡)))

@@ -18,7 +18,7 @@ use Rattle.marks.specs.MarkedConditions.{MarkedBoard}
 use Rattle.queued.specs.Queue.{queueReply, tooFewAnswers}
 use Rattle.refusals.specs.Rows.{boardReply, stateReply}
 use Rattle.refusals.proofs.Rows.{Passed, head-passes, state-row}
-use Rattle.items.specs.Items.{HeadIs}
+use Rattle.heads.specs.Heads.{HeadIs}
 
 -- a state is answered 0 where it is orderly with each mark right
 pub flag-is : (p : Params) (x : MarkedBoard) (s : Reply) → s ≡ stateReply p (x .board) (x .marks) → (k : ℕ) → k ≡ numberOf s

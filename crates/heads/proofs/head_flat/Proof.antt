@@ -1,11 +1,11 @@
--- `flat::head_flat`: the head of the queue where the numbers are three to a request, else 1 or 2.
+-- `heads::head_flat`: the head of the queue where the numbers are three to a request, else 1 or 2.
 -- Assumes nothing.
 use borrow.Author.Needs.{needs}
 use Rattle.marks.specs.MarkedConditions.{MarkedBoard}
-use Rattle.items.specs.Items.{lentBoard}
-use Rattle.flat.proofs.Taking.{cut, whole}
-use Rattle.flat.proofs.head_flat.Statement.{statement}
-use Rattle.flat.proofs.head_flat.Tie as tie
+use Rattle.heads.specs.Heads.{lentBoard}
+use Rattle.heads.proofs.Flat.{cut, whole}
+use Rattle.heads.proofs.head_flat.Statement.{statement}
+use Rattle.heads.proofs.head_flat.Tie as tie
 
 abbrev board : tie.Start → MarkedBoard
 board a = lentBoard (a .args .chip .now) (a .args .ct .now) (a .args .bt .now) (a .args .fst .now) (a .args .bst .now) (a .args .wear .now) (a .args .marks .now)

@@ -1,12 +1,12 @@
--- `items::head_of`: refused by the first rows or by the answer list, or accepted with one look at the state.
+-- `heads::head_of`: refused by the first rows or by the answer list, or accepted with one look at the state.
 -- Assumes nothing.
 use borrow.Author.Needs.{needs}
 use Rattle.marks.specs.MarkedConditions.{MarkedBoard}
 use Rattle.agree.proofs.Agree.{lengths-in}
-use Rattle.items.specs.Items.{lentBoard}
-use Rattle.items.proofs.Heads.{head-done, head-passed, head-refused, too-few}
-use Rattle.items.proofs.head_of.Statement.{statement}
-use Rattle.items.proofs.head_of.Tie as tie
+use Rattle.heads.specs.Heads.{lentBoard}
+use Rattle.heads.proofs.Heads.{head-done, head-passed, head-refused, too-few}
+use Rattle.heads.proofs.head_of.Statement.{statement}
+use Rattle.heads.proofs.head_of.Tie as tie
 
 abbrev board : tie.Start → MarkedBoard
 board a = lentBoard (a .args .chip .now) (a .args .ct .now) (a .args .bt .now) (a .args .fst .now) (a .args .bst .now) (a .args .wear .now) (a .args .marks .now)
