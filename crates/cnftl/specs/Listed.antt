@@ -1,7 +1,7 @@
 -- What the C call that tells why a sector reads so leaves: its reply, and the lent list.
 -- Assumes nothing.
 use mathlib.Core.Path.{_≡_}
-use mathlib.Core.Bool.{Bool, _&&_, _||_, cond}
+use mathlib.Core.Bool.{_&&_, cond}
 use mathlib.Core.List.{List}
 use Prim.Native.Nat.{ℕ}
 use lib.Dec.{eqb}
@@ -10,14 +10,11 @@ use Rattle.rules.specs.declared.Params.{Params}
 use Rattle.rules.specs.Parameters.{allowed}
 use Rattle.rules.specs.Tables.{Board}
 use Rattle.why.specs.Why.{markedWhy}
+use Rattle.listing.specs.Told.{tells}
 
 -- 1 or 2 where the list has not twelve entries
 unfoldable pub toldReply : Params → Board → List ℕ → ℕ → List ℕ → ℕ
 toldReply p b marks lba list = cond (eqb (length list) 12) (getD (markedWhy p b marks lba) 0 0) (cond (allowed p) 2 1)
-
--- the answer is told with reply 0 or 7
-unfoldable pub tells : ℕ → Bool
-tells reply = eqb reply 0 || eqb reply 7
 
 -- the list: the answer's numbers where it is told, else as it was lent
 unfoldable pub toldList : Params → Board → List ℕ → ℕ → List ℕ → List ℕ

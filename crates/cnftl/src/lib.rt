@@ -1,21 +1,16 @@
 // The C interface: the calls of documents 01 and 02 with the parameters one by one, and the answer as one number. T-06's table of marks comes after the wear.
 ghost use mathlib.Core.Path.{_≡_};
 ghost use mathlib.Core.List.{[]};
-ghost use mathlib.Core.Bool.{cond};
-ghost use lib.ListN.{getD, length};
 ghost use Rattle.rules.specs.Tables.{boardOf};
 ghost use Rattle.rules.specs.Calls.{format, read, write, release};
 ghost use Rattle.marks.specs.MarkedCalls.{markedCall};
 ghost use Rattle.reading.specs.Sectors.{requestOf};
-ghost use Rattle.why.specs.Why.{Small, forecastNumbers, numbersOf};
 ghost use Rattle.heads.specs.Heads.{lentBoard};
 ghost use Rattle.flat.specs.Flat.{flatCall, flatOutcome};
 ghost use Rattle.packing.specs.Packed.{paramsOf};
 ghost use Rattle.cnftl.specs.Packed.{Given};
-ghost use Rattle.cnftl.specs.Listed.{Listed, tells};
+ghost use Rattle.cnftl.specs.Listed.{Listed};
 use rules::Params;
-use why::Forecast;
-use why::Why;
 
 // The parameters as one.
 fn params(s: u32, alpha: u32, beta: u32, d: u32, mu: u32, gamma: u32, c: u32, n: u32) -> Params
@@ -180,78 +175,6 @@ pub extern "C" fn cnftl_release(
     packing::pack(layer::release(p, chip, ct, bt, fst, bst, wear, marks, cluster))
 }
 
-// The numbers of a forecast, for the end of the list.
-fn forecast_numbers(fc: Forecast) -> [u32; 4]
-    requires { ⌜ Small (forecastNumbers fc) ⌝ }
-    ensures { λ r. ⌜ r ≡ forecastNumbers fc ⌝ }
-{
-    match fc {
-        Forecast::Continues(v, f) => [1, v.0 as u32, f as u32, 0],
-        Forecast::Opens(v) => [2, v.0 as u32, 0, 0],
-        Forecast::Reclaims(v, n) => [3, v.0 as u32, n as u32, n as u32],
-    }
-}
-
-// The numbers of an answer, in the order of the list.
-fn why_numbers(w: Why) -> [u32; 12]
-    requires { ⌜ Small (numbersOf w) ⌝ }
-    ensures { λ r. ⌜ r ≡ numbersOf w ⌝ }
-{
-    match w {
-        Why::Refused(r) => [rules::number(r), 0, 0, 0, 0, 0, 0, 0, 0, 0, 0, 0],
-        Why::Disordered(k) => [7, broken::rule_number(k), 0, 0, 0, 0, 0, 0, 0, 0, 0, 0],
-        Why::Empty(fc) => {
-            let f = forecast_numbers(fc);
-            [0, 0, 0, 0, 0, 0, 0, 0, f[0], f[1], f[2], f[3]]
-        }
-        Why::Held(at, fc) => {
-            let f = forecast_numbers(fc);
-            [
-                0,
-                0,
-                1,
-                at.region as u32,
-                at.segment.0 as u32,
-                at.vblock.0 as u32,
-                at.pblock.0 as u32,
-                at.frame as u32,
-                f[0],
-                f[1],
-                f[2],
-                f[3],
-            ]
-        }
-    }
-}
-
-// One list over another of its length.
-fn put_list(to: &mut [u32], from: &[u32])
-    requires { ⌜ length (now to) ≡ length (now from) ⌝ }
-    ensures { λ _. ⌜ now (to .exit) ≡ now (from .entry) ⌝ }
-{
-    let mut i = 0;
-    while i < from.len() {
-        to[i] = from[i];
-        i += 1;
-    }
-}
-
-// An answer in the lent list, where its reply is 0 or 7. The reply.
-fn tell(w: Why, list: &mut [u32]) -> u64
-    requires { ⌜ Small (numbersOf w) ⌝ }
-    requires { ⌜ length (now list) ≡ 12 ⌝ }
-    ensures { λ word. ⌜ word ≡ getD (numbersOf w) 0 0 ⌝ }
-    ensures { λ _. ⌜ now (list .exit) ≡ cond (tells (getD (numbersOf w) 0 0)) (numbersOf w) (now (list .entry)) ⌝ }
-{
-    let ns = why_numbers(w);
-    let reply = ns[0];
-    if (reply == 0) | (reply == 7) {
-        put_list(list, &ns);
-        return reply as u64;
-    }
-    reply as u64
-}
-
 // Document 02's question why a sector reads so, and what a write of it would do.
 #[no_mangle]
 pub extern "C" fn cnftl_why(
@@ -282,7 +205,7 @@ pub extern "C" fn cnftl_why(
         }
         return 1;
     }
-    tell(
+    listing::tell(
         why::explain(p, chip, ct, bt, fst, bst, wear, marks, lba),
         list,
     )

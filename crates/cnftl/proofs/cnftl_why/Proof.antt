@@ -1,7 +1,5 @@
 -- `cnftl::cnftl_why`: by the length of the list; then the answer of `why::explain`, told.
 -- Assumes nothing.
-use mathlib.Core.Path.{_≡_, ap, refl, sym, _∙_}
-use mathlib.Core.Bool.{cond}
 use borrow.Author.Needs.{needs}
 use Rattle.rules.specs.Tables.{Board, boardOf}
 use Rattle.cnftl.proofs.Lists.{listed, unlisted}

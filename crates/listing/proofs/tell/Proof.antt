@@ -1,4 +1,4 @@
--- `cnftl::tell`: the reply is the first number, and the list is filled where it is 0 or 7.
+-- `listing::tell`: the reply is the first number, and the list is filled where it is 0 or 7.
 -- Assumes nothing.
 use mathlib.Core.Path.{_≡_, ap, sym, _∙_}
 use mathlib.Core.Bool.{false, true}
@@ -6,10 +6,10 @@ use mathlib.Core.List.{List}
 use Prim.Native.Nat.{ℕ}
 use lib.ListN.{getD, length}
 use borrow.Author.Needs.{needs}
-use Rattle.cnftl.specs.Listed.{tells}
-use Rattle.cnftl.proofs.Lists.{twelve}
-use Rattle.cnftl.proofs.tell.Statement.{statement}
-use Rattle.cnftl.proofs.tell.Tie as tie
+use Rattle.listing.specs.Told.{tells}
+use Rattle.listing.proofs.Numbers.{twelve}
+use Rattle.listing.proofs.tell.Statement.{statement}
+use Rattle.listing.proofs.tell.Tie as tie
 
 why-numbers-requires : tie.Need-why-numbers-requires
 why-numbers-requires c κs = c .before .pre .0

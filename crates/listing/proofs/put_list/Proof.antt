@@ -1,4 +1,4 @@
--- `cnftl::put_list`: after i turns the first i entries stand there.
+-- `listing::put_list`: after i turns the first i entries stand there.
 -- Assumes nothing.
 use mathlib.Core.Path.{ap, refl, _∙_, _≡_}
 use mathlib.Core.List.{_++_, List}
@@ -9,8 +9,8 @@ use lib.Seq.{take-length}
 use borrow.Author.Needs.{needs}
 use Rattle.loops.proofs.Elements.{copy-more}
 use Rattle.nand.proofs.Places.{put-whole}
-use Rattle.cnftl.proofs.put_list.Statement.{statement}
-use Rattle.cnftl.proofs.put_list.Tie as tie
+use Rattle.listing.proofs.put_list.Statement.{statement}
+use Rattle.listing.proofs.put_list.Tie as tie
 
 abbrev Inv-loop : tie.InvT-loop
 Inv-loop to₀ from i₀ to i = (i ≤ length from) × (length to ≡ length to₀) × (to ≡ take i from ++ drop i to₀)

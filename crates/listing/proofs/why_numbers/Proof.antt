@@ -1,13 +1,13 @@
--- `cnftl::why_numbers`: case by case; each number fits, as was asked.
+-- `listing::why_numbers`: case by case; each number fits, as was asked.
 -- Assumes nothing.
 use mathlib.Core.Path.{ap}
 use mathlib.Core.List.{List, _∷_}
 use Prim.Native.Nat.{ℕ}
 use borrow.Author.Needs.{needs}
 use Rattle.why.specs.Why.{numbersOf, placeNumbers}
-use Rattle.cnftl.proofs.Lists.{reads-four}
-use Rattle.cnftl.proofs.why_numbers.Statement.{statement}
-use Rattle.cnftl.proofs.why_numbers.Tie as tie
+use Rattle.listing.proofs.Numbers.{reads-four}
+use Rattle.listing.proofs.why_numbers.Statement.{statement}
+use Rattle.listing.proofs.why_numbers.Tie as tie
 
 enum-known-w : tie.Need-enum-known-w
 enum-known-w c = search needs

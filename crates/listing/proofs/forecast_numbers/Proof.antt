@@ -1,11 +1,9 @@
--- `cnftl::forecast_numbers`: case by case; each number fits, as was asked.
+-- `listing::forecast_numbers`: case by case; each number fits, as was asked.
 -- Assumes nothing.
-use mathlib.Core.Path.{_≡_}
-use native.Mathlib.Omega.{arith}
 use borrow.Author.Needs.{needs}
-use Rattle.why.specs.Why.{Small, forecastNumbers}
-use Rattle.cnftl.proofs.forecast_numbers.Statement.{statement}
-use Rattle.cnftl.proofs.forecast_numbers.Tie as tie
+use Rattle.why.specs.Why.{forecastNumbers}
+use Rattle.listing.proofs.forecast_numbers.Statement.{statement}
+use Rattle.listing.proofs.forecast_numbers.Tie as tie
 
 enum-known-fc : tie.Need-enum-known-fc
 enum-known-fc c = search needs
