@@ -10,23 +10,6 @@ ghost use Rattle.flat.specs.Flat.{flatCall, flatOutcome};
 ghost use Rattle.packing.specs.Packed.{paramsOf};
 ghost use Rattle.cnftl.specs.Packed.{Given};
 ghost use Rattle.cnftl.specs.Listed.{Listed};
-use rules::Params;
-
-// The parameters as one.
-fn params(s: u32, alpha: u32, beta: u32, d: u32, mu: u32, gamma: u32, c: u32, n: u32) -> Params
-    ensures { λ p. ⌜ p ≡ paramsOf s alpha beta d mu gamma c n ⌝ }
-{
-    Params {
-        s: s as usize,
-        alpha: alpha as usize,
-        beta: beta as usize,
-        d: d as usize,
-        mu: mu as usize,
-        gamma: gamma as usize,
-        C: c as usize,
-        N: n as usize,
-    }
-}
 
 // Document 01's format.
 #[no_mangle]
@@ -49,7 +32,7 @@ pub extern "C" fn cnftl_format(
 ) -> u64
     ensures { λ word. ⌜ Given (markedCall (paramsOf s alpha beta d mu gamma c n) (boardOf (now (chip .entry)) (now (ct .entry)) (now (bt .entry)) (now (fst .entry)) (now (bst .entry)) (now (wear .entry))) (now (marks .entry)) format) word [] (boardOf (now (chip .exit)) (now (ct .exit)) (now (bt .exit)) (now (fst .exit)) (now (bst .exit)) (now (wear .exit))) (now (marks .exit)) ⌝ }
 {
-    let p = params(s, alpha, beta, d, mu, gamma, c, n);
+    let p = packing::params(s, alpha, beta, d, mu, gamma, c, n);
     packing::pack(layer::format(p, chip, ct, bt, fst, bst, wear, marks))
 }
 
@@ -77,7 +60,7 @@ pub extern "C" fn cnftl_read(
 ) -> u64
     ensures { λ word. ⌜ Given (markedCall (paramsOf s alpha beta d mu gamma c n) (boardOf (now (chip .entry)) (now (ct .entry)) (now (bt .entry)) (now (fst .entry)) (now (bst .entry)) (now (wear .entry))) (now (marks .entry)) (read (requestOf lba count (now (bytes .entry))))) word (now (bytes .exit)) (boardOf (now (chip .entry)) (now (ct .entry)) (now (bt .entry)) (now (fst .entry)) (now (bst .entry)) (now (wear .entry))) (now (marks .entry)) ⌝ }
 {
-    let p = params(s, alpha, beta, d, mu, gamma, c, n);
+    let p = packing::params(s, alpha, beta, d, mu, gamma, c, n);
     packing::pack(layer::read(p, chip, ct, bt, fst, bst, wear, marks, lba, count, bytes))
 }
 
@@ -105,7 +88,7 @@ pub extern "C" fn cnftl_write(
 ) -> u64
     ensures { λ word. ⌜ Given (markedCall (paramsOf s alpha beta d mu gamma c n) (boardOf (now (chip .entry)) (now (ct .entry)) (now (bt .entry)) (now (fst .entry)) (now (bst .entry)) (now (wear .entry))) (now (marks .entry)) (write (requestOf lba count (now (bytes .entry))))) word (now (bytes .entry)) (boardOf (now (chip .exit)) (now (ct .exit)) (now (bt .exit)) (now (fst .exit)) (now (bst .exit)) (now (wear .exit))) (now (marks .exit)) ⌝ }
 {
-    let p = params(s, alpha, beta, d, mu, gamma, c, n);
+    let p = packing::params(s, alpha, beta, d, mu, gamma, c, n);
     packing::pack(layer::write(p, chip, ct, bt, fst, bst, wear, marks, lba, count, bytes))
 }
 
@@ -133,7 +116,7 @@ pub extern "C" fn cnftl_queue(
 ) -> u64
     ensures { λ word. ⌜ flatOutcome word (now (answers .exit)) (lentBoard (now (chip .exit)) (now (ct .exit)) (now (bt .exit)) (now (fst .exit)) (now (bst .exit)) (now (wear .exit)) (now (marks .exit))) ≡ flatCall (paramsOf s alpha beta d mu gamma c n) (lentBoard (now (chip .entry)) (now (ct .entry)) (now (bt .entry)) (now (fst .entry)) (now (bst .entry)) (now (wear .entry)) (now (marks .entry))) (now (requests .entry)) (now (bytes .entry)) (now (answers .entry)) ⌝ }
 {
-    let p = params(s, alpha, beta, d, mu, gamma, c, n);
+    let p = packing::params(s, alpha, beta, d, mu, gamma, c, n);
     flat::queue(
         p,
         chip,
@@ -171,7 +154,7 @@ pub extern "C" fn cnftl_release(
 ) -> u64
     ensures { λ word. ⌜ Given (markedCall (paramsOf s alpha beta d mu gamma c n) (boardOf (now (chip .entry)) (now (ct .entry)) (now (bt .entry)) (now (fst .entry)) (now (bst .entry)) (now (wear .entry))) (now (marks .entry)) (release cluster)) word [] (boardOf (now (chip .entry)) (now (ct .exit)) (now (bt .entry)) (now (fst .entry)) (now (bst .entry)) (now (wear .entry))) (now (marks .exit)) ⌝ }
 {
-    let p = params(s, alpha, beta, d, mu, gamma, c, n);
+    let p = packing::params(s, alpha, beta, d, mu, gamma, c, n);
     packing::pack(layer::release(p, chip, ct, bt, fst, bst, wear, marks, cluster))
 }
 
@@ -198,7 +181,7 @@ pub extern "C" fn cnftl_why(
 ) -> u64
     ensures { λ word. ⌜ Listed (paramsOf s alpha beta d mu gamma c n) (boardOf (now (chip .entry)) (now (ct .entry)) (now (bt .entry)) (now (fst .entry)) (now (bst .entry)) (now (wear .entry))) (now (marks .entry)) lba (now (list .entry)) word (now (list .exit)) ⌝ }
 {
-    let p = params(s, alpha, beta, d, mu, gamma, c, n);
+    let p = packing::params(s, alpha, beta, d, mu, gamma, c, n);
     if list.len() != 12 {
         if sizes::parameters_allowed(p) {
             return 2;
