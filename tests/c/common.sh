@@ -12,6 +12,12 @@ else
     # the toolchain brings an emulator; a program without shared libraries needs nothing else
     cc=x86_64-linux-gnu-gcc cxx=x86_64-linux-gnu-g++ objdump=x86_64-linux-gnu-objdump link=(-static)
     runner=("$(dirname "$(rt doc)")/../on/$(uname -m)/toolchain/bin/qemu-x86_64")
+    # Debian's cross libm.a is a linker script that names its parts where a native one has them: one with the right paths stands before it
+    libm=$("$cc" -print-file-name=libm.a)
+    if grep -q '^GROUP' "$libm"; then
+        sed "s|/usr/lib/x86_64-linux-gnu|$(dirname "$libm")|g" "$libm" >"$room/libm.a"
+        link+=(-L"$room")
+    fi
 fi
 strict=(-Wall -Wextra -Werror -pedantic -Iinclude)
 crate=${crate:-cnftl}
