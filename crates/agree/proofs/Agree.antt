@@ -27,7 +27,7 @@ use Rattle.rules.proofs.RegionFacts.{regionOrderly, up-to}
 use Rattle.rules.proofs.Sizes.{Sizes, sizes}
 use Rattle.rules.proofs.TableFacts.{Tables, chip-size, tables-in}
 use Rattle.rules.proofs.Totals.{used-total}
-use Rattle.tables.specs.Entries.{differs, usedOk}
+use Rattle.checks.specs.Entries.{differs, usedOk}
 use Rattle.agree.specs.Check.{Lengths, chipOk, clusterOk, clustersOk, fstOk, regionOk, tablesOk, vblockOk}
 use Rattle.agree.proofs.Same.{Names, assigned-no, assigned-yes, body-is, entry-other, entry-same, open-same}
 

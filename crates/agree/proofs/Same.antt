@@ -26,7 +26,7 @@ use Rattle.rules.proofs.RegionFacts.{UpTo, filled-le, up-to}
 use Rattle.rules.proofs.Replays.{block-size}
 use Rattle.rules.proofs.Sizes.{Sizes}
 use Rattle.rules.proofs.Views.{some-bytes}
-use Rattle.tables.specs.Entries.{emptyAt}
+use Rattle.checks.specs.Entries.{emptyAt}
 use Rattle.agree.specs.Check.{clusterOk, fstOk, fullOk, openOk, segmentOk}
 
 not-not : (t : Bool) → not (not t) ≡ t

@@ -13,7 +13,7 @@ use Rattle.rules.specs.Orderly.{blockRule, bstRule, btRule, freeRule, roomRule}
 use Rattle.rules.specs.Pages.{block, filled, frame, lastIn, programmed}
 use Rattle.rules.specs.Parameters.{allowed, chipBytes, frames}
 use Rattle.rules.specs.Tables.{bstAt, btAt, ctAt, fstAt, none}
-use Rattle.tables.specs.Entries.{differs, emptyAt, usedOk}
+use Rattle.checks.specs.Entries.{differs, emptyAt, usedOk}
 
 -- a named block is named once in its region, is used, and is a block of that region
 unfoldable pub vblockOk : Params → List ℕ → List ℕ → List ℕ → ℕ → ℕ → Bool

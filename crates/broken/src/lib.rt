@@ -1,18 +1,14 @@
 // Which rule of an orderly state a board breaks: the first in document 01's order, T-06's rule of the marks last. Each rule is a test of its own and is looked
-// at only where those before it hold. It is asked only where a call is refused with 7, so the tests search BT as often as they need.
+// at only where those before it hold. It is asked only where a call is refused with 7.
 ghost use mathlib.Core.Path.{_≡_};
-ghost use mathlib.Core.Bool.{true, not, _||_, Bool·beq};
+ghost use mathlib.Core.Bool.{true, not};
 ghost use mathlib.Core.List.{List};
-ghost use Prim.Native.Nat.{ℕ, _*_, _<_};
-ghost use lib.ListN.{length};
-ghost use lib.Dec.{eqb};
+ghost use Prim.Native.Nat.{ℕ, _<_};
 ghost use Rattle.lists.specs.Below.{allBelow};
-ghost use Rattle.rules.specs.Tables.{boardOf, none, btEntry, bstAt};
-ghost use Rattle.rules.specs.Orderly.{onceRule, named, usedRule};
+ghost use Rattle.rules.specs.Tables.{boardOf};
 ghost use Rattle.agree.specs.Check.{Lengths, Lent};
 ghost use Rattle.broken.specs.Broken.{ruleNumber, brokenRule};
 ghost use Rattle.broken.specs.Tests.{blockOk, regionBlocksOk};
-use rules::PBlock;
 use rules::Params;
 use rules::VBlock;
 
@@ -46,102 +42,6 @@ pub fn rule_number(r: Rule) -> u32
         Rule::Ct => 9,
         Rule::Marks => 10,
     }
-}
-
-// Entries i and j of BT are one entry, or do not name the same block.
-fn pair_ok(bt: &[u16], i: usize, j: usize) -> bool
-    requires { ⌜ i < length (now bt) ⌝ }
-    requires { ⌜ j < length (now bt) ⌝ }
-    ensures { λ ok. ⌜ ok ≡ eqb i j || (eqb (btEntry (now (bt .entry)) i) none || not (eqb (btEntry (now (bt .entry)) i) (btEntry (now (bt .entry)) j))) ⌝ }
-{
-    if i == j {
-        return true;
-    }
-    let n = tables::bt_entry(bt, i);
-    if n.0 == 65535 {
-        return true;
-    }
-    let other = tables::bt_entry(bt, j);
-    n.0 != other.0
-}
-
-// No other entry of BT names the block of entry i.
-fn entry_once(p: Params, bt: &[u16], i: usize) -> bool
-    requires { ⌜ length (now bt) ≡ p .mu * p .gamma ⌝ }
-    requires { ⌜ i < p .mu * p .gamma ⌝ }
-    ensures { λ ok. ⌜ ok ≡ allBelow (p .mu * p .gamma) (λ j. eqb i j || (eqb (btEntry (now (bt .entry)) i) none || not (eqb (btEntry (now (bt .entry)) i) (btEntry (now (bt .entry)) j)))) ⌝ }
-{
-    let m = bt.len();
-    let mut j = 0;
-    while j < m {
-        if !pair_ok(bt, i, j) {
-            return false;
-        }
-        j += 1;
-    }
-    true
-}
-
-// No block is named twice.
-fn once_ok(p: Params, bt: &[u16]) -> bool
-    requires { ⌜ length (now bt) ≡ p .mu * p .gamma ⌝ }
-    ensures { λ ok. ⌜ ok ≡ onceRule p (now (bt .entry)) ⌝ }
-{
-    let m = bt.len();
-    let mut i = 0;
-    while i < m {
-        if !entry_once(p, bt, i) {
-            return false;
-        }
-        i += 1;
-    }
-    true
-}
-
-// BT names block n.
-fn is_named(p: Params, bt: &[u16], n: PBlock) -> bool
-    requires { ⌜ length (now bt) ≡ p .mu * p .gamma ⌝ }
-    ensures { λ yes. ⌜ yes ≡ named p (now (bt .entry)) (n .0) ⌝ }
-{
-    let m = bt.len();
-    let mut at = 0;
-    while at < m {
-        if tables::bt_entry(bt, at).0 == n.0 {
-            return true;
-        }
-        at += 1;
-    }
-    false
-}
-
-// Block n is used exactly if BT names it.
-fn used_if_named(p: Params, bt: &[u16], bst: &[u8], n: PBlock) -> bool
-    requires { ⌜ length (now bt) ≡ p .mu * p .gamma ⌝ }
-    requires { ⌜ n .0 < length (now bst) ⌝ }
-    ensures { λ ok. ⌜ ok ≡ Bool·beq (eqb (bstAt (now (bst .entry)) (n .0)) 1) (named p (now (bt .entry)) (n .0)) ⌝ }
-{
-    let yes = is_named(p, bt, n);
-    if tables::bst_at(bst, n) == 1 {
-        return yes;
-    }
-    !yes
-}
-
-// The same of every block.
-fn used_ok(p: Params, bt: &[u16], bst: &[u8]) -> bool
-    requires { ⌜ length (now bt) ≡ p .mu * p .gamma ⌝ }
-    requires { ⌜ length (now bst) ≡ p .N ⌝ }
-    ensures { λ ok. ⌜ ok ≡ usedRule p (now (bt .entry)) (now (bst .entry)) ⌝ }
-{
-    let m = p.N;
-    let mut n = 0;
-    while n < m {
-        if !used_if_named(p, bt, bst, PBlock(n)) {
-            return false;
-        }
-        n += 1;
-    }
-    true
 }
 
 // Virtual block v of region r has no block, or has a used block of that region.
@@ -197,19 +97,19 @@ pub fn broken_rule(p: Params, chip: &[u8], ct: &[u16], bt: &[u16], fst: &[u16], 
     requires { ⌜ Lengths p (now chip) (now ct) (now bt) (now fst) (now bst) ⌝ }
     ensures { λ k. ⌜ ((wear : List ℕ) → k ≡ brokenRule p (boardOf (now (chip .entry)) (now (ct .entry)) (now (bt .entry)) (now (fst .entry)) (now (bst .entry)) wear)) ⌝ }
 {
-    if !tables::bst_ok(p, bst) {
+    if !checks::bst_ok(p, bst) {
         return Rule::BstValues;
     }
-    if !tables::bt_ok(p, bt) {
+    if !checks::bt_ok(p, bt) {
         return Rule::BtRange;
     }
-    if !once_ok(p, bt) {
+    if !naming::once_ok(p, bt) {
         return Rule::NamedTwice;
     }
-    if !used_ok(p, bt, bst) {
+    if !naming::used_ok(p, bt, bst) {
         return Rule::UsedIfNamed;
     }
-    if !tables::room_ok(p, bst) {
+    if !checks::room_ok(p, bst) {
         return Rule::TooFewLeft;
     }
     if !state::frees_ok(p, chip, bst) {

@@ -85,7 +85,7 @@ fn fst_ok(p: Params, chip: &[u8], bt: &[u16], fst: &[u16], r: usize) -> bool
     ensures { λ ok. ⌜ ok ≡ fstOk p (now (chip .entry)) (now (bt .entry)) (now (fst .entry)) r ⌝ }
 {
     let sg = tables::fst_at(fst, r);
-    if tables::empty_at(p, bt, r) {
+    if checks::empty_at(p, bt, r) {
         return sg.0 == 65535;
     }
     open_ok(p, chip, bt, r, sg)

@@ -17,7 +17,7 @@ use Rattle.rules.specs.Parameters.{frames}
 use Rattle.rules.specs.Tables.{bstAt, btAt, none}
 use Rattle.rules.proofs.Frames.{erased-not}
 use Rattle.rules.proofs.RegionFacts.{GoodFrame, UpTo, up-to}
-use Rattle.tables.specs.Entries.{differs}
+use Rattle.checks.specs.Entries.{differs}
 use Rattle.agree.specs.Check.{vblockOk}
 use Rattle.state.proofs.Blocks.{name-low}
 use Rattle.valid.specs.Shown.{CheckAsked, Mine}

@@ -19,7 +19,7 @@ use Rattle.rules.specs.Parameters.{frames}
 use Rattle.rules.specs.Tables.{btAt, none}
 use Rattle.rules.proofs.RegionFacts.{filled-le}
 use Rattle.rules.proofs.Sizes.{Sizes}
-use Rattle.tables.specs.Entries.{emptyAt}
+use Rattle.checks.specs.Entries.{emptyAt}
 use Rattle.agree.specs.Check.{fullOk, openOk, vblockFrames, vblockOk}
 use Rattle.agree.proofs.Same.{last-full}
 use Rattle.state.proofs.Blocks.{frames-some, vblock-low}

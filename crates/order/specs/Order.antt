@@ -14,7 +14,7 @@ use Rattle.rules.specs.Numbers.{segmentOf, vblockOf}
 use Rattle.rules.specs.Orderly.{freeRule}
 use Rattle.rules.specs.Parameters.{frames}
 use Rattle.rules.specs.Tables.{btAt, ctAt, fstAt, none}
-use Rattle.tables.specs.Entries.{emptyAt}
+use Rattle.checks.specs.Entries.{emptyAt}
 use Rattle.agree.specs.Check.{Lent, tablesOk, vblockFrames}
 use Rattle.marks.specs.Marks.{marksLength, wordAt}
 use Rattle.valid.specs.Shown.{bitIn, marksValid}

@@ -100,7 +100,7 @@ fn entry_ok(p: Params, bt: &[u16], r: usize, sg: Segment) -> bool
     requires { ⌜ sg .0 < 65536 ⌝ }
     ensures { λ ok. ⌜ ok ≡ entryOk p (now (bt .entry)) r (sg .0) ⌝ }
 {
-    if tables::empty_at(p, bt, r) {
+    if checks::empty_at(p, bt, r) {
         return sg.0 == 65535;
     }
     if sg.0 >= p.gamma * p.d {

@@ -17,7 +17,7 @@ use Rattle.rules.specs.Parameters.{frames}
 use Rattle.rules.specs.Tables.{Board, bstAt, btAt, btEntry, none}
 use Rattle.rules.proofs.Sizes.{Sizes, sizes}
 use Rattle.rules.proofs.TableFacts.{chip-size}
-use Rattle.tables.specs.Entries.{differs}
+use Rattle.checks.specs.Entries.{differs}
 use Rattle.tables.proofs.Indices.{entry-in}
 use Rattle.blocks.proofs.Leading.{used-some}
 use Rattle.agree.specs.Check.{Lent, vblockFrames, vblockOk}

@@ -61,7 +61,7 @@ pub fn vblock_frames(p: Params, chip: &[u8], bt: &[u16], bst: &[u8], r: usize, v
     if n.0 == 65535 {
         return sizes::frames(p);
     }
-    if !tables::differs(p, bt, r, v) {
+    if !checks::differs(p, bt, r, v) {
         return 0;
     }
     if tables::bst_at(bst, n) != 1 {
@@ -77,8 +77,8 @@ pub fn tables_ok(p: Params, bt: &[u16], bst: &[u8]) -> bool
     requires { ⌜ length (now bst) ≡ p .N ⌝ }
     ensures { λ ok. ⌜ ok ≡ tablesOk p (now (bt .entry)) (now (bst .entry)) ⌝ }
 {
-    if !tables::bt_ok(p, bt) {
+    if !checks::bt_ok(p, bt) {
         return false;
     }
-    tables::kinds_ok(p, bst, tables::assigned(bt))
+    checks::kinds_ok(p, bst, checks::assigned(bt))
 }

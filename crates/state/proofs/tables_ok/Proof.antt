@@ -3,7 +3,7 @@
 use mathlib.Core.Bool.{and-false}
 use borrow.Author.Needs.{needs}
 use borrow.Author.Tests.{not-false, not-true}
-use Rattle.tables.specs.Entries.{kindsOk, usedOk}
+use Rattle.checks.specs.Entries.{kindsOk, usedOk}
 use Rattle.agree.specs.Check.{tablesOk}
 use Rattle.state.proofs.tables_ok.Statement.{statement}
 use Rattle.state.proofs.tables_ok.Tie as tie
