@@ -1,9 +1,9 @@
--- `bench::answer`: by the line; each call leaves the board that the line's turn says.
+-- `serving::answer`: by the line; each call leaves the board that the line's turn says.
 -- Assumes nothing.
 use borrow.Author.Needs.{needs}
-use Rattle.bench.proofs.Turns.{other-turned, read-turned}
-use Rattle.bench.proofs.answer.Statement.{statement}
-use Rattle.bench.proofs.answer.Tie as tie
+use Rattle.serving.proofs.Turns.{other-turned, read-turned}
+use Rattle.serving.proofs.answer.Statement.{statement}
+use Rattle.serving.proofs.answer.Tie as tie
 
 enum-known-line : tie.Need-enum-known-line
 enum-known-line c = search needs

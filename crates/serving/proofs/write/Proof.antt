@@ -1,4 +1,4 @@
--- `bench::write`: the part that is lent is within the cluster's bytes, and is what the line's turn asks to be written.
+-- `serving::write`: the part that is lent is within the cluster's bytes, and is what the line's turn asks to be written.
 -- Assumes nothing.
 use mathlib.Core.Path.{sym}
 use lib.ListN.{length, length-replicate}
@@ -6,9 +6,9 @@ use lib.Seq.{length-take-le}
 use native.Mathlib.Omega.{arith}
 use borrow.Author.Needs.{needs}
 use Rattle.session.specs.Session.{requested}
-use Rattle.bench.proofs.Turns.{sent, write-turned}
-use Rattle.bench.proofs.write.Statement.{statement}
-use Rattle.bench.proofs.write.Tie as tie
+use Rattle.serving.proofs.Turns.{sent, write-turned}
+use Rattle.serving.proofs.write.Statement.{statement}
+use Rattle.serving.proofs.write.Tie as tie
 
 filled-requires : tie.Need-filled-requires
 filled-requires c κs = search needs

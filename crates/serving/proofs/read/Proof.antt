@@ -1,12 +1,12 @@
--- `bench::read` is safe: the part that is lent is within the cluster's bytes.
+-- `serving::read` is safe: the part that is lent is within the cluster's bytes.
 -- Assumes nothing.
 use mathlib.Core.Path.{sym}
 use lib.ListN.{length, length-replicate}
 use lib.Seq.{length-take-le}
 use native.Mathlib.Omega.{arith}
 use borrow.Author.Needs.{needs}
-use Rattle.bench.proofs.read.Statement.{statement}
-use Rattle.bench.proofs.read.Tie as tie
+use Rattle.serving.proofs.read.Statement.{statement}
+use Rattle.serving.proofs.read.Tie as tie
 
 filled-requires : tie.Need-filled-requires
 filled-requires c κs = search needs

@@ -24,7 +24,7 @@ use Rattle.marks.proofs.MarkedRuns.{keeps-own, leaves-own, withMarks}
 use Rattle.ends.specs.Claims.{outcome}
 use Rattle.lines.specs.declared.Line.the-variants.{Other, Read, Write}
 use Rattle.session.specs.Session.{requested, turn}
-use Rattle.bench.specs.Turned.{Started, Turned}
+use Rattle.serving.specs.Turned.{Started, Turned}
 
 take-replicate : (n m x : ℕ) → n ≤ m → take n (replicate m x) ≡ replicate n x
 take-replicate zero m x h = refl

@@ -1,9 +1,9 @@
--- `bench::start`: the format of Board T.
+-- `serving::start`: the format of Board T.
 -- Assumes nothing.
 use borrow.Author.Needs.{needs}
-use Rattle.bench.proofs.Turns.{started}
-use Rattle.bench.proofs.start.Statement.{statement}
-use Rattle.bench.proofs.start.Tie as tie
+use Rattle.serving.proofs.Turns.{started}
+use Rattle.serving.proofs.start.Statement.{statement}
+use Rattle.serving.proofs.start.Tie as tie
 
 board-requires : tie.Need-board-requires
 board-requires c κs = search needs
