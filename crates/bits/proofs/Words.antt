@@ -155,10 +155,6 @@ bits-at n f i h =
     go true = refl
     go false = refl
 
--- the same word has the same marks
-pub bits-same : (n : ℕ) (f g : ℕ → Bool) → bitsBelow n f ≡ bitsBelow n g → (i : ℕ) → i < n → f i ≡ g i
-bits-same n f g e i h = sym (bits-at n f i h) ∙ ap (λ (x : ℕ). eqb (x / 2 ^ i % 2) 1) e ∙ bits-at n g i h
-
 -- ---- a number is the word of its bits
 
 as-digit : (d : ℕ) → d < 2 → d ≡ digit (eqb d 1)

@@ -13,8 +13,3 @@ bitsBelow (suc n) f = bitsBelow n f + cond (f n) (2 ^ n) 0
 unfoldable pub listBelow {ℓ} : {A : Type ℓ} → ℕ → (ℕ → A) → List A
 listBelow zero f = []
 listBelow (suc n) f = listBelow n f ++ (f n ∷ [])
-
--- every definition of this file, for an `unfolding` line
-unfoldable pub all-bits : Unit {0}
-unfolding bitsBelow listBelow
-all-bits = tt

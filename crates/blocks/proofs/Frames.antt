@@ -99,10 +99,6 @@ module _ (p : Params) (blk : List ℕ) (k c : ℕ) (some : 1 ≤ p .beta) where
 
 -- ---- pages
 
-pub frame-pages : (p : Params) (w n : ℕ) → n ≡ frameBytes p → w ≡ pageBytes p → n ≡ p .alpha * w
-unfolding frameBytes
-frame-pages p w n e k = rw (e, k)
-
 pub block-pages : (p : Params) (f w n : ℕ) → n ≡ blockBytes p → f ≡ frames p → w ≡ pageBytes p → n ≡ p .alpha * f * w
 unfolding blockBytes frameBytes
 block-pages p f w n e l k = rw (e, l, k) (omega arith)

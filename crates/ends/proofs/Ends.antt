@@ -1,18 +1,17 @@
 -- The two ends of any call with the table of marks: refused by its reply's number, and accepted with its work done. Both are the rules' outcome.
 -- Assumes nothing.
-use mathlib.Core.Path.{_≡_, refl, sym, ap, _∙_}
-use mathlib.Core.Bool.{Bool, _&&_, true, false, cond}
+use mathlib.Core.Path.{_≡_, sym, ap, _∙_}
+use mathlib.Core.Bool.{_&&_, true, false}
 use mathlib.Core.List.{List, []}
 use Prim.Native.Nat.{ℕ}
-use native.Mathlib.Omega.{arith}
 use lib.ListN.{length}
 use borrow.Author.Tests.{eqb-true, not-false}
 use Rattle.rules.specs.declared.Params.{Params}
 use Rattle.rules.specs.declared.Reply.{Reply}
-use Rattle.rules.specs.declared.Reply.the-variants.{Accepted, BadParameter, WrongLength, NotOrderly}
+use Rattle.rules.specs.declared.Reply.the-variants.{Accepted}
 use Rattle.rules.specs.declared.Answer.{Answer}
 use Rattle.rules.specs.Tables.{Board}
-use Rattle.rules.specs.Replies.{numberOf, isAccepted, badParameter}
+use Rattle.rules.specs.Replies.{numberOf, badParameter}
 use Rattle.rules.specs.Calls.{Outcome, Call, answerOf, refuses, outcomeOf}
 use Rattle.claims.specs.Runs.{leaves, replyTo}
 use Rattle.claims.specs.Conditions.{lent}
@@ -20,20 +19,9 @@ use Rattle.claims.proofs.Outcomes.{accepted-by, is-refused}
 use Rattle.marks.specs.MarkedCalls.{asksOrder, markedCall, markedOutcome, markedReply, wrongMark, wrongMarksLength}
 use Rattle.marks.specs.MarkedConditions.{MarkedBoard}
 use Rattle.marks.specs.Marks.{marksLength, marksOf}
-use Rattle.marks.proofs.MarkedReplies.{given-accepted, given-refused}
+use Rattle.marks.proofs.MarkedReplies.{given-accepted, given-refused, none-wrong}
 use Rattle.marks.proofs.Tables.{right}
 use Rattle.ends.specs.Claims.{outcome}
-
--- the reply with the table is 0: its length is right, no mark that the call asks for is wrong, and the call without it replies 0
-pub none-wrong : (a l w : Bool) (r : Reply) → cond a BadParameter (cond l WrongLength (cond (isAccepted r && w) NotOrderly r)) ≡ Accepted → (l ≡ false) × ((w ≡ false) × (r ≡ Accepted))
-unfolding isAccepted
-none-wrong true l w r e = absurd (omega (arith, ap numberOf e))
-none-wrong false true w r e = absurd (omega (arith, ap numberOf e))
-none-wrong false false w r e = (refl, go (isAccepted r && w) refl e)
-  where
-    go : (t : Bool) → isAccepted r && w ≡ t → cond t NotOrderly r ≡ Accepted → (w ≡ false) × (r ≡ Accepted)
-    go true k f = absurd (omega (arith, ap numberOf f))
-    go false k f = (rw f at k, f)
 
 module _ (p : Params) (b : Board) (marks : List ℕ) (c : Call) (r : Reply) (e : r ≡ markedReply p b marks (asksOrder c) (replyTo p b c)) (n : ℕ) (m : n ≡ numberOf r) where
   abbrev x : MarkedBoard

@@ -24,14 +24,13 @@ use Rattle.claims.proofs.Outcomes.{accepted-by, is-refused, write-leaves, write
 use Rattle.marks.specs.Marks.{marksLength, marksOf, marksRule}
 use Rattle.marks.specs.MarkedCalls.{MarkedOutcome, asksOrder, markedReply, wrongMark, wrongMarksLength}
 use Rattle.marks.specs.MarkedConditions.{MarkedBoard, markedLeaves, markedOutcomeOf}
-use Rattle.marks.proofs.MarkedReplies.{given, given-accepted, given-refused}
+use Rattle.marks.proofs.MarkedReplies.{given, given-accepted, given-refused, none-wrong}
 use Rattle.marks.proofs.MarkedRuns.{marks-length, withMarks}
 use Rattle.marks.proofs.Tables.{right, rule-of}
 use Rattle.queued.specs.declared.Item.{Item}
 use Rattle.queued.specs.Queue.{itemRequest, itemWrite, lies}
 use Rattle.reading.specs.Sectors.{requestOf}
 use Rattle.writing.specs.Clusters.{Gives}
-use Rattle.ends.proofs.Ends.{none-wrong}
 use Rattle.heads.specs.Heads.{Ready}
 use Rattle.items.specs.Items.{ItemIs}
 use Rattle.queued.proofs.Queues.{data-in-its-turn}

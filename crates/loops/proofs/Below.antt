@@ -1,18 +1,15 @@
 -- A loop over the numbers below n: what one turn adds to a test of all, to a count, and to a search from above.
 -- Assumes nothing.
-use mathlib.Core.Path.{_≡_, refl, sym, _∙_}
+use mathlib.Core.Path.{_≡_, refl}
 use mathlib.Core.Logic.{_⊎_, inl, inr}
-use mathlib.Core.Bool.{Bool, true, false, _&&_, cond}
-use Prim.Native.Nat.{ℕ, zero, suc, _+_, _/_, _%_, _≤_, _<_}
+use mathlib.Core.Bool.{Bool, true, false, cond}
+use Prim.Native.Nat.{ℕ, zero, suc, _+_, _≤_, _<_}
 use native.Mathlib.Numerals.{add-one}
-use native.Mathlib.Nat.{add-mod-right, add-zero, div-add-mod', mod-eq-of-lt, mod-le, mul-le-mul-right}
+use native.Mathlib.Nat.{add-zero}
 use native.Mathlib.Decide.{decLt}
 use native.Mathlib.Omega.{arith}
-use lib.Dec.{eqb}
-use borrow.Author.Tests.{eq-eqb, ne-eqb}
 use Rattle.lists.specs.Below.{allBelow, countBelow, lastBelow}
-use Rattle.lists.proofs.Parts.{next}
-use Rattle.lists.proofs.Tests.{all-at, all-below-intro, so, never}
+use Rattle.lists.proofs.Tests.{all-at, so, never}
 
 -- ---- every number passes
 
@@ -33,47 +30,6 @@ all-fails n i f h k = go (so (allBelow n f))
 
 pub all-end : (n i : ℕ) (f : ℕ → Bool) → i ≡ n → allBelow i f ≡ true → allBelow n f ≡ true
 all-end n i f e h = rw e at h
-
--- ---- every number of remainder r passes, m at a time
-
--- i passes, and so do the numbers up to i + m that the loop leaves out
-pub all-stride : (m i : ℕ) (f : ℕ → Bool) → allBelow i f ≡ true → f i ≡ true → ((j : ℕ) → i < j → j < i + m → f j ≡ true) → allBelow (i + m) f ≡ true
-all-stride m i f h k between = all-below-intro (i + m) f (λ j l. go j l (decLt j i) (decLt i j))
-  where
-    go : (j : ℕ) → j < i + m → Dec (j < i) → Dec (i < j) → f j ≡ true
-    go j l (yes a) d = all-at i f h j a
-    go j l (no a) (yes b) = between j b l
-    go j l (no a) (no b) = let e : j ≡ i = omega arith in rw e k
-
--- the last step may go beyond n
-pub all-past : (n i : ℕ) (f : ℕ → Bool) → n ≤ i → allBelow i f ≡ true → allBelow n f ≡ true
-all-past n i f l h = all-below-intro n f (λ j k. all-at i f h j (omega arith))
-
--- no number between two steps has their remainder
-between-steps : (m i j : ℕ) → i < j → j < i + m → j % m ≡ i % m → ⊥
-between-steps m i j a b e = go (decLt (i / m) (j / m))
-  where
-    go : Dec (i / m < j / m) → ⊥
-    go (yes l) = omega (arith, div-add-mod' i m, div-add-mod' j m, next m (i / m) (j / m) l)
-    go (no l) = omega (arith, div-add-mod' i m, div-add-mod' j m, mul-le-mul-right {m = j / m} {n = i / m} m (omega arith))
-
-module _ (m r : ℕ) (f : ℕ → Bool) where
-  -- f, of the numbers of remainder r
-  abbrev pub those : ℕ → Bool
-  those i = cond (eqb (i % m) r) (f i) true
-
-  other : (i : ℕ) → (i % m ≡ r → ⊥) → those i ≡ true
-  other i ne = rw (ne-eqb (i % m) r ne)
-
-  pub those-start : r < m → (r % m ≡ r) × (allBelow r those ≡ true)
-  those-start h = (mod-eq-of-lt h, all-below-intro r those (λ j l. other j (λ e. omega (arith, mod-le j m))))
-
-  pub those-more : (i : ℕ) → i % m ≡ r → allBelow i those ≡ true → f i ≡ true → ((i + m) % m ≡ r) × (allBelow (i + m) those ≡ true)
-  those-more i e h k =
-      (add-mod-right i m ∙ e, all-stride m i those h (rw (eq-eqb (i % m) r e) k) (λ j a b. other j (λ q. between-steps m i j a b (q ∙ sym e))))
-
-  pub those-fail : (n i : ℕ) → i < n → i % m ≡ r → f i ≡ false → allBelow n those ≡ false
-  those-fail n i h e k = all-fails n i those h (rw (eq-eqb (i % m) r e) k)
 
 -- ---- a count
 

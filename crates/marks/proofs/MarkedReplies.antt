@@ -10,7 +10,7 @@ use borrow.Author.Tests.{eq-eqb}
 use Rattle.rules.specs.declared.Params.{Params}
 use Rattle.rules.specs.declared.Reply.{Reply}
 use Rattle.rules.specs.declared.Reply.the-variants.{Accepted, BadParameter, WrongLength, BadCount, BadAddress, WrongData, NotOrderly}
-use Rattle.rules.specs.Replies.{badAddress, badCluster, badCount, badParameter, firstRow, isAccepted, notOrderly, row, wrongData, wrongLength}
+use Rattle.rules.specs.Replies.{badAddress, badCluster, badCount, badParameter, firstRow, isAccepted, notOrderly, numberOf, row, wrongData, wrongLength}
 use Rattle.rules.specs.Write.{Request}
 use Rattle.rules.specs.Calls.{Call, answerOf, format, outcomeOf, read, refuses, release, write}
 use Rattle.claims.specs.Runs.{leaves, replyTo}
@@ -89,20 +89,21 @@ module _ (p : Params) (x : MarkedBoard) where
 
 -- ---- the outcome
 
--- accepted with the table, accepted without it
-both-accepted : (a l m : Bool) (r : Reply) → orMarks a l m r ≡ Accepted → r ≡ Accepted
-both-accepted true l m r e = cc
-both-accepted false true m r e = cc
-both-accepted false false m r e = go (isAccepted r && m) e
+-- the reply with the table is 0: its length is right, no mark that the call asks for is wrong, and the call without it replies 0
+pub none-wrong : (a l w : Bool) (r : Reply) → orMarks a l w r ≡ Accepted → (l ≡ false) × ((w ≡ false) × (r ≡ Accepted))
+unfolding isAccepted
+none-wrong true l w r e = absurd (omega (arith, ap numberOf e))
+none-wrong false true w r e = absurd (omega (arith, ap numberOf e))
+none-wrong false false w r e = (refl, go (isAccepted r && w) refl e)
   where
-    go : (t : Bool) → cond t NotOrderly r ≡ Accepted → r ≡ Accepted
-    go true k = cc
-    go false k = k
+    go : (t : Bool) → isAccepted r && w ≡ t → cond t NotOrderly r ≡ Accepted → (w ≡ false) × (r ≡ Accepted)
+    go true k f = absurd (omega (arith, ap numberOf f))
+    go false k f = (rw f at k, f)
 
 module _ (p : Params) (x : MarkedBoard) (c : Call) where
   pub given-both : given p x c ≡ Accepted → replyTo p (x .board) c ≡ Accepted
   unfolding markedReply
-  given-both e = both-accepted (badParameter p) (wrongMarksLength p (x .marks)) (asksOrder c && wrong p x) (replyTo p (x .board) c) e
+  given-both e = (none-wrong (badParameter p) (wrongMarksLength p (x .marks)) (asksOrder c && wrong p x) (replyTo p (x .board) c) e) .1 .1
 
   -- the whole outcome of an accepted call, and of a refused one
   pub given-accepted : given p x c ≡ Accepted → markedCall p (x .board) (x .marks) c ≡ markedOutcome (outcomeOf p (x .board) c) (marksOf p (leaves p (x .board) c))

@@ -39,8 +39,3 @@ writtenMarks p b q m =
     let vw = view p b r in
     let pl = planOf p vw in
     putMark (withoutOld p (withRoom p vw pl) r (requestCluster p q) (roomMarks p vw r pl m)) r (planVBlock pl) (planFrame p vw pl) true
-
--- every definition of this file, for an `unfolding` line
-unfoldable pub all-kept : Unit {0}
-unfolding putMark firstMarks roomMarks withoutOld writtenMarks
-all-kept = tt

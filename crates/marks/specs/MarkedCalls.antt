@@ -49,8 +49,3 @@ markedCall p b marks c =
     let o = outcomeOf p b c in
     let r = markedReply p b marks (asksOrder c) (o .answer .reply) in
     cond (isAccepted r) (markedOutcome o (marksOf p (o .board))) (markedOutcome (refuses r (lent c) b) marks)
-
--- every definition of this file, for an `unfolding` line
-unfoldable pub all-marked-calls : Unit {0}
-unfolding wrongMarksLength wrongMark markedReply asksOrder markedCall
-all-marked-calls = tt

@@ -56,8 +56,3 @@ marksOf p b = tableOf p (marksOn p b)
 -- "An orderly state now also says that each mark equals the validity rule", word by word
 unfoldable pub marksRule : Params → Board → List ℕ → Bool
 marksRule p b marks = allBelow (marksLength p) (λ k. eqb (wordAt marks k) (entryOf p (marksOn p b) k))
-
--- every definition of this file, for an `unfolding` line
-unfoldable pub all-marks : Unit {0}
-unfolding wordAt wordOf entryOf tableOf marked marksOn marksOf marksRule
-all-marks = tt

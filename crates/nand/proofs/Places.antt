@@ -1,21 +1,17 @@
 -- Where a page stands on the chip; an erased page and what is put into it.
 -- Assumes nothing.
 use mathlib.Core.Path.{_≡_, sym, ap, _∙_}
-use mathlib.Core.Bool.{true}
 use mathlib.Core.List.{List, [], _++_, append-nil}
 use Prim.Native.Nat.{ℕ, _+_, _*_, _-_, _≤_, _<_}
 use native.Mathlib.Omega.{arith}
 use lib.ListN.{length, take, drop, replicate, length-append, length-replicate, replicate-append-replicate, drop-of-length-le}
 use lib.Seq.{drop-at, take-at}
-use Rattle.lists.specs.Parts.{part, allAre}
+use Rattle.lists.specs.Parts.{part}
 use Rattle.lists.proofs.Parts.{next, part-length}
-use Rattle.lists.proofs.Joins.{replicate-of}
 use Rattle.rules.specs.declared.Params.{Params}
-use Rattle.rules.specs.Parameters.{allowed, pages, pageBytes, chipBytes}
+use Rattle.rules.specs.Parameters.{pages, pageBytes, chipBytes}
 use Rattle.rules.specs.Traces.{pageAt}
-use Rattle.rules.proofs.Sizes.{sizes}
 use Rattle.loops.proofs.Lent.{lent-part}
-use Rattle.nand.specs.Asked.{Blank}
 
 -- ---- the end of a page
 
@@ -26,17 +22,6 @@ unfolding chipBytes
 page-fits p chip n q e h k =
     let low : n * pages p + q < p .N * pages p = omega (arith, next (pages p) n (p .N) h) in
     rw e (next (pageBytes p) (n * pages p + q) (p .N * pages p) low)
-
--- and may be programmed where it is erased
-pub page-blank : (p : Params) (chip : List ℕ) (n q : ℕ) → allowed p ≡ true → length chip ≡ chipBytes p → n < p .N → q < pages p
-    → allAre 255 (part (pageBytes p) (pageAt p n q) chip) ≡ true → Blank chip (pageBytes p) (pageAt p n q)
-page-blank p chip n q a e h k t =
-    let fits = page-fits p chip n q e h k in
-    record {
-      small = (sizes p a) .pageHigh;
-      fits = fits;
-      clean = replicate-of 255 _ t ∙ ap (λ (m : ℕ). replicate m 255) (part-length (pageBytes p) (pageAt p n q) chip fits);
-    }
 
 -- ---- a page in two pieces
 

@@ -94,10 +94,6 @@ beq-true true false e = sym e
 beq-true false true e = e
 beq-true false false e = refl
 
-beq-refl : (x : Bool) → Bool·beq x x ≡ true
-beq-refl true = refl
-beq-refl false = refl
-
 used-in : (p : Params) (b : Board) → usedRule p (b .bt) (b .bst) ≡ true → (n : ℕ) → n < p .N → eqb (bstAt (b .bst) n) 1 ≡ named p (b .bt) n
 unfolding usedRule
 used-in p b h n k = beq-true _ _ (all-at (p .N) (λ n. Bool·beq (eqb (bstAt (b .bst) n) 1) (named p (b .bt) n)) h n k)

@@ -13,8 +13,3 @@ without vw c = record { segOf = updated (vw .segOf) c none; lastSeg = vw .lastSe
 -- "its CT entry becomes none .. Where it is none already, nothing changes"
 unfoldable pub released : Board → ℕ → Board
 released b c = record { chip = b .chip; ct = set (b .ct) c none; bt = b .bt; fst = b .fst; bst = b .bst; wear = b .wear }
-
--- every definition of this file, for an `unfolding` line
-unfoldable pub all-release : Unit {0}
-unfolding without released
-all-release = tt

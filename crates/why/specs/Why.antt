@@ -81,8 +81,3 @@ whyOf p b lba = whyBy p b lba (whyReply p b lba) (firstBroken p b)
 -- T-06: "Refusals: 2 also for the new table's length, 7 also for a wrong mark", and then the rule of the marks is told, the tenth
 unfoldable pub markedWhy : Params → Board → List ℕ → ℕ → List ℕ
 markedWhy p b marks lba = whyBy p b lba (markedReply p b marks true (whyReply p b lba)) (brokenRule p b)
-
--- every definition of this file, for an `unfolding` line
-unfoldable pub all-why : Unit {0}
-unfolding forecastNumbers placeNumbers numbersOf holderOf planNumbers forecastOf foundOf whyBy whyOf markedWhy
-all-why = tt
