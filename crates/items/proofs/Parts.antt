@@ -30,7 +30,7 @@ use Rattle.marks.proofs.Tables.{right, rule-of}
 use Rattle.queued.specs.declared.Item.{Item}
 use Rattle.queued.specs.Queue.{itemRequest, itemWrite, lies}
 use Rattle.reading.specs.Sectors.{requestOf}
-use Rattle.writing.specs.Clusters.{Gives}
+use Rattle.writing.specs.Gives.{Gives}
 use Rattle.heads.specs.Heads.{Ready}
 use Rattle.items.specs.Items.{ItemIs}
 use Rattle.queued.proofs.Queues.{data-in-its-turn}

@@ -17,7 +17,7 @@ use Rattle.claims.specs.Conditions.{lent}
 use Rattle.claims.proofs.Outcomes.{write-reply}
 use Rattle.marks.specs.MarkedCalls.{asksOrder, markedCall, markedOutcome, markedReply}
 use Rattle.marks.specs.Marks.{marksOf}
-use Rattle.writing.specs.Clusters.{Gives}
+use Rattle.writing.specs.Gives.{Gives}
 use Rattle.ends.proofs.Ends.{refused-by, accepted-old, marks-are, done-by}
 use Rattle.ends.specs.Claims.{outcome}
 

@@ -1,32 +1,28 @@
 -- A plan has made room: the board stands ready for the host's frame, and with that frame it is what the rules say.
 -- Assumes nothing.
 use mathlib.Core.Path.{_≡_, refl, sym, _∙_}
-use mathlib.Core.Logic.{_⊎_, inl, inr}
-use mathlib.Core.Bool.{Bool, true, false, not, _&&_, cond}
+use mathlib.Core.Logic.{_⊎_, inr}
 use mathlib.Core.List.{List, []}
-use Prim.Native.Nat.{ℕ, _+_, _*_, _-_, _/_, _%_, _^_, _≤_, _<_}
+use Prim.Native.Nat.{ℕ, _+_, _*_, _-_, _≤_, _<_}
 use native.Mathlib.Omega.{arith}
 use native.Mathlib.Decide.{ℕ-discrete}
 use native.Mathlib.Nat.{mod-lt}
-use lib.ListN.{length, getD, set, length-set}
-use lib.Seq.{getD-set-same, getD-set-other, set-getD}
-use Rattle.writing.specs.Clusters.{Standing, ClusterPut}
+use lib.ListN.{length, set, length-set}
+use lib.Seq.{getD-set-same, getD-set-other}
+use Rattle.placing.specs.Clusters.{Standing, ClusterPut}
 use Rattle.rules.specs.declared.Params.{Params}
 use Rattle.rules.specs.Parameters.{frames, frameBytes, blockBytes}
-use Rattle.rules.specs.Numbers.{clusterOf, sectorOf, regionOf, segmentOf}
 use Rattle.rules.specs.Write.{requestCluster, Request, Plan, continues, opens, reclaims, planVBlock, planFrame, planBlock, planBst, planOps, roomOps, copies, followCt, withRoom, newFrame, newPage, newSector, writtenBy, requestRegion}
 use Rattle.rules.specs.Tables.{Board, boardOf, none, ctAt, btAt, fstAt, btEntry}
-use Rattle.rules.specs.Regions.{View, view, viewOf, sectorIn}
+use Rattle.rules.specs.Regions.{View, view, viewOf}
 use Rattle.lists.specs.Parts.{putPart}
-use Rattle.rules.specs.Traces.{program, erase, replayChip, replayWear}
-use Rattle.rules.proofs.Sizes.{Sizes}
+use Rattle.rules.specs.Traces.{replayChip, replayWear}
 use Rattle.lists.proofs.Parts.{next}
 use Rattle.lists.proofs.Joins.{join-cong}
 use Rattle.rules.proofs.Chip.{replay-append, frame-put}
-use Rattle.rules.proofs.TableFacts.{Tables}
 use Rattle.rules.proofs.FramePut.{Sheet}
 use Rattle.rules.proofs.Isolation.{Effect, index-low, own-view}
-use Rattle.rules.proofs.RegionFacts.{Neat, neat}
+use Rattle.rules.proofs.RegionFacts.{neat}
 use Rattle.rules.proofs.Views.{body-size}
 use Rattle.rules.proofs.NewFrames.{host-sheet}
 use Rattle.rules.proofs.Continues.{Makes}

@@ -2,8 +2,8 @@
 -- Assumes nothing.
 use mathlib.Core.Path.{_≡_, refl, sym, ap, ap₂, _∙_}
 use mathlib.Core.Logic.{_⊎_, inl, inr}
-use mathlib.Core.Bool.{Bool, true, false, not, cond}
-use mathlib.Core.List.{List, [], _∷_, _++_}
+use mathlib.Core.Bool.{Bool, true, false, not}
+use mathlib.Core.List.{List, []}
 use Prim.Native.Nat.{ℕ, _+_, _-_, _*_, _/_, _≤_, _<_}
 use native.Mathlib.Omega.{arith}
 use native.Mathlib.Decide.{decLt}
@@ -16,13 +16,13 @@ use Rattle.lists.proofs.Searches.{first-spec}
 use Rattle.rules.specs.declared.Params.{Params}
 use Rattle.rules.specs.declared.Answer.{Answer}
 use Rattle.rules.specs.declared.Reply.the-variants.{Accepted}
-use Rattle.rules.specs.Parameters.{frames, blockBytes}
-use Rattle.rules.specs.Numbers.{clusterOf, placeOf, regionOf, segmentOf, vblockOf}
-use Rattle.rules.specs.Tables.{Board, boardOf, none, btAt, btEntry, fstAt}
-use Rattle.rules.specs.Pages.{block, filled, frame, held, programmed}
+use Rattle.rules.specs.Parameters.{frames}
+use Rattle.rules.specs.Numbers.{placeOf, segmentOf, vblockOf}
+use Rattle.rules.specs.Tables.{Board, boardOf, none, btAt, fstAt}
+use Rattle.rules.specs.Pages.{block, filled, frame, programmed}
 use Rattle.rules.specs.Regions.{View, view, viewOf, assigned}
 use Rattle.rules.specs.Traces.{programsIn, erasesIn}
-use Rattle.rules.specs.Write.{Request, requestCluster, requestRegion, Plan, continues, opens, reclaims, hasRoom, lowestUnassigned, victim, planOf, planVBlock, planFrame, copies, freeBlock, eraseOps, planOps, withRoom, writeOps, written, writtenBy}
+use Rattle.rules.specs.Write.{Request, requestCluster, requestRegion, Plan, continues, opens, reclaims, hasRoom, lowestUnassigned, planOf, planVBlock, planFrame, freeBlock, planOps, withRoom, writeOps, written, writtenBy}
 use Rattle.rules.specs.Replies.{isAccepted, accessReply}
 use Rattle.rules.specs.Calls.{answerOf, accepts, writeCall}
 use Rattle.rules.proofs.Sizes.{Sizes}
@@ -44,12 +44,13 @@ use Rattle.choose.specs.Search.{Pool}
 use Rattle.reclaim.specs.Moves.{FromTo}
 use Rattle.reading.specs.Lookup.{Lookup, Stands, Within}
 use Rattle.planning.specs.Plans.{OpenFrames, PlanAsked}
-use Rattle.rooms.specs.Rooms.{OpenAsked, ReclaimReady, RoomAsked, RoomMade}
-use Rattle.writing.specs.Clusters.{Standing, ClusterPut, Gives}
+use Rattle.rooms.specs.Rooms.{OpenAsked, RoomAsked, RoomMade}
+use Rattle.placing.specs.Clusters.{Standing, ClusterPut}
+use Rattle.writing.specs.Gives.{Gives}
 use Rattle.keeping.specs.Keeping.{UnmarkAsked, keptMarks, acceptedAnswer}
 use Rattle.keeping.proofs.Keeping.{old-is, room-is, unmark-asked}
 use Rattle.writing.proofs.Made as made
-use Rattle.writing.proofs.Put.{lookup}
+use Rattle.placing.proofs.Put.{lookup}
 
 -- a plan that reclaims: the open block has no room, and every virtual block has a block
 record Reclaiming (p : Params) (vw : View) : Type 0 where

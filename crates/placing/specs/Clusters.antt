@@ -1,4 +1,4 @@
--- The new cluster, put where a plan has made room; and what a call gives.
+-- The new cluster, put where a plan has made room.
 -- Assumes nothing.
 use mathlib.Core.Path.{_≡_}
 use mathlib.Core.Logic.{_⊎_}
@@ -8,13 +8,11 @@ use Prim.Native.Nat.{ℕ, _+_, _*_, _<_}
 use lib.ListN.{length, set}
 use Rattle.lists.specs.Parts.{putPart}
 use Rattle.rules.specs.declared.Params.{Params}
-use Rattle.rules.specs.declared.Answer.{Answer}
 use Rattle.rules.specs.Parameters.{allowed, frames, frameBytes, blockBytes}
 use Rattle.rules.specs.Numbers.{segmentOf}
 use Rattle.rules.specs.Tables.{Board, none, btEntry, btAt}
 use Rattle.rules.specs.Regions.{view}
 use Rattle.rules.specs.Write.{Request, requestCluster, requestRegion, newFrame}
-use Rattle.rules.specs.Calls.{Outcome}
 use Rattle.rules.proofs.RegionKept.{Base}
 use Rattle.rules.proofs.Admitted.{Asked}
 
@@ -35,8 +33,3 @@ pub record ClusterPut (p : Params) (b : Board) (q : Request) (v f : ℕ) (chip�
   pub chip : chip′ ≡ putPart (frameBytes p) (btAt p (b .bt) (requestRegion p q) v * frames p + f) (newFrame p (view p b (requestRegion p q)) q) (b .chip)
   pub ct : ct′ ≡ set (b .ct) (requestCluster p q) (segmentOf p v f)
   pub fst : fst′ ≡ set (b .fst) (requestRegion p q) (segmentOf p v f)
-
--- the answer and the board are the outcome's
-pub record Gives (o : Outcome) (a : Answer) (b : Board) : Type 0 where
-  pub answer : a ≡ o .answer
-  pub board : b ≡ o .board

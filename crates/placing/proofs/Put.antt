@@ -2,26 +2,25 @@
 -- Assumes nothing.
 use mathlib.Core.Path.{_≡_, refl, sym, ap, _∙_}
 use mathlib.Core.Logic.{_⊎_, inl, inr}
-use mathlib.Core.Bool.{Bool, true, false, not, _&&_, cond, false≢true}
-use mathlib.Core.List.{List, [], _∷_, _++_}
-use Prim.Native.Nat.{ℕ, zero, suc, _+_, _*_, _-_, _/_, _%_, _^_, _≤_, _<_}
+use mathlib.Core.Bool.{Bool, true, false, not, cond, false≢true}
+use mathlib.Core.List.{List, []}
+use Prim.Native.Nat.{ℕ, _+_, _*_, _-_, _≤_, _<_}
 use native.Mathlib.Omega.{arith}
 use native.Mathlib.Decide.{ℕ-discrete, decLt}
 use native.Mathlib.Nat.{div-lt-iff-lt-mul, mod-lt, zero-mul}
-use lib.Dec.{eqb, ltb, leb}
-use borrow.Author.Tests.{eq-eqb, ne-eqb, lt-ltb, eqb-true, eqb-false}
-use lib.ListN.{length, getD, take, drop, set, replicate}
+use lib.Dec.{eqb}
+use borrow.Author.Tests.{eq-eqb, ne-eqb, lt-ltb, eqb-true}
+use lib.ListN.{length, take, set, replicate}
 use Rattle.lists.proofs.Joins.{join-cong}
 use Rattle.frames.specs.Frame.{HostAsked, hostPage, hostFrame, sectorsOf}
 use Rattle.reading.specs.Lookup.{blockFor, lastFor, frameFor, Lookup, Stands}
 use Rattle.reading.proofs.Views.{lookup-of}
-use Rattle.writing.specs.Clusters.{Standing, ClusterPut}
-use Rattle.lists.specs.Below.{joinBelow}
+use Rattle.placing.specs.Clusters.{Standing, ClusterPut}
 use Rattle.lists.specs.Parts.{allAre, part, putPart}
-use Rattle.lists.proofs.Tests.{and-left, and-right, so, never}
+use Rattle.lists.proofs.Tests.{and-left, and-right, never}
 use Rattle.rules.specs.declared.Params.{Params}
 use Rattle.rules.specs.Parameters.{frames, pageBytes, frameBytes, blockBytes}
-use Rattle.rules.specs.Numbers.{clusterOf, sectorOf, regionOf, vblockOf, placeOf, segmentOf}
+use Rattle.rules.specs.Numbers.{sectorOf, regionOf, vblockOf, placeOf, segmentOf}
 use Rattle.rules.specs.Write.{requestCluster, Request, requestRegion, newSector, newPage, newFrame}
 use Rattle.rules.specs.Tables.{Board, none, ctAt, btAt, btEntry}
 use Rattle.rules.specs.Regions.{View, view, viewOf, bodyAt, assigned, frameOf, sectorIn}
@@ -32,10 +31,8 @@ use Rattle.lists.proofs.Parts.{next, part-part, part-length}
 use Rattle.rules.proofs.Isolation.{index-low}
 use Rattle.lists.proofs.Joins.{replicate-of}
 use Rattle.rules.proofs.Continues.{segs-in}
-use Rattle.rules.proofs.RegionFacts.{GoodFrame, UpTo, Entry}
-use Rattle.rules.proofs.RegionKept.{Base}
+use Rattle.rules.proofs.RegionFacts.{GoodFrame, Entry}
 use Rattle.rules.proofs.FramePut.{last-holds}
-use Rattle.rules.proofs.Admitted.{Asked}
 
 module _ (p : Params) (b : Board) (q : Request) (v f : ℕ) (t : Standing p b q v f) where
   z : Sizes p

@@ -1,10 +1,10 @@
--- `writing::put_cluster`: the new frame is programmed from the old one where it now stands.
+-- `placing::put_cluster`: the new frame is programmed from the old one where it now stands.
 -- Assumes nothing.
 use borrow.Author.Needs.{needs}
 use Rattle.rules.proofs.Sizes.{sizes}
-use Rattle.writing.proofs.Put.{region-at, vblock-low, ct-in, fst-in, frame-few, segment-few, number-asked, host-requires, cluster-put}
-use Rattle.writing.proofs.put_cluster.Statement.{statement}
-use Rattle.writing.proofs.put_cluster.Tie as tie
+use Rattle.placing.proofs.Put.{region-at, vblock-low, ct-in, fst-in, frame-few, segment-few, number-asked, host-requires, cluster-put}
+use Rattle.placing.proofs.put_cluster.Statement.{statement}
+use Rattle.placing.proofs.put_cluster.Tie as tie
 
 cluster-of-requires : tie.Need-cluster-of-requires
 cluster-of-requires c κs = (sizes _ (c .before .before .before .before .before .pre .0 .fine)) .sectors
