@@ -29,13 +29,17 @@ pub record Ready (p : Params) (ordered : Bool) (x : MarkedBoard) : Type 0 where
   pub entries : length (x .marks) ≡ marksLength p
   pub order : ordered ≡ orderly p (x .board) && marksRule p (x .board) (x .marks)
 
--- the head of a queue with that many items and places for answers: the call's reply, and how many items are to be served, none if it is refused
-pub record HeadIs (p : Params) (x : MarkedBoard) (items answers : ℕ) (h : Head) : Type 0 where
-  pub replied : h .reply ≡ queueReply p x items answers
+-- the head of a call with that reply, on a queue of that many items and places for answers: how many items are to be served, none if it is refused
+pub record HeadBy (r : Reply) (p : Params) (x : MarkedBoard) (items answers : ℕ) (h : Head) : Type 0 where
+  pub replied : h .reply ≡ r
   pub counted : h .items ≡ cond (isAccepted (h .reply)) items 0
   pub fits : h .items ≤ items
   pub room : h .items ≤ answers
   pub ready : 0 < h .items → Ready p (h .ordered) x
+
+-- the head of a queue
+abbrev pub HeadIs : Params → MarkedBoard → ℕ → ℕ → Head → Type 0
+HeadIs p x items answers = HeadBy (queueReply p x items answers) p x items answers
 
 -- ---- from C's flat list
 
@@ -44,10 +48,6 @@ unfoldable pub flatReply : Params → MarkedBoard → ℕ → ℕ → Reply
 flatReply p x numbers answers =
     cond (badParameter p) BadParameter (cond (not (eqb (numbers % 3) 0)) WrongLength (queueReply p x (numbers / 3) answers))
 
--- the head of such a queue: the call's reply, and how many requests are to be served, none if it is refused
-pub record FlatHead (p : Params) (x : MarkedBoard) (numbers answers : ℕ) (h : Head) : Type 0 where
-  pub replied : h .reply ≡ flatReply p x numbers answers
-  pub counted : h .items ≡ cond (isAccepted (h .reply)) (numbers / 3) 0
-  pub fits : h .items ≤ numbers / 3
-  pub room : h .items ≤ answers
-  pub ready : 0 < h .items → Ready p (h .ordered) x
+-- the head of such a queue, three numbers to a request
+abbrev pub FlatHead : Params → MarkedBoard → ℕ → ℕ → Head → Type 0
+FlatHead p x numbers answers = HeadBy (flatReply p x numbers answers) p x (numbers / 3) answers
