@@ -1,7 +1,7 @@
 -- The two ends of a format: refused by its reply's number, and accepted with its work done.
 -- Assumes nothing.
 use mathlib.Core.Path.{_≡_, sym, ap, _∙_}
-use mathlib.Core.Bool.{true, false}
+use mathlib.Core.Bool.{false}
 use mathlib.Core.List.{List, []}
 use Prim.Native.Nat.{ℕ, _*_, _≤_, _<_}
 use native.Mathlib.Omega.{arith}
@@ -12,7 +12,6 @@ use Rattle.rules.specs.declared.Params.{Params}
 use Rattle.rules.specs.declared.Reply.{Reply}
 use Rattle.rules.specs.declared.Reply.the-variants.{Accepted}
 use Rattle.rules.specs.declared.Answer.{Answer}
-use Rattle.rules.specs.Parameters.{blockBytes}
 use Rattle.rules.specs.Tables.{Board, boardOf, none}
 use Rattle.rules.specs.Format.{formatted}
 use Rattle.rules.specs.Replies.{numberOf, lengthsFit, formatReply}
@@ -27,36 +26,21 @@ use Rattle.claims.proofs.FormatCounts.{format-programs}
 use Rattle.marks.specs.MarkedCalls.{asksOrder, markedCall, markedOutcome, markedReply}
 use Rattle.marks.proofs.FormattedMarks.{formatted-marks}
 use Rattle.formatting.specs.Blocks.{BlocksAsked, BlocksDone}
+use Rattle.agree.specs.Check.{Lengths}
+use Rattle.agree.proofs.Agree.{lengths-in}
 use Rattle.ends.proofs.Ends.{refused-by, accepted-old, reply-zero, long, done-by}
 use Rattle.ends.specs.Claims.{outcome}
 
-record Whole (p : Params) (b : Board) : Type 0 where
-  chipLength : length (b .chip) ≡ p .N * blockBytes p
-  ctLength : length (b .ct) ≡ p .C
-  btLength : length (b .bt) ≡ p .mu * p .gamma
-  fstLength : length (b .fst) ≡ p .mu
-  bstLength : length (b .bst) ≡ p .N
-  wearLength : length (b .wear) ≡ p .N
-
-whole : (p : Params) (b : Board) → lengthsFit p b ≡ true → Whole p b
-unfolding lengthsFit
-whole p b h =
-    let t = truths _ h in
-    record {
-      chipLength = eqb-true _ _ (t .0) ∙ chip-size p;
-      ctLength = eqb-true _ _ (t .1 .0);
-      btLength = eqb-true _ _ (t .1 .1 .0);
-      fstLength = eqb-true _ _ (t .1 .1 .1 .0);
-      bstLength = eqb-true _ _ (t .1 .1 .1 .1 .0);
-      wearLength = eqb-true _ _ (t .1 .1 .1 .1 .1 .0);
-    }
-
 module _ (p : Params) (b : Board) (e : formatReply p b ≡ Accepted) where
+  lens : Lengths p (b .chip) (b .ct) (b .bt) (b .fst) (b .bst)
+  lens = lengths-in p b ((format-admitted p b e) .fine) ((format-admitted p b e) .lengths)
+
+  wear-length : length (b .wear) ≡ p .N
+  unfolding lengthsFit
+  wear-length = eqb-true _ _ ((truths _ ((format-admitted p b e) .lengths)) .1 .1 .1 .1 .1 .0)
+
   pub blocks-asked : BlocksAsked p (b .chip) (b .bst) (b .wear)
-  blocks-asked =
-      let f = format-admitted p b e in
-      let l = whole p b (f .lengths) in
-      record { fine = f .fine; chipLength = l .chipLength; bstLength = l .bstLength; wearLength = l .wearLength }
+  blocks-asked = record { fine = lens .fine; chipLength = lens .chipLength ∙ chip-size p; bstLength = lens .bstLength; wearLength = wear-length }
 
   pub few : (k : ℕ) → k ≤ p .N → k < 4294967296
   few k h = omega (arith, h, (sizes p ((format-admitted p b e) .fine)) .blocks)
@@ -66,10 +50,9 @@ module _ (p : Params) (b : Board) (e : formatReply p b ≡ Accepted) where
       → outcome (record { reply = r; programs = 0; erases = k }) [] (boardOf chip ct bt fst bst wear) ≡ outcomeOf p b format
   unfolding accepts answerOf formatted
   format-outcome r er chip ct bt fst bst wear k ce be fe d =
-      let l = whole p b ((format-admitted p b e) .lengths) in
-      let ct-is : ct ≡ replicate (p .C) none = ce ∙ rw (l .ctLength) in
-      let bt-is : bt ≡ replicate (p .mu * p .gamma) none = be ∙ rw (l .btLength) in
-      let fst-is : fst ≡ replicate (p .mu) none = fe ∙ rw (l .fstLength) in
+      let ct-is : ct ≡ replicate (p .C) none = ce ∙ rw (lens .ctLength) in
+      let bt-is : bt ≡ replicate (p .mu * p .gamma) none = be ∙ rw (lens .btLength) in
+      let fst-is : fst ≡ replicate (p .mu) none = fe ∙ rw (lens .fstLength) in
       (λ i.
       record {
         answer = record { reply = er i; programs = sym (format-programs p (b .chip)) i; erases = d .count i };
