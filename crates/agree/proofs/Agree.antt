@@ -2,33 +2,36 @@
 -- Assumes nothing.
 use mathlib.Core.Path.{ap, refl, sym, _∙_, _≡_}
 use mathlib.Core.Logic.{inl, inr, _⊎_}
-use mathlib.Core.Bool.{_&&_, Bool, cond, false, not, true, _||_}
-use mathlib.Core.List.{List}
+use mathlib.Core.Bool.{_&&_, and-assoc, and-true, Bool, cond, false, not, true, _||_}
+use mathlib.Core.List.{List, []}
 use Prim.Native.Nat.{_%_, _*_, _+_, _/_, _<_, ℕ, _≤_}
 use native.Mathlib.Decide.{decLt, ℕ-discrete}
 use native.Mathlib.Nat.{div-add-mod', div-lt-iff-lt-mul, mod-lt}
 use native.Mathlib.Omega.{arith}
 use lib.Dec.{eqb, ltb}
+use lib.ListN.{length}
 use borrow.Author.Tests.{eq-eqb, eqb-false, eqb-true, leb-true, ltb-true, ne-eqb, not-true}
-use Rattle.lists.specs.Below.{allBelow, countBelow}
+use Rattle.lists.specs.Below.{allBelow, allTrue, countBelow}
 use Rattle.lists.proofs.Tests.{all-at, all-below-intro, all-true, and-intro, and-left, and-right, never, or-cases, truths}
 use Rattle.lists.proofs.Counts.{each-met}
 use Rattle.rules.specs.declared.Params.{Params}
 use Rattle.rules.specs.Numbers.{regionOf}
-use Rattle.rules.specs.Orderly.{blockRule, blocksRule, bstRule, btRule, clusterRule, ctRule, entryRule, freeRule, fstRule, orderly, regionBlocks, regionFst, roomRule, rulesOf}
+use Rattle.rules.specs.Orderly.{blockRule, blocksRule, bstRule, btRule, clusterRule, ctRule, entryRule, freeRule, fstRule, marksRule, orderly, regionBlocks, regionFst, roomRule, rulesOf}
 use Rattle.rules.specs.Pages.{block, erased, filled, frame, held}
 use Rattle.rules.specs.Parameters.{allowed}
 use Rattle.rules.specs.Regions.{assigned, view}
 use Rattle.rules.specs.Replies.{lengthsFit}
-use Rattle.rules.specs.Tables.{Board, boardOf, bstAt, btAt, btEntry, none}
+use Rattle.rules.specs.Marks.{marksOf}
+use Rattle.rules.specs.Tables.{Board, boardOf, bstAt, btAt, btEntry, marksLength, none}
 use Rattle.rules.proofs.Admitted.{orderly-all, orderly-region}
 use Rattle.rules.proofs.Isolation.{index-low}
+use Rattle.rules.proofs.MarkFacts.{rule-of, table-length}
 use Rattle.rules.proofs.RegionFacts.{regionOrderly, up-to}
 use Rattle.rules.proofs.Sizes.{Sizes, sizes}
 use Rattle.rules.proofs.TableFacts.{Tables, chip-size, tables-in}
 use Rattle.rules.proofs.Totals.{used-total}
 use Rattle.checks.specs.Entries.{differs, usedOk}
-use Rattle.agree.specs.Check.{Lengths, chipOk, clusterOk, clustersOk, fstOk, regionOk, tablesOk, vblockOk}
+use Rattle.agree.specs.Check.{Lengths, chipOk, clusterOk, clustersOk, fstOk, nineRules, regionOk, tablesOk, vblockOk}
 use Rattle.agree.proofs.Same.{Names, assigned-no, assigned-yes, body-is, entry-other, entry-same, open-same}
 
 -- the region that the first page of block n tells
@@ -44,7 +47,7 @@ same-truth false false f g = refl
 index : (m k i : ℕ) → 1 ≤ k → i < m * k → (i / k < m) × (i % k < k) × (i / k * k + i % k ≡ i)
 index m k i h l = (div-lt-iff-lt-mul h .1 l, mod-lt i h, div-add-mod' i k)
 
-module _ (p : Params) (b : Board) (fine : Sizes p) (len : lengthsFit p b ≡ true) where
+module _ (p : Params) (b : Board) (fine : Sizes p) (len : lengthsFit p b ≡ true) (own : b .marks ≡ marksOf p b) where
   abbrev E : ℕ → ℕ → ℕ
   E r v = btAt p (b .bt) r v
 
@@ -267,17 +270,17 @@ module _ (p : Params) (b : Board) (fine : Sizes p) (len : lengthsFit p b ≡ tru
 
     is-orderly : orderly p b ≡ true
     unfolding regionOrderly
-    is-orderly = orderly-all p b fine tables (λ r h. all-true _ (blocks r h, (opens r h, (clusters r h, tt))))
+    is-orderly = orderly-all p b fine tables (λ r h. all-true _ (blocks r h, (opens r h, (clusters r h, tt)))) own
 
   agree : tablesOk p (b .bt) (b .bst) && chipOk p (b .chip) (b .ct) (b .bt) (b .fst) (b .bst) ≡ orderly p b
   agree = same-truth (tablesOk p (b .bt) (b .bst) && chipOk p (b .chip) (b .ct) (b .bt) (b .fst) (b .bst)) (orderly p b) (λ h. is-orderly (and-left (tablesOk p (b .bt) (b .bst)) _ h) (and-right (tablesOk p (b .bt) (b .bst)) h)) passes
 
--- the wear is in no rule
-no-wear : (p : Params) (chip ct bt fst bst w w′ : List ℕ) → orderly p (boardOf chip ct bt fst bst w) ≡ orderly p (boardOf chip ct bt fst bst w′)
-unfolding orderly rulesOf blocksRule fstRule ctRule
-no-wear p chip ct bt fst bst w w′ = refl
+-- the state is orderly if the nine rules hold and each mark is right
+pub orderly-is : (p : Params) (b : Board) → orderly p b ≡ nineRules p b && marksRule p b
+unfolding orderly nineRules rulesOf allTrue
+orderly-is p b = simp (and-assoc, and-true)
 
--- lengths that fit , as the check asks for them, and back
+-- lengths that fit, as the check asks for them, and back
 pub lengths-in : (p : Params) (b : Board) → allowed p ≡ true → lengthsFit p b ≡ true → Lengths p (b .chip) (b .ct) (b .bt) (b .fst) (b .bst)
 unfolding lengthsFit
 lengths-in p b a l =
@@ -291,12 +294,31 @@ lengths-in p b a l =
       bstLength = eqb-true _ _ (t .1 .1 .1 .1 .0);
     }
 
-lengths-out : (p : Params) (chip ct bt fst bst : List ℕ) → Lengths p chip ct bt fst bst → lengthsFit p (boardOf chip ct bt fst bst bst) ≡ true
+pub marks-fit : (p : Params) (b : Board) → lengthsFit p b ≡ true → length (b .marks) ≡ marksLength p
 unfolding lengthsFit
-lengths-out p chip ct bt fst bst z =
-    all-true _ (eq-eqb _ _ (z .chipLength), (eq-eqb _ _ (z .ctLength), (eq-eqb _ _ (z .btLength), (eq-eqb _ _ (z .fstLength), (eq-eqb _ _ (z .bstLength), (eq-eqb _ _ (z .bstLength), tt))))))
+marks-fit p b l = eqb-true _ _ ((truths _ l) .1 .1 .1 .1 .1 .1 .0)
 
--- the tables' rules, then the chip's, are the rules of an orderly state
-pub check-agrees : (p : Params) (chip ct bt fst bst : List ℕ) → Lengths p chip ct bt fst bst → (wear : List ℕ)
-    → tablesOk p bt bst && chipOk p chip ct bt fst bst ≡ orderly p (boardOf chip ct bt fst bst wear)
-check-agrees p chip ct bt fst bst z wear = agree p (boardOf chip ct bt fst bst bst) (sizes p (z .fine)) (lengths-out p chip ct bt fst bst z) ∙ no-wear p chip ct bt fst bst bst wear
+lengths-out : (p : Params) (chip ct bt fst bst marks : List ℕ) → Lengths p chip ct bt fst bst → length marks ≡ marksLength p → lengthsFit p (boardOf chip ct bt fst bst bst marks) ≡ true
+unfolding lengthsFit
+lengths-out p chip ct bt fst bst marks z m =
+    all-true _ (
+      eq-eqb _ _ (z .chipLength),
+      (
+        eq-eqb _ _ (z .ctLength),
+        (eq-eqb _ _ (z .btLength), (eq-eqb _ _ (z .fstLength), (eq-eqb _ _ (z .bstLength), (eq-eqb _ _ (z .bstLength), (eq-eqb _ _ m, tt))))),
+      ),
+    )
+
+-- the nine rules look at no wear and at no mark
+nine-same : (p : Params) (chip ct bt fst bst w w′ m m′ : List ℕ) → nineRules p (boardOf chip ct bt fst bst w m) ≡ nineRules p (boardOf chip ct bt fst bst w′ m′)
+unfolding nineRules rulesOf blocksRule fstRule ctRule
+nine-same p chip ct bt fst bst w w′ m m′ = refl
+
+-- the tables' rules, then the chip's, are the nine rules: where the marks are the board's own, those make an orderly state
+pub check-agrees : (p : Params) (chip ct bt fst bst : List ℕ) → Lengths p chip ct bt fst bst → (wear marks : List ℕ)
+    → tablesOk p bt bst && chipOk p chip ct bt fst bst ≡ nineRules p (boardOf chip ct bt fst bst wear marks)
+check-agrees p chip ct bt fst bst z wear marks =
+    let own = marksOf p (boardOf chip ct bt fst bst [] []) in
+    let b = boardOf chip ct bt fst bst bst own in
+    agree p b (sizes p (z .fine)) (lengths-out p chip ct bt fst bst own z (table-length p _)) refl ∙ orderly-is p b ∙ rw (rule-of p b refl, and-true)
+    (nine-same p chip ct bt fst bst bst wear own marks)

@@ -5,14 +5,14 @@ use mathlib.Core.Bool.{_&&_, Bool, cond, not, true}
 use mathlib.Core.List.{List}
 use Prim.Native.Nat.{_*_, _-_, ℕ}
 use lib.Dec.{eqb, ltb}
-use lib.ListN.{length}
-use Rattle.lists.specs.Below.{allBelow}
+use lib.ListN.{length, take}
+use Rattle.lists.specs.Below.{allBelow, allTrue}
 use Rattle.rules.specs.declared.Params.{Params}
 use Rattle.rules.specs.Numbers.{placeOf, regionOf, segmentOf, vblockOf}
-use Rattle.rules.specs.Orderly.{blockRule, bstRule, btRule, freeRule, roomRule}
+use Rattle.rules.specs.Orderly.{blockRule, bstRule, btRule, freeRule, roomRule, rulesOf}
 use Rattle.rules.specs.Pages.{block, filled, frame, lastIn, programmed}
 use Rattle.rules.specs.Parameters.{allowed, chipBytes, frames}
-use Rattle.rules.specs.Tables.{bstAt, btAt, ctAt, fstAt, none}
+use Rattle.rules.specs.Tables.{Board, bstAt, btAt, ctAt, fstAt, none}
 use Rattle.checks.specs.Entries.{differs, emptyAt, usedOk}
 
 -- a named block is named once in its region, is used, and is a block of that region
@@ -67,6 +67,10 @@ tablesOk p bt bst = bstRule p bst && (btRule p bt && (roomRule p bst && usedOk p
 -- the rules that look at the chip
 unfoldable pub chipOk : Params → List ℕ → List ℕ → List ℕ → List ℕ → List ℕ → Bool
 chipOk p chip ct bt fst bst = freeRule p chip bst && allBelow (p .mu) (regionOk p chip ct bt fst bst)
+
+-- the nine rules that look at no mark
+unfoldable pub nineRules : Params → Board → Bool
+nineRules p b = allTrue (take 9 (rulesOf p b))
 
 -- the lent chip and tables, of the right lengths
 pub record Lengths (p : Params) (chip ct bt fst bst : List ℕ) : Type 0 where

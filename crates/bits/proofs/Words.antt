@@ -12,8 +12,7 @@ use lib.Count.{ones, ones-cat}
 use lib.Dec.{eqb, lit<, ltb}
 use lib.Pow.{field, high, low, mod-mod-pow, mod-pow-add, shl-exact}
 use borrow.Author.Tests.{eq-eqb, le-ltb, lt-ltb, ne-eqb}
-use Rattle.lists.specs.Below.{countBelow, updated}
-use Rattle.bits.specs.Bits.{bitsBelow}
+use Rattle.lists.specs.Below.{countBelow, updated, bitsBelow}
 
 -- a mark as a bit
 abbrev digit : Bool → ℕ

@@ -3,8 +3,7 @@ ghost use mathlib.Core.Path.{_≡_};
 ghost use mathlib.Core.Bool.{Bool, true, false};
 ghost use Prim.Native.Nat.{ℕ, _≤_, _<_};
 ghost use lib.Dec.{ltb};
-ghost use Rattle.lists.specs.Below.{countBelow, updated};
-ghost use Rattle.bits.specs.Bits.{bitsBelow};
+ghost use Rattle.lists.specs.Below.{countBelow, updated, bitsBelow};
 
 // The word with bit i set, whatever it was.
 pub fn with_bit(word: u64, i: usize) -> u64

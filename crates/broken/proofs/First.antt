@@ -1,22 +1,19 @@
 -- The rule that is told fails, and every rule before it holds: the names are numbered in the order of the tests.
 -- Assumes nothing.
 use mathlib.Core.Path.{refl, sym, _≡_}
-use mathlib.Core.Logic.{inl, inr, _⊎_}
-use mathlib.Core.Bool.{_&&_, Bool, cond, false, false≢true, not, true}
-use mathlib.Core.List.{List, [], _++_, _∷_}
-use Prim.Native.Nat.{_+_, _-_, suc, zero, ℕ}
+use mathlib.Core.Bool.{Bool, false, false≢true, not, true}
+use mathlib.Core.List.{List, [], _∷_}
+use Prim.Native.Nat.{_+_, _-_, suc, ℕ}
 use native.Mathlib.Omega.{arith}
 use lib.ListN.{length}
 use borrow.Author.Tests.{not-false, not-true}
 use Rattle.lists.specs.Below.{allTrue}
-use Rattle.lists.proofs.Tests.{and-intro, and-left, and-right, so}
 use Rattle.rules.specs.declared.Params.{Params}
 use Rattle.rules.specs.Orderly.{orderly, rulesOf}
 use Rattle.rules.specs.Tables.{Board}
-use Rattle.marks.specs.Marks.{marksRule}
 use Rattle.broken.specs.declared.Rule.{Rule}
 use Rattle.broken.specs.declared.Rule.the-variants.{Marks}
-use Rattle.broken.specs.Broken.{FirstFails, brokenRule, firstBroken, firstOf, ruleNames, ruleNumber}
+use Rattle.broken.specs.Broken.{FirstFails, brokenRule, firstOf, ruleNames, ruleNumber}
 
 -- the names are numbered one after the other, from k on
 Numbered : ℕ → List Rule → Type 0
@@ -36,49 +33,32 @@ first-fails k (true ∷ ts) (r ∷ rs) l n e =
 
 numbered : Numbered 1 ruleNames
 unfolding Numbered ruleNames
-numbered = (refl, (refl, (refl, (refl, (refl, (refl, (refl, (refl, (refl, tt)))))))))
+numbered = (refl, (refl, (refl, (refl, (refl, (refl, (refl, (refl, (refl, (refl, tt))))))))))
 
 as-many : (p : Params) (b : Board) → length (rulesOf p b) ≡ length ruleNames
 unfolding rulesOf ruleNames
 as-many p b = refl
 
 -- of a state that is not orderly, the rule told fails and every rule before it holds
-pub first-broken : (p : Params) (b : Board) → orderly p b ≡ false → FirstFails (ruleNumber (firstBroken p b) - 1) (rulesOf p b)
-unfolding orderly firstBroken
-first-broken p b e =
+pub broken-rule : (p : Params) (b : Board) → orderly p b ≡ false → FirstFails (ruleNumber (brokenRule p b) - 1) (rulesOf p b)
+unfolding orderly brokenRule
+broken-rule p b e =
     let w = first-fails 1 (rulesOf p b) ruleNames (as-many p b) numbered e in
     let q : ruleNumber (firstOf (rulesOf p b) ruleNames) - 1 ≡ w .0 = omega (arith, w .1) in
     rw q (w .2)
 
--- the first that fails, of more tests
-longer : (j : ℕ) (ts us : List Bool) → FirstFails j ts → FirstFails j (ts ++ us)
-unfolding allTrue
-longer j [] us w = absurd (false≢true (sym (w .fails)))
-longer zero (t ∷ ts) us w = record { fails = w .fails; earlier = refl }
-longer (suc j) (t ∷ ts) us w =
-    let i = longer j ts us (record { fails = w .fails; earlier = and-right t (w .earlier) }) in
-    record { fails = i .fails; earlier = and-intro (and-left t _ (w .earlier)) (i .earlier) }
-
--- of a state and marks that are not both right, the rule told fails and every rule before it holds
-pub broken-rule : (p : Params) (b : Board) (marks : List ℕ) → orderly p b && marksRule p b marks ≡ false → FirstFails (ruleNumber (brokenRule p b) - 1) (rulesOf p b ++ marksRule p b marks ∷ [])
-broken-rule p b marks e = go (so (orderly p b))
-  where
-    go : (orderly p b ≡ true) ⊎ (orderly p b ≡ false) → FirstFails (ruleNumber (brokenRule p b) - 1) (rulesOf p b ++ marksRule p b marks ∷ [])
-    go (inl o) = unfold brokenRule orderly rulesOf in rw o (record { fails = rw o at e; earlier = o })
-    go (inr o) = unfold brokenRule in rw o (longer _ (rulesOf p b) (marksRule p b marks ∷ []) (first-broken p b o))
-
 -- a test that passes is left behind
-pub skip : (ts : List Bool) (rs : List Rule) (ok t : Bool) (r told : Rule) → ok ≡ t → not ok ≡ false → told ≡ cond (allTrue ts) Marks (firstOf ts rs)
-    → told ≡ cond (allTrue (t ∷ ts)) Marks (firstOf (t ∷ ts) (r ∷ rs))
-unfolding allTrue firstOf
+pub skip : (ts : List Bool) (rs : List Rule) (ok t : Bool) (r told : Rule) → ok ≡ t → not ok ≡ false → told ≡ firstOf ts rs → told ≡ firstOf (t ∷ ts) (r ∷ rs)
+unfolding firstOf
 skip ts rs ok t r told e k h = rw (← e, not-false ok k) h
 
 -- one that fails is told
-pub here : (ts : List Bool) (rs : List Rule) (ok t : Bool) (r : Rule) → ok ≡ t → not ok ≡ true → r ≡ cond (allTrue (t ∷ ts)) Marks (firstOf (t ∷ ts) (r ∷ rs))
-unfolding allTrue firstOf
+pub here : (ts : List Bool) (rs : List Rule) (ok t : Bool) (r : Rule) → ok ≡ t → not ok ≡ true → r ≡ firstOf (t ∷ ts) (r ∷ rs)
+unfolding firstOf
 here ts rs ok t r e k = rw (← e, not-true ok k)
 
--- and where none is left, the marks are
-pub end : Marks ≡ cond (allTrue []) Marks (firstOf [] [])
-unfolding allTrue
-end = refl
+-- and where the marks' alone is left, it is told without a look
+pub end : (t : Bool) → Marks ≡ firstOf (t ∷ []) (Marks ∷ [])
+unfolding firstOf
+end true = refl
+end false = refl

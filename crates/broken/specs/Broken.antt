@@ -7,7 +7,7 @@ use mathlib.Core.List.{List, [], _∷_}
 use lib.ListN.{getD, take}
 use Rattle.lists.specs.Below.{allTrue}
 use Rattle.rules.specs.declared.Params.{Params}
-use Rattle.rules.specs.Orderly.{orderly, rulesOf}
+use Rattle.rules.specs.Orderly.{rulesOf}
 use Rattle.rules.specs.Tables.{Board}
 use Rattle.broken.specs.declared.Rule.{Rule}
 use Rattle.broken.specs.declared.Rule.the-variants.{BstValues, BtRange, NamedTwice, UsedIfNamed, TooFewLeft, FreeErased, UsedBlock, Fst, Ct, Marks}
@@ -27,23 +27,19 @@ ruleNumber Marks = 10
 
 -- the names of the tests of `rulesOf`, in its order
 unfoldable pub ruleNames : List Rule
-ruleNames = BstValues ∷ BtRange ∷ NamedTwice ∷ UsedIfNamed ∷ TooFewLeft ∷ FreeErased ∷ UsedBlock ∷ Fst ∷ Ct ∷ []
+ruleNames = BstValues ∷ BtRange ∷ NamedTwice ∷ UsedIfNamed ∷ TooFewLeft ∷ FreeErased ∷ UsedBlock ∷ Fst ∷ Ct ∷ Marks ∷ []
 
 -- the name of the first test that fails; the last name where the lists end
 unfoldable pub firstOf : List Bool → List Rule → Rule
-firstOf [] rs = Ct
-firstOf (t ∷ ts) [] = Ct
+firstOf [] rs = Marks
+firstOf (t ∷ ts) [] = Marks
 firstOf (t ∷ ts) (r ∷ rs) = cond t (firstOf ts rs) r
 
 -- the first rule that does not hold, of a board whose state is not orderly
-unfoldable pub firstBroken : Params → Board → Rule
-firstBroken p b = firstOf (rulesOf p b) ruleNames
-
--- "An orderly state now also says that each mark equals the validity rule": the rule of the marks is looked at where the nine others hold
 unfoldable pub brokenRule : Params → Board → Rule
-brokenRule p b = cond (orderly p b) Marks (firstBroken p b)
+brokenRule p b = firstOf (rulesOf p b) ruleNames
 
--- test j fails, and every test before it passes: what `first-broken` and `broken-rule` say of that rule, j its number less 1
+-- test j fails, and every test before it passes: what `broken-rule` says of that rule, j its number less 1
 pub record FirstFails (j : ℕ) (ts : List Bool) : Type 0 where
   pub fails : getD ts j true ≡ false
   pub earlier : allTrue (take j ts) ≡ true

@@ -10,8 +10,8 @@ use lib.ListN.{length}
 use Rattle.lists.specs.Below.{countBelow, leastBelow, firstBelow}
 use Rattle.rules.specs.declared.Params.{Params}
 use Rattle.rules.specs.Parameters.{allowed}
-use Rattle.rules.specs.Tables.{none, btAt, bstAt, wearAt}
-use Rattle.marks.specs.Marks.{Marks, marksLength}
+use Rattle.rules.specs.Tables.{none, btAt, bstAt, wearAt, marksLength}
+use Rattle.rules.specs.Marks.{Marks}
 
 -- BST and wear of all N blocks
 pub record Pool (p : Params) (bst wear : List ℕ) : Type 0 where

@@ -1,48 +1,70 @@
--- Condition 1: the reply is the table's, a refusal changes nothing, an accepted write finds room and stores, and a release frees.
+-- Condition 1: the reply is the table's, a refusal changes nothing, an accepted call leaves order, and each does what it says.
 -- Assumes nothing.
-use mathlib.Core.Path.{_≡_, refl, sym, _∙_}
-use Prim.Native.Nat.{ℕ, _<_}
+use mathlib.Core.Path.{_≡_, refl, sym, ap, _∙_}
+use Prim.Native.Nat.{ℕ, suc, _<_}
 use native.Mathlib.Nat.{mod-lt}
+use mathlib.Core.Logic.{_⊎_, inl, inr}
 use mathlib.Core.Bool.{true, false, false≢true}
+use mathlib.Core.List.{List, [], _∷_, _++_, map}
+use lib.ListN.{length, drop}
 use Rattle.rules.specs.declared.Params.{Params}
+use Rattle.rules.specs.declared.Answer.{Answer}
+use Rattle.rules.specs.declared.Item.{Item}
 use Rattle.rules.specs.declared.Reply.the-variants.{Accepted}
 use Rattle.rules.specs.Numbers.{regionOf}
 use Rattle.rules.specs.Tables.{Board, bstAt}
 use Rattle.rules.specs.Regions.{view}
 use Rattle.rules.specs.Traces.{erasesIn, programsIn}
-use Rattle.rules.specs.Write.{Plan, Request, continues, opens, planBlock, planOf, reclaims, requestCluster, requestRegion}
-use Rattle.rules.specs.Replies.{accessReply, isAccepted}
-use Rattle.rules.specs.Calls.{Call, accepts, answerOf, outcomeOf, refuses, release, write}
-use Rattle.rules.proofs.Admitted.{admitted, release-admitted}
+use Rattle.rules.specs.Requests.{Call, Queue, Request, format, itemRequests, lent, lentAnswers, queue, read, release, requestCluster, requestRegion, write}
+use Rattle.rules.specs.Write.{Plan, continues, opens, planBlock, planOf, reclaims}
+use Rattle.rules.specs.Replies.{OrderlyBoard, isAccepted, replyOf}
+use Rattle.rules.specs.Calls.{Work, answerOf, answersIn, outcomeOf, over, workOf, writeAll, writeWork}
+use Rattle.rules.proofs.Admitted.{admitted, release-admitted, write-checks}
 use Rattle.rules.proofs.Continues.{Makes}
+use Rattle.rules.proofs.FormatCounts.{format-counts}
+use Rattle.rules.proofs.Outcomes.{all-answer, all-bytes, all-lent, call-refused, is-refused, queue-accepted, read-accepted, release-accepted, reply-cases, reply-is, write-accepted}
 use Rattle.rules.proofs.RegionFacts.{neat}
 use Rattle.rules.proofs.Sizes.{Sizes, sizes}
 use Rattle.rules.proofs.TableFacts.{Tables, tables-in}
 use Rattle.rules.proofs.Totals.{blocks-total, used-total}
 use Rattle.rules.proofs.Views.{free-block}
-use Rattle.rules.proofs.WritePromise.{makes}
-use Rattle.claims.specs.Runs.{leaves, replyTo}
-use Rattle.claims.specs.Conditions.{Condition1, Frees, HasRoom, InOrder, OrderlyBoard, Stores, Unchanged, assignedBlocks, blocksOf, lent, takesBlock}
-use Rattle.claims.proofs.Outcomes.{call-refused, is-refused, release-accepted, release-reply, write-leaves, write-reply}
-use Rattle.claims.proofs.Kept.{accepted-orderly}
-use Rattle.claims.proofs.Memory.{freed, stored}
+use Rattle.rules.proofs.WritePromise.{erasesOf, makes, write-promise}
+use Rattle.claims.specs.Runs.{boardAfter, leaves, sectorAt}
+use Rattle.claims.specs.Conditions.{Condition1, Formats, Frees, InOrder, Reads, Serves, Unchanged, Writes, assignedBlocks, blocksOf, planErases, takesBlock}
+use Rattle.claims.proofs.Kept.{accepted-orderly, after-orderly}
+use Rattle.claims.proofs.Memory.{freed, read-agrees, stored}
 use Rattle.claims.proofs.Freed.{none-copied}
 use Rattle.claims.proofs.ReplyTable.{reply-by-table}
+use Rattle.claims.proofs.Singles.{Single}
+use Rattle.claims.proofs.Steps.{its-part, partOf}
 
 -- ---- a refusal
 
-refused-unchanged : (p : Params) (b : Board) (c : Call) → isAccepted (replyTo p b c) ≡ false → Unchanged b (lent c) (outcomeOf p b c)
-unfolding refuses answerOf programsIn erasesIn
-refused-unchanged p b c e = rw (call-refused p b c e) (record { board = refl; bytes = refl; programs = refl; erases = refl })
+refused-unchanged : (p : Params) (b : Board) (c : Call) → isAccepted (replyOf p b c) ≡ false → Unchanged b c (outcomeOf p b c)
+unfolding answerOf programsIn erasesIn
+refused-unchanged p b c e = rw (call-refused p b c e) (record { board = refl; bytes = refl; answers = refl; counts = (refl, refl) })
 
--- ---- what an accepted call leaves
+-- ---- what a call leaves
 
-in-order : (p : Params) (b : Board) → OrderlyBoard p b → InOrder p b
+pub in-order : (p : Params) (b : Board) → OrderlyBoard p b → InOrder p b
 unfolding blocksOf assignedBlocks
 in-order p b h =
     let z = sizes p (h .fine) in
     let t = tables-in p b (h .lengths) (h .tidy) in
     record { state = h; all = blocks-total p z b t; used = used-total p z b t }
+
+-- on an orderly state
+kept-orderly : (p : Params) (b : Board) (c : Call) → OrderlyBoard p b → OrderlyBoard p (leaves p b c)
+unfolding boardAfter
+kept-orderly p b c h = after-orderly p b (c ∷ []) h
+
+-- a call that is no queue
+no-queue : (c : Call) → ((l : Queue) → c ≡ queue l → ⊥) → Single c
+no-queue format n = tt
+no-queue (read q) n = tt
+no-queue (write q) n = tt
+no-queue (release c) n = tt
+no-queue (queue l) n = n l refl
 
 -- ---- room for a write
 
@@ -52,32 +74,114 @@ takes-free p b z t r (continues v f) e = absurd (false≢true e)
 takes-free p b z t r (opens v) e = free-block p z b t
 takes-free p b z t r (reclaims v) e = free-block p z b t
 
-has-room : (p : Params) (b : Board) (q : Request) → accessReply p b q ≡ Accepted → HasRoom p b (requestRegion p q) (planOf p (view p b (requestRegion p q)))
-has-room p b q e =
-    let a = admitted p b q e in
+erases-same : (pl : Plan) → erasesOf pl ≡ planErases pl
+unfolding erasesOf planErases
+erases-same (continues v f) = refl
+erases-same (opens v) = refl
+erases-same (reclaims v) = refl
+
+write-writes : (p : Params) (b : Board) (q : Request) → replyOf p b (write q) ≡ Accepted
+    → Writes p b q (requestRegion p q) (planOf p (view p b (requestRegion p q))) (outcomeOf p b (write q))
+unfolding answerOf
+write-writes p b q e =
+    let a = admitted p b q (write-checks p b q e) in
     let r = regionOf p (requestCluster p q) in
     let low : r < p .mu = mod-lt (requestCluster p q) (a .sized .regions) in
     let m : Makes p b r (planOf p (view p b r)) = makes p (a .sized) b (a .tables) r low (neat p r (view p b r) (a .tidy r low)) in
-    record { block = takes-free p b (a .sized) (a .tables) r (planOf p (view p b r)); frame = m .base .ready .low }
+    let w = write-promise p b q e in
+    rw (write-accepted p b q e)
+    (record {
+      block = takes-free p b (a .sized) (a .tables) r (planOf p (view p b r));
+      frame = m .base .ready .low;
+      stores = stored p b q e;
+      programs = w .programs;
+      most = w .bounded .0;
+      erases = w .erases ∙ erases-same _;
+    })
 
-write-stores : (p : Params) (b : Board) (q : Request) → replyTo p b (write q) ≡ Accepted → Stores p b q (leaves p b (write q))
-write-stores p b q e =
-    let k = sym (write-reply p b q) ∙ e in
-    rw (write-leaves p b q k) (record { room = has-room p b q k; stored = stored p b q k })
+-- ---- the others
 
-release-frees : (p : Params) (b : Board) (c : ℕ) → replyTo p b (release c) ≡ Accepted → Frees p b c (outcomeOf p b (release c))
-unfolding accepts answerOf programsIn erasesIn
+format-formats : (p : Params) (b : Board) → replyOf p b format ≡ Accepted → Formats p b (outcomeOf p b format)
+format-formats p b e = let k = format-counts p b e in record { programs = ap (λ (a : Answer). a .programs) k; erases = ap (λ (a : Answer). a .erases) k }
+
+read-reads : (p : Params) (b : Board) (q : Request) → replyOf p b (read q) ≡ Accepted → Reads p b q (outcomeOf p b (read q))
+unfolding answerOf programsIn erasesIn
+read-reads p b q e = rw (read-accepted p b q e) (record { board = refl; bytes = read-agrees p b (sectorAt p b) q e (λ a h. refl); counts = (refl, refl) })
+
+release-frees : (p : Params) (b : Board) (c : ℕ) → replyOf p b (release c) ≡ Accepted → Frees p b c (outcomeOf p b (release c))
+unfolding answerOf programsIn erasesIn
 release-frees p b c e =
-    let k = sym (release-reply p b c) ∙ e in
-    rw (release-accepted p b c k)
-    (record { reads = freed p b c; room = λ v. none-copied p b c (sizes p ((release-admitted p b c k) .fine)) (regionOf p c) v; counts = (refl, refl) })
+    rw (release-accepted p b c e)
+    (record { reads = freed p b c; room = λ v. none-copied p b c (sizes p ((release-admitted p b c e) .fine)) (regionOf p c) v; counts = (refl, refl) })
+
+-- ---- a queue
+
+-- an answer for each item
+answers-length : (p : Params) (l : Queue) (b : Board) (qs : List Request) → length (answersIn ((writeAll p b qs l) .parts)) ≡ length qs
+unfolding writeAll answersIn workOf
+answers-length p l b [] = refl
+answers-length p l b (q ∷ qs) = let one : (writeWork p b q) .parts ≡ partOf p b (write q) ∷ [] = its-part p b (write q) tt in rw one (ap suc (answers-length p l ((writeWork p b q) .left) qs))
+
+over-length : (xs ys : List Answer) → length (over xs ys) ≡ length ys
+unfolding over
+over-length [] ys = refl
+over-length (x ∷ xs) [] = refl
+over-length (x ∷ xs) (y ∷ ys) = ap suc (over-length xs ys)
+
+over-past : (xs ys : List Answer) → drop (length xs) (over xs ys) ≡ drop (length xs) ys
+unfolding over
+over-past [] ys = refl
+over-past (x ∷ xs) [] = refl
+over-past (x ∷ xs) (y ∷ ys) = over-past xs ys
+
+map-length : (p : Params) (bytes : List ℕ) (items : List Item) → length (itemRequests p bytes items) ≡ length items
+unfolding itemRequests
+map-length p bytes [] = refl
+map-length p bytes (it ∷ items) = ap suc (map-length p bytes items)
+
+module _ (p : Params) (b : Board) (l : Queue) where
+  -- what the items do
+  abbrev served : Work
+  served = writeAll p b (itemRequests p (l .bytes) (l .items)) l
+
+  many : length (answersIn (served .parts)) ≡ length (l .items)
+  many = answers-length p l b (itemRequests p (l .bytes) (l .items)) ∙ map-length p (l .bytes) (l .items)
+
+  is-served : replyOf p b (queue l) ≡ Accepted
+      → outcomeOf p b (queue l) ≡ record { answer = answerOf Accepted []; bytes = l .bytes; answers = over (answersIn (served .parts)) (l .answers); board = served .left }
+  unfolding outcomeOf
+  is-served e =
+      let qs = itemRequests p (l .bytes) (l .items) in
+      rw (queue-accepted p b l e, all-answer p b qs l, all-bytes p b qs l, all-lent p b qs l)
+
+  queue-serves : Serves l (outcomeOf p b (queue l))
+  queue-serves = go (reply-cases (replyOf p b (queue l)))
+    where
+      go : (replyOf p b (queue l) ≡ Accepted) ⊎ (isAccepted (replyOf p b (queue l)) ≡ false) → Serves l (outcomeOf p b (queue l))
+      go (inl e) =
+          rw (is-served e)
+          (record {
+            counts = unfold answerOf programsIn erasesIn in (refl, refl);
+            bytes = refl;
+            long = over-length (answersIn (served .parts)) (l .answers);
+            past = rw (← many) (over-past (answersIn (served .parts)) (l .answers));
+          })
+      go (inr e) =
+          rw (call-refused p b (queue l) e)
+          (record { counts = unfold answerOf programsIn erasesIn in (refl, refl); bytes = unfold lent in refl; long = unfold lentAnswers in refl; past = unfold lentAnswers in refl })
+
+-- ---- the condition
 
 pub condition-1 : Condition1
 condition-1 p b c =
     record {
-      reply = reply-by-table p b c;
-      refused = λ ne. refused-unchanged p b c (is-refused (replyTo p b c) ne);
-      accepted = λ e. in-order p (leaves p b c) (accepted-orderly p b c e);
-      stores = λ q is e. rw is (write-stores p b q (rw is at e));
-      frees = λ n is e. rw is (release-frees p b n (rw is at e));
+      reply = rw (reply-is p b c) (reply-by-table p b c);
+      refused = λ ne. refused-unchanged p b c (is-refused (replyOf p b c) (λ e. ne (reply-is p b c ∙ e)));
+      kept = λ h. unfold leaves in in-order p (leaves p b c) (kept-orderly p b c h);
+      order = λ e n. unfold leaves in in-order p (leaves p b c) (accepted-orderly p b c (no-queue c n) (sym (reply-is p b c) ∙ e));
+      formats = λ is e. rw is (format-formats p b (sym (reply-is p b format) ∙ (rw is at e)));
+      reads = λ q is e. rw is (read-reads p b q (sym (reply-is p b (read q)) ∙ (rw is at e)));
+      writes = λ q is e. rw is (write-writes p b q (sym (reply-is p b (write q)) ∙ (rw is at e)));
+      frees = λ n is e. rw is (release-frees p b n (sym (reply-is p b (release n)) ∙ (rw is at e)));
+      serves = λ l is. rw is (queue-serves p b l);
     }

@@ -11,16 +11,21 @@ use lib.ListN.{List·getD-eq-default, getD, getD-replicate, length-replicate, re
 use Rattle.rules.specs.declared.Params.{Params}
 use Rattle.rules.specs.declared.Reply.the-variants.{Accepted}
 use Rattle.rules.specs.Numbers.{regionOf}
-use Rattle.rules.specs.Tables.{Board, btAt, btEntry, ctAt, fstAt, none}
+use Rattle.rules.specs.Tables.{Board, btAt, btEntry, ctAt, fstAt, markIndex, none, wordAt}
 use Rattle.rules.specs.Regions.{View, bodyAt, view, viewOf}
+use Rattle.rules.specs.Marks.{marked, wordOf}
+use Rattle.rules.specs.Requests.{Call, format}
 use Rattle.rules.specs.Format.{formatted}
-use Rattle.rules.specs.Calls.{Call, format}
+use Rattle.rules.specs.Replies.{OrderlyBoard, replyOf}
 use Rattle.rules.proofs.Isolation.{view-path}
-use Rattle.claims.specs.Runs.{answersTo, boardAfter, leaves, noFormat, replyTo, requestsTo, toRegion}
-use Rattle.claims.specs.Conditions.{Condition3, OrderlyBoard}
-use Rattle.claims.proofs.Outcomes.{format-leaves, format-reply}
-use Rattle.claims.proofs.Kept.{accepted-orderly}
-use Rattle.claims.proofs.RegionMachine.{run-answers, run-view, viewAnswers, viewRun}
+use Rattle.rules.proofs.TableFacts.{marks-in}
+use Rattle.marks.proofs.Tables.{region-word}
+use Rattle.claims.specs.Runs.{Told, boardAfter, leaves, noFormat, partsOf, partsTo, requestsTo, toRegion, toldTo}
+use Rattle.claims.specs.Conditions.{Condition3}
+use Rattle.claims.proofs.Kept.{accepted-orderly, after-orderly}
+use Rattle.claims.proofs.RegionMachine.{Gives, run-gives, viewAnswers, viewRun}
+use Rattle.claims.proofs.Singles.{all-single, board-same, no-format, parts-same, singlesOf}
+use Rattle.claims.proofs.Steps.{format-leaves, partOf, parts-step}
 
 -- ---- a region after a format
 
@@ -47,24 +52,41 @@ format-view p b r =
 
 -- ---- a run from a format on
 
-module _ (p : Params) (b : Board) (e : replyTo p b format ≡ Accepted) (r : ℕ) (low : r < p .mu) (cs : List Call) (n : noFormat cs ≡ true) where
+module _ (p : Params) (b : Board) (e : replyOf p b format ≡ Accepted) (r : ℕ) (low : r < p .mu) (cs : List Call) (n : noFormat cs ≡ true) where
   ordered : OrderlyBoard p (leaves p b format)
-  ordered = accepted-orderly p b format e
+  ordered = accepted-orderly p b format tt e
 
   start : view p (leaves p b format) r ≡ bare
-  start = rw (format-leaves p b (sym (format-reply p b) ∙ e)) (format-view p b r)
+  start = rw (format-leaves p b e) (format-view p b r)
 
-  region-answers : answersTo p r b (format ∷ cs) ≡ viewAnswers p bare (requestsTo p r cs)
-  unfolding answersTo toRegion
-  region-answers = run-answers p r low (leaves p b format) cs ordered n ∙ rw start
+  gives : Gives p (leaves p b format) r (singlesOf p (leaves p b format) cs)
+  gives = run-gives p r low (leaves p b format) (singlesOf p (leaves p b format) cs) (all-single p (leaves p b format) cs) ordered (no-format p (leaves p b format) cs n)
 
-  region-view : view p (boardAfter p b (format ∷ cs)) r ≡ viewRun p bare (requestsTo p r cs)
+  -- the format tells the region nothing
+  past-format : toldTo p r (partsOf p b (format ∷ cs)) ≡ toldTo p r (partsOf p (leaves p b format) cs)
+  past-format = rw (parts-step p b format cs tt) (unfold toldTo partsTo partOf toRegion in refl)
+
+  region-answers : toldTo p r (partsOf p b (format ∷ cs)) ≡ viewAnswers p bare (requestsTo p r (partsOf p (leaves p b format) cs))
+  region-answers = rw (past-format, parts-same p (leaves p b format) cs) (gives .answers ∙ rw start)
+
+  region-view : view p (boardAfter p b (format ∷ cs)) r ≡ viewRun p bare (requestsTo p r (partsOf p (leaves p b format) cs))
   unfolding boardAfter
-  region-view = run-view p r low (leaves p b format) cs ordered n ∙ rw start
+  region-view = rw (board-same p (leaves p b format) cs, parts-same p (leaves p b format) cs) (gives .left ∙ rw start)
+
+  -- its words of marks are a function of its view
+  region-words : (v w : ℕ) → v < p .gamma → w < 4 → wordAt ((boardAfter p b (format ∷ cs)) .marks) (markIndex p r v w) ≡ wordOf (marked p (view p (boardAfter p b (format ∷ cs)) r) v) w
+  region-words v w h k = rw (marks-in p (boardAfter p b (format ∷ cs)) (after .lengths) (after .tidy)) (region-word p (boardAfter p b (format ∷ cs)) r v w low h k)
+    where
+      after : OrderlyBoard p (boardAfter p b (format ∷ cs))
+      after = unfold boardAfter in after-orderly p (leaves p b format) cs ordered
 
 pub condition-3 : Condition3
 condition-3 p b b′ e e′ cs cs′ n n′ r low same =
+    let views : view p (boardAfter p b (format ∷ cs)) r ≡ view p (boardAfter p b′ (format ∷ cs′)) r =
+    region-view p b e r low cs n ∙ ap (viewRun p bare) same ∙ sym (region-view p b′ e′ r low cs′ n′) in
     record {
       answers = region-answers p b e r low cs n ∙ ap (viewAnswers p bare) same ∙ sym (region-answers p b′ e′ r low cs′ n′);
-      views = region-view p b e r low cs n ∙ ap (viewRun p bare) same ∙ sym (region-view p b′ e′ r low cs′ n′);
+      views = views;
+      words = λ v w h k.
+          region-words p b e r low cs n v w h k ∙ ap (λ (vw : View). wordOf (marked p vw v) w) views ∙ sym (region-words p b′ e′ r low cs′ n′ v w h k);
     }

@@ -37,8 +37,8 @@ none-kept p c f g (suc n) h = rw (map-append g (keepBelow n f) (cond (f n) (n �
     last (inl e) = rw e (and-intro (h n (omega arith) e) refl)
     last (inr e) = rw e
 
-pub none-copied : (p : Params) (b : Board) (c : ℕ) → Sizes p → (r v : ℕ) → v < p .gamma → noneHolds p c (copies p (view p (released b c) r) (reclaims v)) ≡ true
+pub none-copied : (p : Params) (b : Board) (c : ℕ) → Sizes p → (r v : ℕ) → v < p .gamma → noneHolds p c (copies p (view p (released p b c) r) (reclaims v)) ≡ true
 unfolding copies validFrames
 none-copied p b c z r v hv =
-    none-kept p c (valid p (view p (released b c) r) v) (frame p ((view p (released b c) r) .body v)) (frames p)
+    none-kept p c (valid p (view p (released p b c) r) v) (frame p ((view p (released p b c) r) .body v)) (frames p)
     (λ f k e. rw (release-body p b c r) (and-right (valid p (view p b r) v f) (sym (release-valid p b c z r v f hv k) ∙ e)))

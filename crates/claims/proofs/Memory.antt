@@ -15,22 +15,26 @@ use Rattle.lists.proofs.Joins.{join-cong}
 use Rattle.lists.specs.Below.{joinBelow}
 use Rattle.lists.specs.Parts.{part}
 use Rattle.rules.specs.declared.Params.{Params}
+use Rattle.rules.specs.declared.Reply.{Reply}
 use Rattle.rules.specs.declared.Reply.the-variants.{Accepted}
 use Rattle.rules.specs.Numbers.{clusterOf, sectorOf}
 use Rattle.rules.specs.Tables.{Board}
 use Rattle.rules.specs.Regions.{sector}
+use Rattle.rules.specs.Requests.{Call, Request, format, queue, read, release, requestCluster, write}
 use Rattle.rules.specs.Format.{formatted}
-use Rattle.rules.specs.Write.{Request, requestCluster, written}
+use Rattle.rules.specs.Write.{written}
 use Rattle.rules.specs.Release.{released}
-use Rattle.rules.specs.Replies.{accessReply, formatReply, isAccepted}
-use Rattle.rules.specs.Calls.{Call, format, read, readBytes, release, write}
-use Rattle.rules.proofs.Admitted.{Admitted, admitted}
+use Rattle.rules.specs.Replies.{isAccepted, replyOf}
+use Rattle.rules.specs.Calls.{Part, readBytes}
+use Rattle.rules.proofs.Admitted.{Admitted, admitted, read-checks, write-checks}
 use Rattle.rules.proofs.FormatPromise.{format-reads}
 use Rattle.rules.proofs.Isolation.{index-inj}
+use Rattle.rules.proofs.Outcomes.{reply-cases, reply-is}
 use Rattle.rules.proofs.Releases.{release-others, release-reads}
 use Rattle.rules.proofs.WritePromise.{Promise, write-promise}
-use Rattle.claims.specs.Runs.{Memory, blank, boardAfter, cleared, given, leaves, memoryAfter, outcomes, remember, replyTo, sectorAt}
-use Rattle.claims.proofs.Outcomes.{format-leaves, format-reply, read-leaves, refused-leaves, release-leaves, release-reply, reply-cases, write-leaves, write-reply}
+use Rattle.claims.specs.Runs.{Memory, blank, boardAfter, cleared, given, leaves, memoryAfter, partsOf, remember, sectorAt}
+use Rattle.claims.proofs.Singles.{AllSingle, Single, all-single, board-same, parts-same, refused-leaves, singlesOf}
+use Rattle.claims.proofs.Steps.{accepted-leaves, doneBoard, partOf, parts-step}
 
 -- ---- the memory's write
 
@@ -54,9 +58,9 @@ module _ (p : Params) (q : Request) (m : Memory) (a : ℕ) where
 
 -- ---- the board's write
 
-module _ (p : Params) (b : Board) (q : Request) (e : accessReply p b q ≡ Accepted) where
+module _ (p : Params) (b : Board) (q : Request) (e : replyOf p b (write q) ≡ Accepted) where
   acc : Admitted p b q
-  acc = admitted p b q e
+  acc = admitted p b q (write-checks p b q e)
 
   promise : Promise p b q (written p b q)
   promise = write-promise p b q e
@@ -104,11 +108,11 @@ module _ (p : Params) (b : Board) (q : Request) (e : accessReply p b q ≡ Accep
 
 -- ---- the board's release
 
-pub freed : (p : Params) (b : Board) (c a : ℕ) → sectorAt p (released b c) a ≡ cleared p c (sectorAt p b) a
+pub freed : (p : Params) (b : Board) (c a : ℕ) → sectorAt p (released p b c) a ≡ cleared p c (sectorAt p b) a
 unfolding sectorAt cleared blank
 freed p b c a = go (ℕ-discrete (clusterOf p a) c)
   where
-    go : Dec (clusterOf p a ≡ c) → sectorAt p (released b c) a ≡ cleared p c (sectorAt p b) a
+    go : Dec (clusterOf p a ≡ c) → sectorAt p (released p b c) a ≡ cleared p c (sectorAt p b) a
     go (yes e) = rw (e, eq-eqb c c refl) (release-reads p b c (sectorOf p a))
     go (no e) = rw (ne-eqb (clusterOf p a) c e) (release-others p b c (clusterOf p a) (sectorOf p a) e)
 
@@ -126,41 +130,48 @@ cleared-same : (p : Params) (c : ℕ) (m m′ : Memory) (a : ℕ) → m a ≡ m�
 unfolding cleared
 cleared-same p c m m′ a e = rw e
 
-pub format-agrees : (p : Params) (b : Board) → formatReply p b ≡ Accepted → Agrees p (formatted p b) (blank p)
+pub format-agrees : (p : Params) (b : Board) → replyOf p b format ≡ Accepted → Agrees p (formatted p b) (blank p)
 unfolding sectorAt blank
 format-agrees p b e a h = format-reads p b e (clusterOf p a) (sectorOf p a)
 
--- an accepted call, any call, and a run change both alike
-accepted-agrees : (p : Params) (b : Board) (m : Memory) (c : Call) → replyTo p b c ≡ Accepted → Agrees p b m → Agrees p (leaves p b c) (remember p c m)
-unfolding remember
-accepted-agrees p b m format e h a low = let k = sym (format-reply p b) ∙ e in rw (format-leaves p b k) (format-agrees p b k a low)
-accepted-agrees p b m (read q) e h a low = rw (read-leaves p b q) (h a low)
-accepted-agrees p b m (release c) e h a low =
-    rw (release-leaves p b c (sym (release-reply p b c) ∙ e)) (freed p b c a ∙ cleared-same p c (sectorAt p b) m a (h a low))
-accepted-agrees p b m (write q) e h a low =
-    let k = sym (write-reply p b q) ∙ e in
-    rw (write-leaves p b q k) (stored p b q k a low ∙ given-same p q (sectorAt p b) m a (h a low))
+-- an accepted call, any call, and a run of single calls change both alike
+done-agrees : (p : Params) (b : Board) (m : Memory) (c : Call) → Single c → replyOf p b c ≡ Accepted → Agrees p b m → Agrees p (doneBoard p b c) (remember p c m)
+unfolding remember doneBoard
+done-agrees p b m format s e h a low = format-agrees p b e a low
+done-agrees p b m (read q) s e h a low = h a low
+done-agrees p b m (release c) s e h a low = freed p b c a ∙ cleared-same p c (sectorAt p b) m a (h a low)
+done-agrees p b m (write q) s e h a low = stored p b q e a low ∙ given-same p q (sectorAt p b) m a (h a low)
+done-agrees p b m (queue l) s e h a low = absurd s
 
-pub call-agrees : (p : Params) (b : Board) (m : Memory) (c : Call) → Agrees p b m → Agrees p (leaves p b c) (cond (isAccepted (replyTo p b c)) (remember p c m) m)
-call-agrees p b m c h = go (reply-cases (replyTo p b c))
+call-agrees : (p : Params) (b : Board) (m : Memory) (c : Call) → Single c → Agrees p b m → Agrees p (leaves p b c) (cond (isAccepted (replyOf p b c)) (remember p c m) m)
+call-agrees p b m c s h = go (reply-cases (replyOf p b c))
   where
-    go : (replyTo p b c ≡ Accepted) ⊎ (isAccepted (replyTo p b c) ≡ false) → Agrees p (leaves p b c) (cond (isAccepted (replyTo p b c)) (remember p c m) m)
-    go (inl e) = rw e (unfold isAccepted in accepted-agrees p b m c e h)
+    go : (replyOf p b c ≡ Accepted) ⊎ (isAccepted (replyOf p b c) ≡ false) → Agrees p (leaves p b c) (cond (isAccepted (replyOf p b c)) (remember p c m) m)
+    go (inl e) = rw (accepted-leaves p b c s e, e) (unfold isAccepted in done-agrees p b m c s e h)
     go (inr e) = rw (e, refused-leaves p b c e) h
 
-pub run-agrees : (p : Params) (b : Board) (m : Memory) (cs : List Call) → Agrees p b m → Agrees p (boardAfter p b cs) (memoryAfter p m cs (outcomes p b cs))
-unfolding boardAfter memoryAfter outcomes
-run-agrees p b m [] h = h
-run-agrees p b m (c ∷ cs) h = run-agrees p (leaves p b c) _ cs (unfold replyTo in call-agrees p b m c h)
+pub memory-step : (p : Params) (b : Board) (m : Memory) (c : Call) (xs : List Part) → memoryAfter p m (partOf p b c ∷ xs) ≡ memoryAfter p (cond (isAccepted (replyOf p b c)) (remember p c m) m) xs
+unfolding memoryAfter partOf
+memory-step p b m c xs = ap (λ (r : Reply). memoryAfter p (cond (isAccepted r) (remember p c m) m) xs) (reply-is p b c)
+
+run-agrees : (p : Params) (b : Board) (m : Memory) (cs : List Call) → AllSingle cs → Agrees p b m → Agrees p (boardAfter p b cs) (memoryAfter p m (partsOf p b cs))
+unfolding boardAfter
+run-agrees p b m [] s h = unfold partsOf memoryAfter in h
+run-agrees p b m (c ∷ cs) s h =
+    rw (parts-step p b c cs (s .0), memory-step p b m c (partsOf p (leaves p b c) cs)) (run-agrees p (leaves p b c) _ cs (s .1) (call-agrees p b m c (s .0) h))
+
+-- and any run
+pub after-agrees : (p : Params) (b : Board) (m : Memory) (run : List Call) → Agrees p b m → Agrees p (boardAfter p b run) (memoryAfter p m (partsOf p b run))
+after-agrees p b m run h = rw (board-same p b run, parts-same p b run) (run-agrees p b m (singlesOf p b run) (all-single p b run) h)
 
 -- ---- the read
 
-pub read-agrees : (p : Params) (b : Board) (m : Memory) (q : Request) → accessReply p b q ≡ Accepted → Agrees p b m → readBytes p b q ≡ joinBelow (q .count) (λ i. m (q .lba + i))
+pub read-agrees : (p : Params) (b : Board) (m : Memory) (q : Request) → replyOf p b (read q) ≡ Accepted → Agrees p b m → readBytes p b q ≡ joinBelow (q .count) (λ i. m (q .lba + i))
 unfolding readBytes
 read-agrees p b m q e h = join-cong (q .count) _ _ one
   where
     acc : Admitted p b q
-    acc = admitted p b q e
+    acc = admitted p b q (read-checks p b q e)
 
     start : q .lba / p .alpha * p .alpha + q .lba % p .alpha ≡ q .lba
     start = div-add-mod' (q .lba) (p .alpha)

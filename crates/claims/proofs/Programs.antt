@@ -27,9 +27,10 @@ use Rattle.rules.specs.Pages.{bytes32, filled, frame, held, page, programmed, s
 use Rattle.rules.specs.Regions.{assigned, valid, validFrames, view}
 use Rattle.rules.specs.Traces.{erase, frameOps, framesOps, program}
 use Rattle.rules.specs.Format.{bad, formatOps}
-use Rattle.rules.specs.Write.{Plan, Request, continues, copies, eraseOps, hasRoom, lowestUnassigned, newFrame, opens, planBlock, planFrame, planOf, planOps, planVBlock, reclaims, requestCluster, requestRegion, roomOps, writeOps}
-use Rattle.rules.specs.Replies.{accessReply}
-use Rattle.rules.proofs.Admitted.{admitted}
+use Rattle.rules.specs.Write.{Plan, continues, copies, eraseOps, hasRoom, lowestUnassigned, newFrame, opens, planBlock, planFrame, planOf, planOps, planVBlock, reclaims, roomOps, writeOps}
+use Rattle.rules.specs.Replies.{replyOf}
+use Rattle.rules.specs.Requests.{Request, write, requestCluster, requestRegion}
+use Rattle.rules.proofs.Admitted.{admitted, write-checks}
 use Rattle.rules.proofs.Continues.{Makes}
 use Rattle.rules.proofs.Frames.{erased-not}
 use Rattle.rules.proofs.FramePut.{Sheet}
@@ -154,10 +155,10 @@ module _ (p : Params) (z : Sizes p) (b : Board) (t : Tables p b) (r : ℕ) (regi
       few : 0 + length (copies p (view p b r) (reclaims v)) ≤ frames p
       few = unfold copies planFrame in omega (arith, m .base .ready .low, length-map (validFrames p (view p b r) v) (frame p ((view p b r) .body v)))
 
-pub write-fits : (p : Params) (b : Board) (q : Request) → accessReply p b q ≡ Accepted → AllFit p (writeOps p b q)
+pub write-fits : (p : Params) (b : Board) (q : Request) → replyOf p b (write q) ≡ Accepted → AllFit p (writeOps p b q)
 unfolding writeOps planOps
 write-fits p b q e =
-    let acc = admitted p b q e in
+    let acc = admitted p b q (write-checks p b q e) in
     let r = regionOf p (requestCluster p q) in
     let region : r < p .mu = mod-lt (requestCluster p q) (acc .sized .regions) in
     let nt = neat p r (view p b r) (acc .tidy r region) in

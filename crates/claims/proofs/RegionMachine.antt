@@ -4,13 +4,13 @@
 use mathlib.Core.Path.{_≡_, refl, sym, ap, ap₂, _∙_}
 use mathlib.Core.Logic.{_⊎_, inl, inr}
 use Prim.Native.Nat.{ℕ, _+_, _*_, _<_}
-use mathlib.Core.Bool.{true, false, cond, false≢true}
-use mathlib.Core.List.{List, [], _∷_}
+use mathlib.Core.Bool.{Bool, true, false, not, _&&_, cond, false≢true}
+use mathlib.Core.List.{List, [], _∷_, map}
 use lib.Dec.{eqb}
-use borrow.Author.Tests.{eqb-false, eqb-true}
+use borrow.Author.Tests.{eqb-false, eqb-true, not-true}
 use lib.ListN.{length}
 use Rattle.lists.specs.Below.{joinBelow}
-use Rattle.lists.proofs.Tests.{so}
+use Rattle.lists.proofs.Tests.{and-left, and-right, so}
 use Rattle.rules.specs.declared.Params.{Params}
 use Rattle.rules.specs.declared.Reply.{Reply}
 use Rattle.rules.specs.declared.Reply.the-variants.{Accepted}
@@ -18,16 +18,22 @@ use Rattle.rules.specs.Numbers.{regionOf, sectorOf}
 use Rattle.rules.specs.Tables.{Board}
 use Rattle.rules.specs.Regions.{View, sector, sectorIn, view}
 use Rattle.rules.specs.Traces.{erasesIn, programsIn}
-use Rattle.rules.specs.Write.{Request, copies, planOf, requestCluster, requestRegion, viewAfter}
-use Rattle.rules.specs.Release.{without}
-use Rattle.rules.specs.Replies.{accessReply, isAccepted, releaseReply}
-use Rattle.rules.specs.Calls.{Call, accepts, answerOf, format, outcomeOf, read, readBytes, refuses, release, write}
+use Rattle.rules.specs.Requests.{Call, Request, format, lent, queue, read, release, requestCluster, requestRegion, write}
+use Rattle.rules.specs.Write.{copies, planOf}
+use Rattle.rules.specs.Machine.{viewAfter, without}
+use Rattle.rules.specs.Replies.{OrderlyBoard, isAccepted, replyOf}
+use Rattle.rules.specs.Calls.{Outcome, Part, answerOf, outcomeOf, readBytes}
+use Rattle.rules.proofs.Outcomes.{call-refused, read-accepted, release-accepted, reply-cases, write-accepted}
 use Rattle.rules.proofs.Releases.{released-else, released-view}
 use Rattle.rules.proofs.WritePromise.{erasesOf, write-promise}
-use Rattle.claims.specs.Runs.{Told, answersTo, boardAfter, leaves, noFormat, replyTo, requestsTo, toRegion, told}
-use Rattle.claims.specs.Conditions.{OrderlyBoard, lent}
-use Rattle.claims.proofs.Outcomes.{call-refused, read-accepted, read-leaves, read-reply, refused-leaves, release-accepted, release-leaves, release-reply, reply-cases, write-accepted, write-leaves, write-reply}
-use Rattle.claims.proofs.Kept.{clusterReply, orderly-kept, orderly-release, orderly-reply, requestReply}
+use Rattle.claims.specs.Runs.{Told, boardAfter, isFormat, leaves, noFormat, partsOf, partsTo, requestsTo, toRegion, toldTo}
+use Rattle.claims.proofs.Kept.{clusterReply, orderly-kept, orderly-read, orderly-release, orderly-write, requestReply}
+use Rattle.claims.proofs.Singles.{AllSingle, Single, refused-leaves}
+use Rattle.claims.proofs.Steps.{partOf, parts-step, read-leaves, release-leaves, write-leaves}
+
+-- what the caller of a call is told
+unfoldable pub told : Outcome → Told
+told o = record { answer = o .answer; bytes = o .bytes }
 
 -- ---- the machine
 
@@ -46,6 +52,7 @@ answerBy p vw (write q) =
     (tells Accepted (p .alpha * (length (copies p vw (planOf p vw)) + 1)) (erasesOf (planOf p vw)) (q .bytes))
     (tells (requestReply p q) 0 0 (q .bytes))
 answerBy p vw (release c) = tells (clusterReply p c) 0 0 []
+answerBy p vw (queue l) = tells Accepted 0 0 []
 
 -- its next state
 viewBy : Params → View → Call → View
@@ -53,6 +60,7 @@ viewBy p vw format = vw
 viewBy p vw (read q) = vw
 viewBy p vw (release c) = cond (isAccepted (clusterReply p c)) (without vw c) vw
 viewBy p vw (write q) = cond (isAccepted (requestReply p q)) (viewAfter p vw q) vw
+viewBy p vw (queue l) = vw
 
 -- over a list of requests
 pub viewRun : Params → View → List Call → View
@@ -66,24 +74,24 @@ viewAnswers p vw (c ∷ cs) = answerBy p vw c ∷ viewAnswers p (viewBy p vw c) 
 -- ---- a call to the region is a step of the machine
 
 module _ (p : Params) (b : Board) (ordered : OrderlyBoard p b) where
-  refused-told : (c : Call) (r : Reply) → isAccepted r ≡ false → replyTo p b c ≡ r → told (outcomeOf p b c) ≡ tells r 0 0 (lent c)
-  unfolding told refuses answerOf programsIn erasesIn tells
+  refused-told : (c : Call) (r : Reply) → isAccepted r ≡ false → replyOf p b c ≡ r → told (outcomeOf p b c) ≡ tells r 0 0 (lent c)
+  unfolding told answerOf programsIn erasesIn tells
   refused-told c r e is = rw (call-refused p b c (rw is e), is)
 
   read-told : (r : ℕ) (q : Request) → requestRegion p q ≡ r → told (outcomeOf p b (read q)) ≡ answerBy p (view p b r) (read q)
   unfolding answerBy
   read-told r q is = go (reply-cases (requestReply p q))
     where
-      reply : accessReply p b q ≡ requestReply p q
-      reply = orderly-reply p b q ordered
+      reply : replyOf p b (read q) ≡ requestReply p q
+      reply = orderly-read p b q ordered
 
       go : (requestReply p q ≡ Accepted) ⊎ (isAccepted (requestReply p q) ≡ false) → told (outcomeOf p b (read q)) ≡ answerBy p (view p b r) (read q)
-      go (inl e) = rw (e, read-accepted p b q (reply ∙ e)) (unfold isAccepted told accepts answerOf programsIn erasesIn tells readBytes sector in rw (← is))
-      go (inr e) = rw e (refused-told (read q) (requestReply p q) e (read-reply p b q ∙ reply) ∙ unfold lent in refl)
+      go (inl e) = rw (e, read-accepted p b q (reply ∙ e)) (unfold isAccepted told answerOf programsIn erasesIn tells readBytes sector in rw (← is))
+      go (inr e) = rw e (refused-told (read q) (requestReply p q) e reply ∙ unfold lent in refl)
 
-  written-told : (q : Request) → accessReply p b q ≡ Accepted
+  written-told : (q : Request) → replyOf p b (write q) ≡ Accepted
       → told (outcomeOf p b (write q)) ≡ tells Accepted (p .alpha * (length (copies p (view p b (requestRegion p q)) (planOf p (view p b (requestRegion p q)))) + 1)) (erasesOf (planOf p (view p b (requestRegion p q)))) (q .bytes)
-  unfolding told accepts answerOf tells
+  unfolding told answerOf tells
   written-told q e =
       let w = write-promise p b q e in
       ap told (write-accepted p b q e) ∙ ap₂ (λ (n m : ℕ). tells Accepted n m (q .bytes)) (w .programs) (w .erases)
@@ -92,114 +100,131 @@ module _ (p : Params) (b : Board) (ordered : OrderlyBoard p b) where
   unfolding answerBy
   write-told r q is = go (reply-cases (requestReply p q))
     where
-      reply : accessReply p b q ≡ requestReply p q
-      reply = orderly-reply p b q ordered
+      reply : replyOf p b (write q) ≡ requestReply p q
+      reply = orderly-write p b q ordered
 
       go : (requestReply p q ≡ Accepted) ⊎ (isAccepted (requestReply p q) ≡ false) → told (outcomeOf p b (write q)) ≡ answerBy p (view p b r) (write q)
       go (inl e) = rw e (unfold isAccepted in rw (← is) (written-told q (reply ∙ e)))
-      go (inr e) = rw e (refused-told (write q) (requestReply p q) e (write-reply p b q ∙ reply) ∙ unfold lent in refl)
+      go (inr e) = rw e (refused-told (write q) (requestReply p q) e reply ∙ unfold lent in refl)
 
   write-own : (r : ℕ) (q : Request) → requestRegion p q ≡ r → view p (leaves p b (write q)) r ≡ viewBy p (view p b r) (write q)
   unfolding viewBy
   write-own r q is = go (reply-cases (requestReply p q))
     where
-      reply : accessReply p b q ≡ requestReply p q
-      reply = orderly-reply p b q ordered
+      reply : replyOf p b (write q) ≡ requestReply p q
+      reply = orderly-write p b q ordered
 
       go : (requestReply p q ≡ Accepted) ⊎ (isAccepted (requestReply p q) ≡ false) → view p (leaves p b (write q)) r ≡ viewBy p (view p b r) (write q)
       go (inl e) = rw (e, write-leaves p b q (reply ∙ e)) (unfold isAccepted in rw (← is) ((write-promise p b q (reply ∙ e)) .own))
-      go (inr e) = rw (e, refused-leaves p b (write q) (rw (write-reply p b q, reply) e))
+      go (inr e) = rw (e, refused-leaves p b (write q) (rw reply e))
 
   write-else : (r : ℕ) (q : Request) → r < p .mu → (requestRegion p q ≡ r → ⊥) → view p (leaves p b (write q)) r ≡ view p b r
   write-else r q low ne = go (reply-cases (requestReply p q))
     where
-      reply : accessReply p b q ≡ requestReply p q
-      reply = orderly-reply p b q ordered
+      reply : replyOf p b (write q) ≡ requestReply p q
+      reply = orderly-write p b q ordered
 
       go : (requestReply p q ≡ Accepted) ⊎ (isAccepted (requestReply p q) ≡ false) → view p (leaves p b (write q)) r ≡ view p b r
       go (inl e) = rw (write-leaves p b q (reply ∙ e)) ((write-promise p b q (reply ∙ e)) .isolated r low (λ i. ne (sym i)))
-      go (inr e) = rw (refused-leaves p b (write q) (rw (write-reply p b q, reply) e))
+      go (inr e) = rw (refused-leaves p b (write q) (rw reply e))
 
   release-told : (c : ℕ) (vw : View) → told (outcomeOf p b (release c)) ≡ answerBy p vw (release c)
   unfolding answerBy
   release-told c vw = go (reply-cases (clusterReply p c))
     where
-      reply : releaseReply p b c ≡ clusterReply p c
+      reply : replyOf p b (release c) ≡ clusterReply p c
       reply = orderly-release p b c ordered
 
       go : (clusterReply p c ≡ Accepted) ⊎ (isAccepted (clusterReply p c) ≡ false) → told (outcomeOf p b (release c)) ≡ answerBy p vw (release c)
-      go (inl e) = rw (e, release-accepted p b c (reply ∙ e)) (unfold told accepts answerOf programsIn erasesIn tells in refl)
-      go (inr e) = refused-told (release c) (clusterReply p c) e (release-reply p b c ∙ reply) ∙ unfold lent in refl
+      go (inl e) = rw (e, release-accepted p b c (reply ∙ e)) (unfold told answerOf programsIn erasesIn tells in refl)
+      go (inr e) = refused-told (release c) (clusterReply p c) e reply ∙ unfold lent in refl
 
   release-own : (r c : ℕ) → view p (leaves p b (release c)) r ≡ viewBy p (view p b r) (release c)
   unfolding viewBy
   release-own r c = go (reply-cases (clusterReply p c))
     where
-      reply : releaseReply p b c ≡ clusterReply p c
+      reply : replyOf p b (release c) ≡ clusterReply p c
       reply = orderly-release p b c ordered
 
       go : (clusterReply p c ≡ Accepted) ⊎ (isAccepted (clusterReply p c) ≡ false) → view p (leaves p b (release c)) r ≡ viewBy p (view p b r) (release c)
       go (inl e) = rw (e, release-leaves p b c (reply ∙ e)) (unfold isAccepted in released-view p b c r)
-      go (inr e) = rw (e, refused-leaves p b (release c) (rw (release-reply p b c, reply) e))
+      go (inr e) = rw (e, refused-leaves p b (release c) (rw reply e))
 
   release-else : (r c : ℕ) → (regionOf p c ≡ r → ⊥) → view p (leaves p b (release c)) r ≡ view p b r
   release-else r c ne = go (reply-cases (clusterReply p c))
     where
-      reply : releaseReply p b c ≡ clusterReply p c
+      reply : replyOf p b (release c) ≡ clusterReply p c
       reply = orderly-release p b c ordered
 
       go : (clusterReply p c ≡ Accepted) ⊎ (isAccepted (clusterReply p c) ≡ false) → view p (leaves p b (release c)) r ≡ view p b r
       go (inl e) = rw (release-leaves p b c (reply ∙ e)) (released-else p b c r ne)
-      go (inr e) = rw (refused-leaves p b (release c) (rw (release-reply p b c, reply) e))
+      go (inr e) = rw (refused-leaves p b (release c) (rw reply e))
+
+-- ---- a call more in the requests to a region, and in what is told of them
+
+one-request : (p : Params) (r : ℕ) (x : Part) (xs : List Part) → requestsTo p r (x ∷ xs) ≡ cond (toRegion p r (x .asks)) (x .asks ∷ requestsTo p r xs) (requestsTo p r xs)
+unfolding requestsTo partsTo
+one-request p r x xs = go (toRegion p r (x .asks))
+  where
+    go : (t : Bool) → map (λ (y : Part). y .asks) (cond t (x ∷ partsTo p r xs) (partsTo p r xs)) ≡ cond t (x .asks ∷ map (λ (y : Part). y .asks) (partsTo p r xs)) (map (λ (y : Part). y .asks) (partsTo p r xs))
+    go true = refl
+    go false = refl
+
+abbrev toldOf : Part → Told
+toldOf x = record { answer = x .answer; bytes = x .bytes }
+
+one-told : (p : Params) (r : ℕ) (x : Part) (xs : List Part) → toldTo p r (x ∷ xs) ≡ cond (toRegion p r (x .asks)) (toldOf x ∷ toldTo p r xs) (toldTo p r xs)
+unfolding toldTo partsTo
+one-told p r x xs = go (toRegion p r (x .asks))
+  where
+    go : (t : Bool) → map (λ (y : Part). toldOf y) (cond t (x ∷ partsTo p r xs) (partsTo p r xs)) ≡ cond t (toldOf x ∷ map (λ (y : Part). toldOf y) (partsTo p r xs)) (map (λ (y : Part). toldOf y) (partsTo p r xs))
+    go true = refl
+    go false = refl
 
 -- ---- a run
 
-module _ (p : Params) (r : ℕ) (low : r < p .mu) where
-  pub run-view : (b : Board) (cs : List Call) → OrderlyBoard p b → noFormat cs ≡ true → view p (boardAfter p b cs) r ≡ viewRun p (view p b r) (requestsTo p r cs)
-  unfolding boardAfter requestsTo viewRun noFormat toRegion
-  run-view b [] h n = refl
-  run-view b (format ∷ cs) h n = absurd (false≢true n)
-  run-view b (read q ∷ cs) h n = run-view (leaves p b (read q)) cs (orderly-kept p b (read q) h) n ∙ rw (read-leaves p b q) (go (so (eqb (requestRegion p q) r)))
-    where
-      go : (eqb (requestRegion p q) r ≡ true) ⊎ (eqb (requestRegion p q) r ≡ false)
-          → viewRun p (view p b r) (requestsTo p r cs) ≡ viewRun p (view p b r) (cond (eqb (requestRegion p q) r) (read q ∷ requestsTo p r cs) (requestsTo p r cs))
-      go (inl e) = rw e (unfold viewBy in refl)
-      go (inr e) = rw e
-  run-view b (write q ∷ cs) h n = run-view (leaves p b (write q)) cs (orderly-kept p b (write q) h) n ∙ go (so (eqb (requestRegion p q) r))
-    where
-      go : (eqb (requestRegion p q) r ≡ true) ⊎ (eqb (requestRegion p q) r ≡ false)
-          → viewRun p (view p (leaves p b (write q)) r) (requestsTo p r cs) ≡ viewRun p (view p b r) (cond (eqb (requestRegion p q) r) (write q ∷ requestsTo p r cs) (requestsTo p r cs))
-      go (inl e) = rw (e, write-own p b h r q (eqb-true _ _ e))
-      go (inr e) = rw (e, write-else p b h r q low (eqb-false _ _ e))
-  run-view b (release c ∷ cs) h n = run-view (leaves p b (release c)) cs (orderly-kept p b (release c) h) n ∙ go (so (eqb (regionOf p c) r))
-    where
-      go : (eqb (regionOf p c) r ≡ true) ⊎ (eqb (regionOf p c) r ≡ false)
-          → viewRun p (view p (leaves p b (release c)) r) (requestsTo p r cs) ≡ viewRun p (view p b r) (cond (eqb (regionOf p c) r) (release c ∷ requestsTo p r cs) (requestsTo p r cs))
-      go (inl e) = rw (e, release-own p b h r c)
-      go (inr e) = rw (e, release-else p b h r c (eqb-false _ _ e))
+-- one call: to the region it is a step of the machine, to another it changes nothing here
+record Turn (p : Params) (b : Board) (r : ℕ) (c : Call) : Type 0 where
+  own : toRegion p r c ≡ true → (view p (leaves p b c) r ≡ viewBy p (view p b r) c) × (told (outcomeOf p b c) ≡ answerBy p (view p b r) c)
+  else : toRegion p r c ≡ false → view p (leaves p b c) r ≡ view p b r
 
-  pub run-answers : (b : Board) (cs : List Call) → OrderlyBoard p b → noFormat cs ≡ true → answersTo p r b cs ≡ viewAnswers p (view p b r) (requestsTo p r cs)
-  unfolding answersTo requestsTo viewAnswers noFormat toRegion
-  run-answers b [] h n = refl
-  run-answers b (format ∷ cs) h n = absurd (false≢true n)
-  run-answers b (read q ∷ cs) h n = go (so (eqb (requestRegion p q) r)) (run-answers (leaves p b (read q)) cs (orderly-kept p b (read q) h) n)
-    where
-      go : (eqb (requestRegion p q) r ≡ true) ⊎ (eqb (requestRegion p q) r ≡ false) → answersTo p r (leaves p b (read q)) cs ≡ viewAnswers p (view p (leaves p b (read q)) r) (requestsTo p r cs)
-          → cond (eqb (requestRegion p q) r) (told (outcomeOf p b (read q)) ∷ answersTo p r (leaves p b (read q)) cs) (answersTo p r (leaves p b (read q)) cs)
-          ≡ viewAnswers p (view p b r) (cond (eqb (requestRegion p q) r) (read q ∷ requestsTo p r cs) (requestsTo p r cs))
-      go (inl e) below = rw (e, below, read-leaves p b q, read-told p b h r q (eqb-true _ _ e)) (unfold viewBy in refl)
-      go (inr e) below = rw (e, below, read-leaves p b q)
-  run-answers b (write q ∷ cs) h n = go (so (eqb (requestRegion p q) r)) (run-answers (leaves p b (write q)) cs (orderly-kept p b (write q) h) n)
-    where
-      go : (eqb (requestRegion p q) r ≡ true) ⊎ (eqb (requestRegion p q) r ≡ false) → answersTo p r (leaves p b (write q)) cs ≡ viewAnswers p (view p (leaves p b (write q)) r) (requestsTo p r cs)
-          → cond (eqb (requestRegion p q) r) (told (outcomeOf p b (write q)) ∷ answersTo p r (leaves p b (write q)) cs) (answersTo p r (leaves p b (write q)) cs)
-          ≡ viewAnswers p (view p b r) (cond (eqb (requestRegion p q) r) (write q ∷ requestsTo p r cs) (requestsTo p r cs))
-      go (inl e) below = rw (e, below, write-own p b h r q (eqb-true _ _ e), write-told p b h r q (eqb-true _ _ e))
-      go (inr e) below = rw (e, below, write-else p b h r q low (eqb-false _ _ e))
-  run-answers b (release c ∷ cs) h n = go (so (eqb (regionOf p c) r)) (run-answers (leaves p b (release c)) cs (orderly-kept p b (release c) h) n)
-    where
-      go : (eqb (regionOf p c) r ≡ true) ⊎ (eqb (regionOf p c) r ≡ false) → answersTo p r (leaves p b (release c)) cs ≡ viewAnswers p (view p (leaves p b (release c)) r) (requestsTo p r cs)
-          → cond (eqb (regionOf p c) r) (told (outcomeOf p b (release c)) ∷ answersTo p r (leaves p b (release c)) cs) (answersTo p r (leaves p b (release c)) cs)
-          ≡ viewAnswers p (view p b r) (cond (eqb (regionOf p c) r) (release c ∷ requestsTo p r cs) (requestsTo p r cs))
-      go (inl e) below = rw (e, below, release-own p b h r c, release-told p b h c (view p b r))
-      go (inr e) below = rw (e, below, release-else p b h r c (eqb-false _ _ e))
+turn : (p : Params) (b : Board) (r : ℕ) → r < p .mu → OrderlyBoard p b → (c : Call) → Single c → isFormat c ≡ false → Turn p b r c
+unfolding toRegion isFormat
+turn p b r low h format s n = absurd (false≢true (sym n))
+turn p b r low h (read q) s n =
+    record { own = λ e. (rw (read-leaves p b q) (unfold viewBy in refl), read-told p b h r q (eqb-true _ _ e)); else = λ e. rw (read-leaves p b q) }
+turn p b r low h (write q) s n =
+    record { own = λ e. (write-own p b h r q (eqb-true _ _ e), write-told p b h r q (eqb-true _ _ e)); else = λ e. write-else p b h r q low (eqb-false _ _ e) }
+turn p b r low h (release c) s n =
+    record { own = λ e. (release-own p b h r c, release-told p b h c (view p b r)); else = λ e. release-else p b h r c (eqb-false _ _ e) }
+turn p b r low h (queue l) s n = absurd s
+
+-- what a run of single calls without a format leaves a region and tells it
+pub record Gives (p : Params) (b : Board) (r : ℕ) (cs : List Call) : Type 0 where
+  pub left : view p (boardAfter p b cs) r ≡ viewRun p (view p b r) (requestsTo p r (partsOf p b cs))
+  pub answers : toldTo p r (partsOf p b cs) ≡ viewAnswers p (view p b r) (requestsTo p r (partsOf p b cs))
+
+pub run-gives : (p : Params) (r : ℕ) → r < p .mu → (b : Board) (cs : List Call) → AllSingle cs → OrderlyBoard p b → noFormat cs ≡ true → Gives p b r cs
+unfolding boardAfter noFormat
+run-gives p r low b [] s h n = unfold boardAfter partsOf partsTo requestsTo toldTo viewRun viewAnswers in record { left = refl; answers = refl }
+run-gives p r low b (c ∷ cs) s h n =
+    go (so (toRegion p r c)) (turn p b r low h c (s .0) (not-true _ (and-left (not (isFormat c)) _ n)))
+    (run-gives p r low (leaves p b c) cs (s .1) (orderly-kept p b c (s .0) h) (and-right (not (isFormat c)) n))
+  where
+    asked : requestsTo p r (partsOf p b (c ∷ cs)) ≡ cond (toRegion p r c) (c ∷ requestsTo p r (partsOf p (leaves p b c) cs)) (requestsTo p r (partsOf p (leaves p b c) cs))
+    asked = ap (requestsTo p r) (parts-step p b c cs (s .0)) ∙ unfold partOf in one-request p r (partOf p b c) (partsOf p (leaves p b c) cs)
+
+    answered : toldTo p r (partsOf p b (c ∷ cs)) ≡ cond (toRegion p r c) (told (outcomeOf p b c) ∷ toldTo p r (partsOf p (leaves p b c) cs)) (toldTo p r (partsOf p (leaves p b c) cs))
+    answered = ap (toldTo p r) (parts-step p b c cs (s .0)) ∙ unfold partOf told in one-told p r (partOf p b c) (partsOf p (leaves p b c) cs)
+
+    go : (toRegion p r c ≡ true) ⊎ (toRegion p r c ≡ false) → Turn p b r c → Gives p (leaves p b c) r cs → Gives p b r (c ∷ cs)
+    go (inl e) t below =
+        record {
+          left = unfold boardAfter in (below .left ∙ rw (asked, e) (unfold viewRun in rw ((t .own e) .0)));
+          answers = rw (answered, asked, e) (unfold viewAnswers in rw (below .answers, (t .own e) .1, (t .own e) .0));
+        }
+    go (inr e) t below =
+        record {
+          left = unfold boardAfter in (below .left ∙ rw (asked, e, t .else e));
+          answers = rw (answered, asked, e) (below .answers ∙ rw (t .else e));
+        }

@@ -12,7 +12,7 @@ use Rattle.rules.specs.Tables.{Board, none}
 use Rattle.rules.specs.Pages.{erased, frame, held}
 use Rattle.rules.specs.Regions.{View, frameOf, valid, view}
 use Rattle.rules.specs.Write.{continues, planOf}
-use Rattle.claims.specs.Conditions.{OrderlyBoard}
+use Rattle.rules.specs.Replies.{OrderlyBoard}
 
 -- "the cluster's valid frame": a read of cluster c takes frame f of virtual block v, which is valid and holds c, and is the only frame that does both
 pub record TheValidFrame (p : Params) (vw : View) (c v f : ℕ) : Type 0 where

@@ -1,3 +1,5 @@
 pub mod Runs
 pub mod Conditions
+pub mod Requests
+pub mod OldForm
 pub mod Frames

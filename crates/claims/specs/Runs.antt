@@ -1,56 +1,79 @@
--- Runs: lists of calls with the same parameters, each on the board that the one before left; what they answer, what they do to the chip, and what
--- a memory would hold that knows only the requests and their replies.
+-- Runs: lists of calls with the same parameters, each on the board that the one before left; what their requests get, what they do to the chip, and
+-- what a memory would hold that knows only the requests and their replies.
 -- Assumes nothing.
 use Prim.Native.Nat.{ℕ, _+_, _-_}
 use mathlib.Core.Path.{_≡_}
-use mathlib.Core.Bool.{Bool, true, false, _&&_, _||_, cond}
-use mathlib.Core.List.{List, [], _∷_, _++_}
+use mathlib.Core.Bool.{Bool, true, false, not, _&&_, _||_, cond}
+use mathlib.Core.List.{List, [], _∷_, _++_, map}
 use lib.ListN.{replicate}
 use lib.Dec.{leb, ltb, eqb}
 use Rattle.lists.specs.Parts.{part}
 use Rattle.rules.specs.declared.Params.{Params}
-use Rattle.rules.specs.declared.Reply.{Reply}
 use Rattle.rules.specs.declared.Answer.{Answer}
 use Rattle.rules.specs.Numbers.{clusterOf, regionOf, sectorOf}
 use Rattle.rules.specs.Tables.{Board}
 use Rattle.rules.specs.Regions.{sector}
 use Rattle.rules.specs.Traces.{Op, program, erase}
-use Rattle.rules.specs.Format.{formatOps}
-use Rattle.rules.specs.Write.{Request, requestRegion, writeOps}
+use Rattle.rules.specs.Requests.{Request, requestRegion, Call, format, read, write, release, queue}
 use Rattle.rules.specs.Replies.{isAccepted}
-use Rattle.rules.specs.Calls.{Call, format, read, write, release, Outcome, outcomeOf}
+use Rattle.rules.specs.Calls.{Part, opsOf, outcomeOf, workOf}
 
 -- ---- a run
 
--- the board that a call leaves, and the reply that it gives
+-- the board that a call leaves, and the board after a run
 unfoldable pub leaves : Params → Board → Call → Board
 leaves p b c = (outcomeOf p b c) .board
 
-unfoldable pub replyTo : Params → Board → Call → Reply
-replyTo p b c = (outcomeOf p b c) .answer .reply
-
--- the board after a run, and the outcomes of its calls, in order
 unfoldable pub boardAfter : Params → Board → List Call → Board
 boardAfter p b [] = b
 boardAfter p b (c ∷ cs) = boardAfter p (leaves p b c) cs
 
-unfoldable pub outcomes : Params → Board → List Call → List Outcome
-outcomes p b [] = []
-outcomes p b (c ∷ cs) = outcomeOf p b c ∷ outcomes p (leaves p b c) cs
+-- "not formatted again"
+unfoldable pub isFormat : Call → Bool
+isFormat format = true
+isFormat (read q) = false
+isFormat (write q) = false
+isFormat (release c) = false
+isFormat (queue l) = false
 
--- ---- what a run does to the chip
+unfoldable pub noFormat : List Call → Bool
+noFormat [] = true
+noFormat (c ∷ cs) = not (isFormat c) && noFormat cs
 
--- the operations of a call: an accepted format's erases, an accepted write's programs and erase, no others
-unfoldable pub opsOf : Params → Board → Call → List Op
-opsOf p b format = cond (isAccepted (replyTo p b format)) (formatOps p (b .chip)) []
-opsOf p b (read q) = []
-opsOf p b (release c) = []
-opsOf p b (write q) = cond (isAccepted (replyTo p b (write q))) (writeOps p b q) []
+-- ---- what its requests get
 
--- those of the whole run, in order
+-- the parts of its calls, in order: T-01, "the items of calls that answer 0" are among them
+unfoldable pub partsOf : Params → Board → List Call → List Part
+partsOf p b [] = []
+partsOf p b (c ∷ cs) = (workOf p b c) .parts ++ partsOf p (leaves p b c) cs
+
+-- a read or a write counts to the region of its LBA, a release to that of its cluster, also where it is refused
+unfoldable pub toRegion : Params → ℕ → Call → Bool
+toRegion p r format = false
+toRegion p r (read q) = eqb (requestRegion p q) r
+toRegion p r (write q) = eqb (requestRegion p q) r
+toRegion p r (release c) = eqb (regionOf p c) r
+toRegion p r (queue l) = false
+
+unfoldable pub partsTo : Params → ℕ → List Part → List Part
+partsTo p r [] = []
+partsTo p r (x ∷ xs) = cond (toRegion p r (x .asks)) (x ∷ partsTo p r xs) (partsTo p r xs)
+
+-- the requests to a region, and what their callers are told: the reply with both counts, and the data
+pub record Told : Type 0 where
+  pub answer : Answer
+  pub bytes : List ℕ
+
+unfoldable pub requestsTo : Params → ℕ → List Part → List Call
+requestsTo p r xs = map (λ (x : Part). x .asks) (partsTo p r xs)
+
+unfoldable pub toldTo : Params → ℕ → List Part → List Told
+toldTo p r xs = map (λ (x : Part). record { answer = x .answer; bytes = x .bytes }) (partsTo p r xs)
+
+-- ---- what it does to the chip
+
 unfoldable pub traceOf : Params → Board → List Call → List Op
-traceOf p b [] = []
-traceOf p b (c ∷ cs) = opsOf p b c ++ traceOf p (leaves p b c) cs
+traceOf p b run = opsOf (partsOf p b run)
 
 -- an erase of block n is among them
 unfoldable pub erasesBlock : ℕ → List Op → Bool
@@ -72,63 +95,26 @@ Memory = ℕ → List ℕ
 unfoldable pub blank : Params → Memory
 blank p a = replicate (p .s) 255
 
--- the LBAs of a request have their part of its bytes
+-- the LBAs of a request have their part of its bytes; those of a cluster have nothing
 unfoldable pub given : Params → Request → Memory → Memory
 given p q m a = cond (leb (q .lba) a && ltb a (q .lba + q .count)) (part (p .s) (a - q .lba) (q .bytes)) (m a)
 
--- the LBAs of a cluster have nothing
 unfoldable pub cleared : Params → ℕ → Memory → Memory
 cleared p c m a = cond (eqb (clusterOf p a) c) (blank p a) (m a)
 
--- what an accepted call makes of it
+-- what an accepted request makes of it; a queue does so by its items
 unfoldable pub remember : Params → Call → Memory → Memory
 remember p format m = blank p
 remember p (read q) m = m
 remember p (write q) m = given p q m
 remember p (release c) m = cleared p c m
+remember p (queue l) m = m
 
--- "the bytes last accepted for it since the last accepted format", with T-03 "since the format or the last release", by the calls of a run and its outcomes' replies alone
-unfoldable pub memoryAfter : Params → Memory → List Call → List Outcome → Memory
-memoryAfter p m [] os = m
-memoryAfter p m (c ∷ cs) [] = m
-memoryAfter p m (c ∷ cs) (o ∷ os) = memoryAfter p (cond (isAccepted (o .answer .reply)) (remember p c m) m) cs os
+-- "the bytes last accepted for it since the last accepted format", with T-03 "since the format or the last release", by the requests and their replies alone
+unfoldable pub memoryAfter : Params → Memory → List Part → Memory
+memoryAfter p m [] = m
+memoryAfter p m (x ∷ xs) = memoryAfter p (cond (isAccepted (x .answer .reply)) (remember p (x .asks) m) m) xs
 
 -- what an LBA reads as
 unfoldable pub sectorAt : Params → Board → Memory
 sectorAt p b a = sector p b (clusterOf p a) (sectorOf p a)
-
--- ---- one region of a run
-
--- a read or a write counts to the region of its LBA, a release to that of its cluster, also where it is refused
-unfoldable pub toRegion : Params → ℕ → Call → Bool
-toRegion p r format = false
-toRegion p r (read q) = eqb (requestRegion p q) r
-toRegion p r (write q) = eqb (requestRegion p q) r
-toRegion p r (release c) = eqb (regionOf p c) r
-
--- the requests to a region, in order
-unfoldable pub requestsTo : Params → ℕ → List Call → List Call
-requestsTo p r [] = []
-requestsTo p r (c ∷ cs) = cond (toRegion p r c) (c ∷ requestsTo p r cs) (requestsTo p r cs)
-
--- what the caller of a request gets: the reply with both counts, and the data
-pub record Told : Type 0 where
-  pub answer : Answer
-  pub bytes : List ℕ
-
--- that part of an outcome; the rest is the board
-unfoldable pub told : Outcome → Told
-told o = record { answer = o .answer; bytes = o .bytes }
-
--- what the callers of the requests to a region get, in order
-unfoldable pub answersTo : Params → ℕ → Board → List Call → List Told
-answersTo p r b [] = []
-answersTo p r b (c ∷ cs) = cond (toRegion p r c) (told (outcomeOf p b c) ∷ answersTo p r (leaves p b c) cs) (answersTo p r (leaves p b c) cs)
-
--- "not formatted again"
-unfoldable pub noFormat : List Call → Bool
-noFormat [] = true
-noFormat (format ∷ cs) = false
-noFormat (read q ∷ cs) = noFormat cs
-noFormat (write q ∷ cs) = noFormat cs
-noFormat (release c ∷ cs) = noFormat cs

@@ -9,17 +9,17 @@ use lib.ListN.{getD, length}
 use Rattle.rules.specs.declared.Params.{Params}
 use Rattle.rules.specs.Parameters.{allowed}
 use Rattle.rules.specs.Tables.{Board}
-use Rattle.why.specs.Why.{markedWhy}
+use Rattle.why.specs.Why.{whyOf}
 use Rattle.listing.specs.Told.{tells}
 
 -- 1 or 2 where the list has not twelve entries
-unfoldable pub toldReply : Params → Board → List ℕ → ℕ → List ℕ → ℕ
-toldReply p b marks lba list = cond (eqb (length list) 12) (getD (markedWhy p b marks lba) 0 0) (cond (allowed p) 2 1)
+unfoldable pub toldReply : Params → Board → ℕ → List ℕ → ℕ
+toldReply p b lba list = cond (eqb (length list) 12) (getD (whyOf p b lba) 0 0) (cond (allowed p) 2 1)
 
 -- the list: the answer's numbers where it is told, else as it was lent
-unfoldable pub toldList : Params → Board → List ℕ → ℕ → List ℕ → List ℕ
-toldList p b marks lba list = cond (eqb (length list) 12 && tells (getD (markedWhy p b marks lba) 0 0)) (markedWhy p b marks lba) list
+unfoldable pub toldList : Params → Board → ℕ → List ℕ → List ℕ
+toldList p b lba list = cond (eqb (length list) 12 && tells (getD (whyOf p b lba) 0 0)) (whyOf p b lba) list
 
-pub record Listed (p : Params) (b : Board) (marks : List ℕ) (lba : ℕ) (list : List ℕ) (word : ℕ) (list′ : List ℕ) : Type 0 where
-  pub reply : word ≡ toldReply p b marks lba list
-  pub numbers : list′ ≡ toldList p b marks lba list
+pub record Listed (p : Params) (b : Board) (lba : ℕ) (list : List ℕ) (word : ℕ) (list′ : List ℕ) : Type 0 where
+  pub reply : word ≡ toldReply p b lba list
+  pub numbers : list′ ≡ toldList p b lba list

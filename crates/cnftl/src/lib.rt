@@ -2,10 +2,9 @@
 ghost use mathlib.Core.Path.{_≡_};
 ghost use mathlib.Core.List.{[]};
 ghost use Rattle.rules.specs.Tables.{boardOf};
-ghost use Rattle.rules.specs.Calls.{format, read, write, release};
-ghost use Rattle.marks.specs.MarkedCalls.{markedCall};
+ghost use Rattle.rules.specs.Calls.{outcomeOf};
+ghost use Rattle.rules.specs.Requests.{format, read, write, release};
 ghost use Rattle.reading.specs.Sectors.{requestOf};
-ghost use Rattle.heads.specs.Heads.{lentBoard};
 ghost use Rattle.flat.specs.Flat.{flatCall, flatOutcome};
 ghost use Rattle.packing.specs.Packed.{paramsOf};
 ghost use Rattle.cnftl.specs.Packed.{Given};
@@ -30,7 +29,7 @@ pub extern "C" fn cnftl_format(
     wear: &mut [u32],
     marks: &mut [u64],
 ) -> u64
-    ensures { λ word. ⌜ Given (markedCall (paramsOf s alpha beta d mu gamma c n) (boardOf (now (chip .entry)) (now (ct .entry)) (now (bt .entry)) (now (fst .entry)) (now (bst .entry)) (now (wear .entry))) (now (marks .entry)) format) word [] (boardOf (now (chip .exit)) (now (ct .exit)) (now (bt .exit)) (now (fst .exit)) (now (bst .exit)) (now (wear .exit))) (now (marks .exit)) ⌝ }
+    ensures { λ word. ⌜ Given (outcomeOf (paramsOf s alpha beta d mu gamma c n) (boardOf (now (chip .entry)) (now (ct .entry)) (now (bt .entry)) (now (fst .entry)) (now (bst .entry)) (now (wear .entry)) (now (marks .entry))) format) word [] (boardOf (now (chip .exit)) (now (ct .exit)) (now (bt .exit)) (now (fst .exit)) (now (bst .exit)) (now (wear .exit)) (now (marks .exit))) ⌝ }
 {
     let p = packing::params(s, alpha, beta, d, mu, gamma, c, n);
     packing::pack(layer::format(p, chip, ct, bt, fst, bst, wear, marks))
@@ -58,7 +57,7 @@ pub extern "C" fn cnftl_read(
     count: u32,
     bytes: &mut [u8],
 ) -> u64
-    ensures { λ word. ⌜ Given (markedCall (paramsOf s alpha beta d mu gamma c n) (boardOf (now (chip .entry)) (now (ct .entry)) (now (bt .entry)) (now (fst .entry)) (now (bst .entry)) (now (wear .entry))) (now (marks .entry)) (read (requestOf lba count (now (bytes .entry))))) word (now (bytes .exit)) (boardOf (now (chip .entry)) (now (ct .entry)) (now (bt .entry)) (now (fst .entry)) (now (bst .entry)) (now (wear .entry))) (now (marks .entry)) ⌝ }
+    ensures { λ word. ⌜ Given (outcomeOf (paramsOf s alpha beta d mu gamma c n) (boardOf (now (chip .entry)) (now (ct .entry)) (now (bt .entry)) (now (fst .entry)) (now (bst .entry)) (now (wear .entry)) (now (marks .entry))) (read (requestOf lba count (now (bytes .entry))))) word (now (bytes .exit)) (boardOf (now (chip .entry)) (now (ct .entry)) (now (bt .entry)) (now (fst .entry)) (now (bst .entry)) (now (wear .entry)) (now (marks .entry))) ⌝ }
 {
     let p = packing::params(s, alpha, beta, d, mu, gamma, c, n);
     packing::pack(layer::read(p, chip, ct, bt, fst, bst, wear, marks, lba, count, bytes))
@@ -86,7 +85,7 @@ pub extern "C" fn cnftl_write(
     count: u32,
     bytes: &[u8],
 ) -> u64
-    ensures { λ word. ⌜ Given (markedCall (paramsOf s alpha beta d mu gamma c n) (boardOf (now (chip .entry)) (now (ct .entry)) (now (bt .entry)) (now (fst .entry)) (now (bst .entry)) (now (wear .entry))) (now (marks .entry)) (write (requestOf lba count (now (bytes .entry))))) word (now (bytes .entry)) (boardOf (now (chip .exit)) (now (ct .exit)) (now (bt .exit)) (now (fst .exit)) (now (bst .exit)) (now (wear .exit))) (now (marks .exit)) ⌝ }
+    ensures { λ word. ⌜ Given (outcomeOf (paramsOf s alpha beta d mu gamma c n) (boardOf (now (chip .entry)) (now (ct .entry)) (now (bt .entry)) (now (fst .entry)) (now (bst .entry)) (now (wear .entry)) (now (marks .entry))) (write (requestOf lba count (now (bytes .entry))))) word (now (bytes .entry)) (boardOf (now (chip .exit)) (now (ct .exit)) (now (bt .exit)) (now (fst .exit)) (now (bst .exit)) (now (wear .exit)) (now (marks .exit))) ⌝ }
 {
     let p = packing::params(s, alpha, beta, d, mu, gamma, c, n);
     packing::pack(layer::write(p, chip, ct, bt, fst, bst, wear, marks, lba, count, bytes))
@@ -114,7 +113,7 @@ pub extern "C" fn cnftl_queue(
     bytes: &[u8],
     answers: &mut [u64],
 ) -> u64
-    ensures { λ word. ⌜ flatOutcome word (now (answers .exit)) (lentBoard (now (chip .exit)) (now (ct .exit)) (now (bt .exit)) (now (fst .exit)) (now (bst .exit)) (now (wear .exit)) (now (marks .exit))) ≡ flatCall (paramsOf s alpha beta d mu gamma c n) (lentBoard (now (chip .entry)) (now (ct .entry)) (now (bt .entry)) (now (fst .entry)) (now (bst .entry)) (now (wear .entry)) (now (marks .entry))) (now (requests .entry)) (now (bytes .entry)) (now (answers .entry)) ⌝ }
+    ensures { λ word. ⌜ flatOutcome word (now (answers .exit)) (boardOf (now (chip .exit)) (now (ct .exit)) (now (bt .exit)) (now (fst .exit)) (now (bst .exit)) (now (wear .exit)) (now (marks .exit))) ≡ flatCall (paramsOf s alpha beta d mu gamma c n) (boardOf (now (chip .entry)) (now (ct .entry)) (now (bt .entry)) (now (fst .entry)) (now (bst .entry)) (now (wear .entry)) (now (marks .entry))) (now (requests .entry)) (now (bytes .entry)) (now (answers .entry)) ⌝ }
 {
     let p = packing::params(s, alpha, beta, d, mu, gamma, c, n);
     flat::queue(
@@ -152,7 +151,7 @@ pub extern "C" fn cnftl_release(
     marks: &mut [u64],
     cluster: u32,
 ) -> u64
-    ensures { λ word. ⌜ Given (markedCall (paramsOf s alpha beta d mu gamma c n) (boardOf (now (chip .entry)) (now (ct .entry)) (now (bt .entry)) (now (fst .entry)) (now (bst .entry)) (now (wear .entry))) (now (marks .entry)) (release cluster)) word [] (boardOf (now (chip .entry)) (now (ct .exit)) (now (bt .entry)) (now (fst .entry)) (now (bst .entry)) (now (wear .entry))) (now (marks .exit)) ⌝ }
+    ensures { λ word. ⌜ Given (outcomeOf (paramsOf s alpha beta d mu gamma c n) (boardOf (now (chip .entry)) (now (ct .entry)) (now (bt .entry)) (now (fst .entry)) (now (bst .entry)) (now (wear .entry)) (now (marks .entry))) (release cluster)) word [] (boardOf (now (chip .entry)) (now (ct .exit)) (now (bt .entry)) (now (fst .entry)) (now (bst .entry)) (now (wear .entry)) (now (marks .exit))) ⌝ }
 {
     let p = packing::params(s, alpha, beta, d, mu, gamma, c, n);
     packing::pack(layer::release(p, chip, ct, bt, fst, bst, wear, marks, cluster))
@@ -179,7 +178,7 @@ pub extern "C" fn cnftl_why(
     lba: u32,
     list: &mut [u32],
 ) -> u64
-    ensures { λ word. ⌜ Listed (paramsOf s alpha beta d mu gamma c n) (boardOf (now (chip .entry)) (now (ct .entry)) (now (bt .entry)) (now (fst .entry)) (now (bst .entry)) (now (wear .entry))) (now (marks .entry)) lba (now (list .entry)) word (now (list .exit)) ⌝ }
+    ensures { λ word. ⌜ Listed (paramsOf s alpha beta d mu gamma c n) (boardOf (now (chip .entry)) (now (ct .entry)) (now (bt .entry)) (now (fst .entry)) (now (bst .entry)) (now (wear .entry)) (now (marks .entry))) lba (now (list .entry)) word (now (list .exit)) ⌝ }
 {
     let p = packing::params(s, alpha, beta, d, mu, gamma, c, n);
     if list.len() != 12 {

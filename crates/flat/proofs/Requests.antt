@@ -5,7 +5,7 @@ use mathlib.Core.List.{List, [], _∷_}
 use Prim.Native.Nat.{ℕ, zero, suc, _+_, _*_, _/_, _≤_}
 use native.Mathlib.Omega.{arith}
 use lib.ListN.{drop, getD, length}
-use Rattle.queued.specs.declared.Item.{Item}
+use Rattle.rules.specs.declared.Item.{Item}
 use Rattle.flat.specs.Flat.{itemsOf, requestAt}
 
 pub items-length : (l : List ℕ) → length (itemsOf l) ≡ length l / 3

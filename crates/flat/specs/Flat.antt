@@ -1,19 +1,21 @@
 -- T-01's queue as C lends it: the requests as a flat list, three numbers to each, and the answers as numbers.
 -- Assumes nothing.
-use Prim.Native.Nat.{ℕ, _+_, _*_, _≤_, _<_}
+use Prim.Native.Nat.{ℕ, _+_, _*_, _%_, _≤_, _<_}
 use mathlib.Core.Path.{_≡_}
-use mathlib.Core.Bool.{Bool, cond}
-use mathlib.Core.List.{List, [], _∷_, _++_, map}
-use lib.ListN.{drop, getD, length, set}
+use mathlib.Core.Bool.{Bool, _||_, cond}
+use mathlib.Core.List.{List, [], _∷_, map}
+use lib.Dec.{eqb}
+use lib.ListN.{getD, length, replicate, set}
 use Rattle.rules.specs.declared.Params.{Params}
-use Rattle.rules.specs.Calls.{answerOf}
-use Rattle.rules.specs.Replies.{isAccepted}
-use Rattle.marks.specs.MarkedConditions.{MarkedBoard, markedAfter, markedLeaves, markedOutcomeOf, markedOutcomes}
-use Rattle.queued.specs.declared.Item.{Item}
-use Rattle.queued.specs.Queue.{itemWrite, itemWrites}
-use Rattle.heads.specs.Heads.{Ready, flatReply}
-use Rattle.items.specs.Items.{itemOf}
-use Rattle.packing.specs.Packed.{packed, packedIn}
+use Rattle.rules.specs.declared.Item.{Item}
+use Rattle.rules.specs.declared.Reply.the-variants.{Accepted, WrongLength}
+use Rattle.rules.specs.Tables.{Board}
+use Rattle.rules.specs.Requests.{Queue, itemOf, queue, queueOf}
+use Rattle.rules.specs.Replies.{badParameter}
+use Rattle.rules.specs.Calls.{answerOf, answersIn, outcomeOf, over, workOf}
+use Rattle.queued.specs.Served.{itemOutcome}
+use Rattle.heads.specs.Heads.{Ready}
+use Rattle.packing.specs.Packed.{packed}
 
 -- the requests: LBA, count and first byte, one after the other
 abbrev pub itemsOf : List ℕ → List Item
@@ -22,23 +24,27 @@ itemsOf (lba ∷ []) = []
 itemsOf (lba ∷ count ∷ []) = []
 itemsOf (lba ∷ count ∷ first ∷ rest) = itemOf lba count first ∷ itemsOf rest
 
+-- the queue of these requests, with as many answers lent; what they hold makes no difference
+abbrev pub flatQueue : List ℕ → List ℕ → List ℕ → Queue
+flatQueue requests bytes answers = queueOf (itemsOf requests) bytes (replicate (length answers) (answerOf Accepted []))
+
 -- the call's own number, the answer list, and chip and tables, as the call leaves them
 pub record FlatOutcome : Type 0 where
   pub word : ℕ
   pub answers : List ℕ
-  pub left : MarkedBoard
+  pub left : Board
 
-abbrev pub flatOutcome : ℕ → List ℕ → MarkedBoard → FlatOutcome
-flatOutcome word answers x = record { word = word; answers = answers; left = x }
+abbrev pub flatOutcome : ℕ → List ℕ → Board → FlatOutcome
+flatOutcome word answers b = record { word = word; answers = answers; left = b }
 
--- as `queueCall`, with each answer "packed as the single call's"
-unfoldable pub flatCall : Params → MarkedBoard → List ℕ → List ℕ → List ℕ → FlatOutcome
-flatCall p x requests bytes answers =
-    let r = flatReply p x (length requests) (length answers) in
-    let ws = itemWrites p bytes (itemsOf requests) in
-    cond (isAccepted r)
-    (flatOutcome (packed (answerOf r [])) (map packedIn (markedOutcomes p x ws) ++ drop (length (itemsOf requests)) answers) (markedAfter p x ws))
-    (flatOutcome (packed (answerOf r [])) answers x)
+-- the queue's outcome, with each answer packed as the single call's; but "a list whose length is no multiple of three is reply 2", after 1
+unfoldable pub flatCall : Params → Board → List ℕ → List ℕ → List ℕ → FlatOutcome
+flatCall p b requests bytes answers =
+    let c = queue (flatQueue requests bytes answers) in
+    let o = outcomeOf p b c in
+    cond (badParameter p || eqb (length requests % 3) 0)
+    (flatOutcome (packed (o .answer)) (over (map packed (answersIn ((workOf p b c) .parts))) answers) (o .board))
+    (flatOutcome (packed (answerOf WrongLength [])) answers b)
 
 -- ---- as the loop goes
 
@@ -52,13 +58,13 @@ pub record TurnAsked (requests answers : List ℕ) (i : ℕ) : Type 0 where
   pub place : i < length answers
 
 -- and what it does: the item's write, its answer in its place
-pub record TurnDone (p : Params) (ordered : Bool) (x : MarkedBoard) (requests bytes answers : List ℕ) (i : ℕ) (x′ : MarkedBoard) (answers′ : List ℕ) : Type 0 where
-  pub answered : answers′ ≡ set answers i (packedIn (markedOutcomeOf p x (itemWrite p bytes (requestAt requests i))))
-  pub left : x′ ≡ markedLeaves p x (itemWrite p bytes (requestAt requests i))
-  pub ready : Ready p ordered x′
+pub record TurnDone (p : Params) (ordered : Bool) (b : Board) (requests bytes answers : List ℕ) (i : ℕ) (b′ : Board) (answers′ : List ℕ) : Type 0 where
+  pub answered : answers′ ≡ set answers i (packed ((itemOutcome p bytes b (requestAt requests i)) .answer))
+  pub left : b′ ≡ (itemOutcome p bytes b (requestAt requests i)) .board
+  pub ready : Ready p ordered b′
 
 -- what n turns ask
-pub record TurnsAsked (p : Params) (ordered : Bool) (x : MarkedBoard) (requests answers : List ℕ) (n : ℕ) : Type 0 where
+pub record TurnsAsked (p : Params) (ordered : Bool) (b : Board) (requests answers : List ℕ) (n : ℕ) : Type 0 where
   pub asked : 3 * n ≤ length requests
   pub places : n ≤ length answers
-  pub ready : 0 < n → Ready p ordered x
+  pub ready : 0 < n → Ready p ordered b

@@ -2,8 +2,9 @@
 ghost use mathlib.Core.Path.{_≡_};
 ghost use lib.ListN.{take};
 ghost use Rattle.queued.specs.Served.{servedFrom};
-ghost use Rattle.heads.specs.Heads.{Ready, lentBoard};
-ghost use Rattle.packing.specs.Packed.{packedIn};
+ghost use Rattle.rules.specs.Tables.{boardOf};
+ghost use Rattle.heads.specs.Heads.{Ready};
+ghost use Rattle.packing.specs.Packed.{packed};
 ghost use Rattle.flat.specs.Flat.{TurnAsked, TurnDone, TurnsAsked, flatCall, flatOutcome, itemsOf};
 use rules::Params;
 
@@ -24,9 +25,9 @@ fn turn(
     answers: &mut [u64],
     i: usize,
 )
-    requires { ⌜ Ready p ordered (lentBoard (now chip) (now ct) (now bt) (now fst) (now bst) (now wear) (now marks)) ⌝ }
+    requires { ⌜ Ready p ordered (boardOf (now chip) (now ct) (now bt) (now fst) (now bst) (now wear) (now marks)) ⌝ }
     requires { ⌜ TurnAsked (now requests) (now answers) i ⌝ }
-    ensures { λ _. ⌜ TurnDone p ordered (lentBoard (now (chip .entry)) (now (ct .entry)) (now (bt .entry)) (now (fst .entry)) (now (bst .entry)) (now (wear .entry)) (now (marks .entry))) (now (requests .entry)) (now (bytes .entry)) (now (answers .entry)) i (lentBoard (now (chip .exit)) (now (ct .exit)) (now (bt .exit)) (now (fst .exit)) (now (bst .exit)) (now (wear .exit)) (now (marks .exit))) (now (answers .exit)) ⌝ }
+    ensures { λ _. ⌜ TurnDone p ordered (boardOf (now (chip .entry)) (now (ct .entry)) (now (bt .entry)) (now (fst .entry)) (now (bst .entry)) (now (wear .entry)) (now (marks .entry))) (now (requests .entry)) (now (bytes .entry)) (now (answers .entry)) i (boardOf (now (chip .exit)) (now (ct .exit)) (now (bt .exit)) (now (fst .exit)) (now (bst .exit)) (now (wear .exit)) (now (marks .exit))) (now (answers .exit)) ⌝ }
 {
     let a = items::item(
         p,
@@ -63,8 +64,8 @@ fn turns(
     answers: &mut [u64],
     n: usize,
 )
-    requires { ⌜ TurnsAsked p ordered (lentBoard (now chip) (now ct) (now bt) (now fst) (now bst) (now wear) (now marks)) (now requests) (now answers) n ⌝ }
-    ensures { λ _. ⌜ (lentBoard (now (chip .exit)) (now (ct .exit)) (now (bt .exit)) (now (fst .exit)) (now (bst .exit)) (now (wear .exit)) (now (marks .exit)), now (answers .exit)) ≡ servedFrom packedIn p (now (bytes .entry)) (take n (itemsOf (now (requests .entry)))) 0 (lentBoard (now (chip .entry)) (now (ct .entry)) (now (bt .entry)) (now (fst .entry)) (now (bst .entry)) (now (wear .entry)) (now (marks .entry))) (now (answers .entry)) ⌝ }
+    requires { ⌜ TurnsAsked p ordered (boardOf (now chip) (now ct) (now bt) (now fst) (now bst) (now wear) (now marks)) (now requests) (now answers) n ⌝ }
+    ensures { λ _. ⌜ (boardOf (now (chip .exit)) (now (ct .exit)) (now (bt .exit)) (now (fst .exit)) (now (bst .exit)) (now (wear .exit)) (now (marks .exit)), now (answers .exit)) ≡ servedFrom packed p (now (bytes .entry)) (take n (itemsOf (now (requests .entry)))) 0 (boardOf (now (chip .entry)) (now (ct .entry)) (now (bt .entry)) (now (fst .entry)) (now (bst .entry)) (now (wear .entry)) (now (marks .entry))) (now (answers .entry)) ⌝ }
 {
     let mut i = 0;
     while i < n {
@@ -101,7 +102,7 @@ pub fn queue(
     bytes: &[u8],
     answers: &mut [u64],
 ) -> u64
-    ensures { λ word. ⌜ flatOutcome word (now (answers .exit)) (lentBoard (now (chip .exit)) (now (ct .exit)) (now (bt .exit)) (now (fst .exit)) (now (bst .exit)) (now (wear .exit)) (now (marks .exit))) ≡ flatCall p (lentBoard (now (chip .entry)) (now (ct .entry)) (now (bt .entry)) (now (fst .entry)) (now (bst .entry)) (now (wear .entry)) (now (marks .entry))) (now (requests .entry)) (now (bytes .entry)) (now (answers .entry)) ⌝ }
+    ensures { λ word. ⌜ flatOutcome word (now (answers .exit)) (boardOf (now (chip .exit)) (now (ct .exit)) (now (bt .exit)) (now (fst .exit)) (now (bst .exit)) (now (wear .exit)) (now (marks .exit))) ≡ flatCall p (boardOf (now (chip .entry)) (now (ct .entry)) (now (bt .entry)) (now (fst .entry)) (now (bst .entry)) (now (wear .entry)) (now (marks .entry))) (now (requests .entry)) (now (bytes .entry)) (now (answers .entry)) ⌝ }
 {
     let h = heads::head_flat(
         p,

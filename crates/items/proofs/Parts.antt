@@ -1,100 +1,69 @@
 -- The two ends of an item: refused by its reply's number, and accepted with its work done. Both are the single write that it asks for.
 -- Assumes nothing.
 use mathlib.Core.Path.{_≡_, refl, sym, ap, _∙_}
-use mathlib.Core.Bool.{Bool, true, false, not, _&&_}
+use mathlib.Core.Bool.{Bool, true, false, not}
 use mathlib.Core.List.{List, []}
 use Prim.Native.Nat.{ℕ, _+_, _*_, _-_, _≤_}
 use lib.ListN.{length, take, drop}
 use borrow.Author.Tests.{leb-true, not-false}
-use Rattle.lists.proofs.Tests.{and-intro}
 use Rattle.loops.proofs.Lent.{width}
 use Rattle.rules.specs.declared.Params.{Params}
 use Rattle.rules.specs.declared.Reply.{Reply}
 use Rattle.rules.specs.declared.Reply.the-variants.{Accepted}
 use Rattle.rules.specs.declared.Answer.{Answer}
-use Rattle.rules.specs.Orderly.{orderly}
-use Rattle.rules.specs.Calls.{Call, answerOf, outcomeOf, refuses, writeCall}
-use Rattle.rules.specs.Replies.{accessReply, badCount, badParameter, lengthsFit, numberOf, wrongData}
+use Rattle.rules.specs.declared.Item.{Item}
 use Rattle.rules.specs.Tables.{Board}
-use Rattle.rules.specs.Write.{Request, written}
-use Rattle.rules.proofs.Admitted.{access-checks}
-use Rattle.claims.specs.Runs.{leaves}
-use Rattle.claims.proofs.Condition1.{condition-1}
-use Rattle.claims.proofs.Outcomes.{accepted-by, is-refused, write-leaves, write-reply}
-use Rattle.marks.specs.Marks.{marksLength, marksOf, marksRule}
-use Rattle.marks.specs.MarkedCalls.{MarkedOutcome, asksOrder, markedReply, wrongMark, wrongMarksLength}
-use Rattle.marks.specs.MarkedConditions.{MarkedBoard, markedLeaves, markedOutcomeOf}
-use Rattle.marks.proofs.MarkedReplies.{given, given-accepted, given-refused, none-wrong}
-use Rattle.marks.proofs.MarkedRuns.{marks-length, withMarks}
-use Rattle.marks.proofs.Tables.{right, rule-of}
-use Rattle.queued.specs.declared.Item.{Item}
-use Rattle.queued.specs.Queue.{itemRequest, itemWrite, lies}
+use Rattle.rules.specs.Orderly.{orderly}
+use Rattle.rules.specs.Requests.{Request, itemRequest, lies, write}
+use Rattle.rules.specs.Replies.{badCount, isAccepted, lengthsFit, numberOf, replyOf, wrongData}
+use Rattle.rules.specs.Calls.{Outcome, answerOf, outcomeOf}
+use Rattle.rules.proofs.Admitted.{Checks, write-checks}
+use Rattle.rules.proofs.ItemData.{item-data}
+use Rattle.rules.proofs.Outcomes.{accepted-by, call-refused, is-refused, write-accepted}
+use Rattle.rules.proofs.WritePromise.{write-promise}
+use Rattle.queued.specs.Served.{itemOutcome}
 use Rattle.reading.specs.Sectors.{requestOf}
-use Rattle.writing.specs.Gives.{Gives}
+use Rattle.ends.specs.Claims.{outcome}
 use Rattle.heads.specs.Heads.{Ready}
 use Rattle.items.specs.Items.{ItemIs}
-use Rattle.queued.proofs.Queues.{data-in-its-turn}
-
--- what a call with the marks leaves, read off its outcome
-abbrev left-in : MarkedOutcome → MarkedBoard
-left-in o = record { board = o .outcome .board; marks = o .marks }
 
 -- what the reply of an item promises
 abbrev Replied : Params → Bool → ℕ → ℕ → Bool → Reply → Type 0
 Replied p ordered lba count fits r =
-    (b : Board) (marks : List ℕ) (q : Request) → lengthsFit p b ≡ true → length marks ≡ marksLength p → ordered ≡ orderly p b && marksRule p b marks
-    → q .lba ≡ lba → q .count ≡ count → (badCount p q ≡ false → wrongData p q ≡ not fits) → r ≡ markedReply p b marks true (accessReply p b q)
+    (b : Board) (q : Request) → lengthsFit p b ≡ true → ordered ≡ orderly p b → q .lba ≡ lba → q .count ≡ count
+    → (badCount p q ≡ false → wrongData p q ≡ not fits) → r ≡ replyOf p b (write q)
 
-module _ (p : Params) (ordered : Bool) (x : MarkedBoard) (y : Ready p ordered x) (bytes : List ℕ) (it : Item) where
+module _ (p : Params) (ordered : Bool) (b : Board) (y : Ready p ordered b) (bytes : List ℕ) (it : Item) where
   -- the write that it asks for
   abbrev request : Request
   request = itemRequest p bytes it
 
-  abbrev call : Call
-  call = itemWrite p bytes it
-
   -- replied by its count, its address, whether its bytes lie there, and the flag
   module _ (fits : Bool) (fit : fits ≡ lies p bytes it) (r : Reply) (replied : Replied p ordered (it .lba) (it .count) fits r) (n : ℕ) (m : n ≡ numberOf r) where
-    is : r ≡ markedReply p (x .board) (x .marks) true (accessReply p (x .board) request)
+    is : r ≡ replyOf p b (write request)
     unfolding itemRequest
-    is =
-        replied (x .board) (x .marks) request (y .lengths) (y .entries) (y .order) refl refl
-        (λ e. data-in-its-turn p bytes it (y .fine) e ∙ ap not (sym fit))
+    is = replied b request (y .lengths) (y .order) refl refl (λ e. item-data p bytes it (y .fine) e ∙ ap not (sym fit))
 
-    given-is : r ≡ given p x call
-    unfolding itemWrite asksOrder
-    given-is = rw (write-reply p (x .board) request) is
-
-    pub item-refused : (n ≡ 0 → ⊥) → (a : Answer) → a ≡ answerOf r [] → ItemIs p ordered x bytes it a x
-    unfolding markedLeaves markedOutcomeOf refuses
+    pub item-refused : (n ≡ 0 → ⊥) → (a : Answer) → a ≡ answerOf r [] → ItemIs p ordered b bytes it a b
+    unfolding itemOutcome
     item-refused ne a an =
-        let o = given-refused p x call (rw (← given-is) (is-refused r (λ (e : r ≡ Accepted). ne (m ∙ ap numberOf e)))) in
+        let no : isAccepted (replyOf p b (write request)) ≡ false = rw (← is) (is-refused r (λ (e : r ≡ Accepted). ne (m ∙ ap numberOf e))) in
+        let o = call-refused p b (write request) no in
         record {
-          answered = an ∙ ap (λ (k : Reply). answerOf k []) given-is ∙ sym (ap (λ (k : MarkedOutcome). k .outcome .answer) o);
-          left = sym (ap left-in o);
+          answered = an ∙ ap (λ (k : Reply). answerOf k []) is ∙ sym (ap (λ (k : Outcome). k .answer) o);
+          left = sym (ap (λ (k : Outcome). k .board) o);
           ready = y;
         }
 
     module _ (z : n ≡ 0) where
-      -- it passes without the marks, and no mark is wrong
-      both : (wrongMark p (x .board) (x .marks) ≡ false) × (accessReply p (x .board) request ≡ Accepted)
-      unfolding markedReply
-      both = (none-wrong (badParameter p) (wrongMarksLength p (x .marks)) (wrongMark p (x .board) (x .marks)) (accessReply p (x .board) request) (sym is ∙ accepted-by r n m z)) .1
+      accepted : replyOf p b (write request) ≡ Accepted
+      accepted = sym is ∙ accepted-by r n m z
 
-      right-marks : marksRule p (x .board) (x .marks) ≡ true
-      unfolding wrongMark
-      right-marks = not-false _ (both .0)
-
-      pub marks-are : x .marks ≡ marksOf p (x .board)
-      marks-are = right p (x .board) (x .marks) (y .entries) right-marks
-
-      flag-set : ordered ≡ true
-      flag-set = y .order ∙ and-intro ((access-checks p (x .board) request (both .1)) .tidy) right-marks
+      checks : Checks p b request
+      checks = write-checks p b request accepted
 
       there : lies p bytes it ≡ true
-      there =
-          let c = access-checks p (x .board) request (both .1) in
-          not-false _ (sym (data-in-its-turn p bytes it (y .fine) (c .count)) ∙ c .given)
+      there = not-false _ (sym (item-data p bytes it (y .fine) (checks .count)) ∙ checks .given)
 
       pub inside : it .first + it .count * p .s ≤ length bytes
       unfolding lies
@@ -108,32 +77,19 @@ module _ (p : Params) (ordered : Bool) (x : MarkedBoard) (y : Ready p ordered x)
       unfolding itemRequest
       asked-is = rw (there, width)
 
-      pub asked-accepted : accessReply p (x .board) asked ≡ Accepted
-      asked-accepted = rw asked-is (both .1)
+      pub asked-accepted : replyOf p b (write asked) ≡ Accepted
+      asked-accepted = rw asked-is accepted
 
       -- what an accepted write leaves is in order
-      ready-after : Ready p ordered (withMarks p (leaves p (x .board) call))
-      unfolding itemWrite
+      ready-after : Ready p ordered ((itemOutcome p bytes b it) .board)
+      unfolding itemOutcome
       ready-after =
-          let s = (condition-1 p (x .board) call) .accepted (write-reply p (x .board) request ∙ both .1) .state in
-          record {
-            fine = y .fine;
-            lengths = s .lengths;
-            entries = marks-length p _;
-            order = flag-set ∙ sym (and-intro (s .tidy) (rule-of p _));
-          }
+          let w = write-promise p b request accepted in
+          rw (write-accepted p b request accepted) (record { fine = y .fine; lengths = w .lengths; order = y .order ∙ checks .tidy ∙ sym (w .orderlyLeft) })
 
-      pub item-done : (a : Answer) (b : Board) (marks : List ℕ) → Gives (writeCall p (x .board) asked) a b → marks ≡ marksOf p (written p (x .board) asked)
-          → ItemIs p ordered x bytes it a (record { board = b; marks = marks })
-      unfolding itemWrite markedLeaves markedOutcomeOf leaves outcomeOf
-      item-done a b marks g em =
-          let o = given-accepted p x call (sym given-is ∙ accepted-by r n m z) in
-          let board-is : b ≡ leaves p (x .board) call = g .board ∙ ap (λ (q : Request). (writeCall p (x .board) q) .board) asked-is in
-          let marks-is : marks ≡ marksOf p (leaves p (x .board) call) =
-          em ∙ ap (λ (q : Request). marksOf p (written p (x .board) q)) asked-is ∙ ap (marksOf p) (sym (write-leaves p (x .board) request (both .1)))
-          in
-          record {
-            answered = g .answer ∙ ap (λ (q : Request). (writeCall p (x .board) q) .answer) asked-is ∙ sym (ap (λ (k : MarkedOutcome). k .outcome .answer) o);
-            left = (λ i. record { board = board-is i; marks = marks-is i }) ∙ sym (ap left-in o);
-            ready = rw (board-is, marks-is) ready-after;
-          }
+      pub item-done : (a : Answer) (b′ : Board) → outcome a (asked .bytes) [] b′ ≡ outcomeOf p b (write asked) → ItemIs p ordered b bytes it a b′
+      unfolding itemOutcome
+      item-done a b′ e =
+          let same : outcome a (asked .bytes) [] b′ ≡ outcomeOf p b (write request) = e ∙ ap (λ (q : Request). outcomeOf p b (write q)) asked-is in
+          let left : b′ ≡ (outcomeOf p b (write request)) .board = ap (λ (k : Outcome). k .board) same in
+          record { answered = ap (λ (k : Outcome). k .answer) same; left = left; ready = rw left (unfold itemOutcome in ready-after) }

@@ -6,9 +6,10 @@ ghost use mathlib.Core.List.{List};
 ghost use Prim.Native.Nat.{ℕ};
 ghost use lib.ListN.{length};
 ghost use Rattle.rules.specs.Parameters.{allowed};
-ghost use Rattle.queued.specs.Queue.{lies};
-ghost use Rattle.heads.specs.Heads.{Ready, lentBoard};
-ghost use Rattle.items.specs.Items.{ItemIs, itemOf};
+ghost use Rattle.rules.specs.Tables.{boardOf};
+ghost use Rattle.rules.specs.Requests.{itemOf, lies};
+ghost use Rattle.heads.specs.Heads.{Ready};
+ghost use Rattle.items.specs.Items.{ItemIs};
 use rules::Answer;
 use rules::Params;
 
@@ -36,8 +37,8 @@ pub fn item(
     first: u32,
     bytes: &[u8],
 ) -> Answer
-    requires { ⌜ Ready p ordered (lentBoard (now chip) (now ct) (now bt) (now fst) (now bst) (now wear) (now marks)) ⌝ }
-    ensures { λ a. ⌜ ItemIs p ordered (lentBoard (now (chip .entry)) (now (ct .entry)) (now (bt .entry)) (now (fst .entry)) (now (bst .entry)) (now (wear .entry)) (now (marks .entry))) (now (bytes .entry)) (itemOf lba count first) a (lentBoard (now (chip .exit)) (now (ct .exit)) (now (bt .exit)) (now (fst .exit)) (now (bst .exit)) (now (wear .exit)) (now (marks .exit))) ⌝ }
+    requires { ⌜ Ready p ordered (boardOf (now chip) (now ct) (now bt) (now fst) (now bst) (now wear) (now marks)) ⌝ }
+    ensures { λ a. ⌜ ItemIs p ordered (boardOf (now (chip .entry)) (now (ct .entry)) (now (bt .entry)) (now (fst .entry)) (now (bst .entry)) (now (wear .entry)) (now (marks .entry))) (now (bytes .entry)) (itemOf lba count first) a (boardOf (now (chip .exit)) (now (ct .exit)) (now (bt .exit)) (now (fst .exit)) (now (bst .exit)) (now (wear .exit)) (now (marks .exit))) ⌝ }
 {
     let fits = has_bytes(p, bytes.len(), count, first);
     let reply = refusals::item_reply(p, ordered, lba, count, fits);

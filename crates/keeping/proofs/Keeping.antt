@@ -16,12 +16,12 @@ use Rattle.rules.specs.declared.Params.{Params}
 use Rattle.rules.specs.Numbers.{regionOf}
 use Rattle.rules.specs.Pages.{frame}
 use Rattle.rules.specs.Regions.{validFrames, view, viewOf}
-use Rattle.rules.specs.Tables.{Board, ctAt, none}
+use Rattle.rules.specs.Tables.{Board, ctAt, none, marksLength}
 use Rattle.rules.specs.Traces.{erasesIn, isErase}
 use Rattle.rules.specs.Write.{Plan, continues, copies, eraseOps, opens, planVBlock, reclaims}
 use Rattle.rules.proofs.Sizes.{sizes}
 use Rattle.marks.specs.Kept.{firstMarks, putMark, roomMarks, withoutOld}
-use Rattle.marks.specs.Marks.{Marks, marksLength}
+use Rattle.rules.specs.Marks.{Marks}
 use Rattle.reading.specs.Lookup.{Lookup, Stands, Within, blockFor, lastFor}
 use Rattle.reading.proofs.Views.{body-some, seg-is}
 use Rattle.keeping.specs.Keeping.{UnmarkAsked}

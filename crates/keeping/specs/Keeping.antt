@@ -10,7 +10,8 @@ use Rattle.rules.specs.declared.Params.{Params}
 use Rattle.rules.specs.declared.Reply.the-variants.{Accepted}
 use Rattle.rules.specs.declared.Answer.{Answer}
 use Rattle.rules.specs.Parameters.{allowed}
-use Rattle.marks.specs.Marks.{Marks, marksLength}
+use Rattle.rules.specs.Marks.{Marks}
+use Rattle.rules.specs.Tables.{marksLength}
 use Rattle.marks.specs.Kept.{firstMarks, putMark}
 
 -- a frame that was found, where there is one, has a place in the table

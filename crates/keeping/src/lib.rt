@@ -3,7 +3,7 @@ ghost use mathlib.Core.Path.{_≡_};
 ghost use mathlib.Core.Bool.{false, cond};
 ghost use Prim.Native.Nat.{_<_, _≤_};
 ghost use lib.Dec.{eqb};
-ghost use Rattle.marks.specs.Marks.{Marks, tableOf};
+ghost use Rattle.rules.specs.Marks.{Marks, tableOf};
 ghost use Rattle.marks.specs.Kept.{firstMarks, putMark};
 ghost use Rattle.marking.specs.Asked.{MarkAsked, WordsAsked};
 ghost use Rattle.keeping.specs.Keeping.{UnmarkAsked, keptMarks, acceptedAnswer};

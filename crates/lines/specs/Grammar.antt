@@ -80,8 +80,3 @@ pub record Found (most : ℕ) (f : List ℕ) (r : Number) : Type 0 where
   pub is : r .ok ≡ isNumber most f
   pub says : r .ok ≡ true → r .value ≡ valueOf f
   pub small : r .value ≤ most
-
--- every definition of this file, for an `unfolding` line
-unfoldable pub all-grammar : Unit {0}
-unfolding firstField laterFields fields fieldAt isDigit allDigits valueFrom valueOf isNumber isWrite isRead lineOf
-all-grammar = tt

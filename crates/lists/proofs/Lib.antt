@@ -4,3 +4,4 @@ pub mod Ranks
 pub mod Counts
 pub mod Parts
 pub mod Joins
+pub mod Lists

@@ -1,6 +1,6 @@
 -- Tests, counts and searches over the numbers below n, each by one recursion on n, as a loop goes.
 -- Assumes nothing.
-use Prim.Native.Nat.{ℕ, zero, suc, _+_}
+use Prim.Native.Nat.{ℕ, zero, suc, _+_, _^_}
 use mathlib.Core.Bool.{Bool, true, false, _&&_, _||_, cond}
 use mathlib.Core.List.{List, [], _∷_, _++_}
 use lib.Dec.{ltb, eqb}
@@ -49,11 +49,16 @@ unfoldable pub joinBelow {ℓ} : {A : Type ℓ} → ℕ → (ℕ → List A) →
 joinBelow zero f = []
 joinBelow (suc n) f = joinBelow n f ++ f n
 
+-- the list of n elements whose element k is f of k
+unfoldable pub listBelow {ℓ} : {A : Type ℓ} → ℕ → (ℕ → A) → List A
+listBelow zero f = []
+listBelow (suc n) f = listBelow n f ++ (f n ∷ [])
+
+-- the number whose bit i, for i below n, is set where f holds of i
+unfoldable pub bitsBelow : ℕ → (ℕ → Bool) → ℕ
+bitsBelow zero f = 0
+bitsBelow (suc n) f = bitsBelow n f + cond (f n) (2 ^ n) 0
+
 -- the function f, with x at i
 unfoldable pub updated {ℓ} : {A : Type ℓ} → (ℕ → A) → ℕ → A → ℕ → A
 updated f i x j = cond (eqb j i) x (f j)
-
--- every definition of this file, for an `unfolding` line
-unfoldable pub all-below : Unit {0}
-unfolding allBelow allTrue countBelow firstBelow lastBelow leastBelow keepBelow joinBelow updated
-all-below = tt

@@ -8,10 +8,10 @@ use native.Mathlib.Nat.{add-suc}
 use native.Mathlib.Omega.{arith}
 use lib.Dec.{ltb}
 use lib.ListN.{getD, set}
-use Rattle.lists.specs.Below.{countBelow, updated}
-use Rattle.bits.specs.Bits.{bitsBelow}
+use Rattle.lists.specs.Below.{countBelow, updated, bitsBelow}
 use Rattle.rules.specs.declared.Params.{Params}
-use Rattle.marks.specs.Marks.{Marks, markIndex, tableOf, wordOf}
+use Rattle.rules.specs.Marks.{Marks, tableOf, wordOf}
+use Rattle.rules.specs.Tables.{markIndex}
 use Rattle.marks.specs.Kept.{putMark}
 use Rattle.marks.proofs.Tables.{first-more, firstWords, table-at, table-put, word-put}
 

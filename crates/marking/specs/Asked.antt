@@ -7,7 +7,7 @@ use Prim.Native.Nat.{_<_, ℕ}
 use lib.ListN.{length}
 use Rattle.rules.specs.declared.Params.{Params}
 use Rattle.rules.specs.Parameters.{allowed}
-use Rattle.marks.specs.Marks.{marksLength}
+use Rattle.rules.specs.Tables.{marksLength}
 
 -- a virtual block of a region, in a table as long as it has to be
 pub record WordsAsked (p : Params) (marks : List ℕ) (r v : ℕ) : Type 0 where

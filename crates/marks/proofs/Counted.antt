@@ -24,7 +24,7 @@ use Rattle.rules.specs.Tables.{none}
 use Rattle.rules.specs.Write.{victim}
 use Rattle.rules.proofs.Frames.{erased-not}
 use Rattle.rules.proofs.Sizes.{sizes}
-use Rattle.marks.specs.Marks.{marked}
+use Rattle.rules.specs.Marks.{marked}
 
 -- of what passes, what is below k too
 count-part : (k n : ℕ) (g : ℕ → Bool) → k ≤ n → countBelow n (λ i. ltb i k && g i) ≡ countBelow k g

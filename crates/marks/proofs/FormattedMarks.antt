@@ -8,14 +8,15 @@ use Rattle.rules.specs.declared.Params.{Params}
 use Rattle.rules.specs.declared.Reply.the-variants.{Accepted}
 use Rattle.rules.specs.Format.{formatted}
 use Rattle.rules.specs.Regions.{view}
-use Rattle.rules.specs.Replies.{formatReply}
-use Rattle.rules.specs.Tables.{Board}
+use Rattle.rules.specs.Replies.{replyOf}
+use Rattle.rules.specs.Requests.{format}
+use Rattle.rules.specs.Tables.{Board, marksLength}
 use Rattle.rules.proofs.FormatPromise.{lacks}
-use Rattle.marks.specs.Marks.{marksLength, marksOf, marksOn}
+use Rattle.rules.specs.Marks.{marksIn, marksOf, marksOn}
 use Rattle.marks.proofs.Tables.{table-cong, table-none}
 use Rattle.marks.proofs.Counted.{unassigned-unmarked}
 
-pub formatted-marks : (p : Params) (b : Board) → formatReply p b ≡ Accepted → marksOf p (formatted p b) ≡ replicate (marksLength p) 0
-unfolding marksOf marksOn
+pub formatted-marks : (p : Params) (b : Board) → replyOf p b format ≡ Accepted → marksOf p (formatted p b) ≡ replicate (marksLength p) 0
+unfolding marksIn
 formatted-marks p b e =
     table-cong p (marksOn p (formatted p b)) (λ r v f. false) (λ r v f h low k. unassigned-unmarked p (view p (formatted p b) r) v (lacks p b e r v) f) ∙ sym (table-none p)

@@ -15,12 +15,12 @@ use Rattle.rules.specs.declared.Params.{Params}
 use Rattle.rules.specs.Pages.{frame, held, lastIn}
 use Rattle.rules.specs.Parameters.{frames}
 use Rattle.rules.specs.Regions.{View, valid}
-use Rattle.rules.specs.Write.{withFrame}
 use Rattle.rules.proofs.FramePut.{Ready, Sheet, body-old, frame-new, frame-old, last-new, last-old, seg-new, seg-old}
 use Rattle.rules.proofs.Frames.{marked-held, marked-programmed}
 use Rattle.rules.proofs.Sizes.{Sizes}
 use Rattle.rules.proofs.Victims.{Valid, valid-in, valid-one, valid-out}
-use Rattle.marks.specs.Marks.{marked}
+use Rattle.rules.specs.Machine.{withFrame}
+use Rattle.rules.specs.Marks.{marked}
 
 -- a number from F up has no mark
 pub unmarked : (p : Params) (vw : View) (v f : ℕ) → frames p ≤ f → marked p vw v f ≡ false

@@ -6,7 +6,4 @@ pub mod RoomMarks
 pub mod WrittenMarks
 pub mod ReleasedMarks
 pub mod FormattedMarks
-pub mod MarkedReplies
-pub mod MarkedRuns
-pub mod MarkedConditions
 pub mod MarksRead

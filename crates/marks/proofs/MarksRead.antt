@@ -14,11 +14,13 @@ use Rattle.bits.proofs.Words.{bits-count, bits-lt}
 use Rattle.rules.specs.declared.Params.{Params}
 use Rattle.rules.specs.Parameters.{allowed, frames}
 use Rattle.rules.specs.Regions.{view}
-use Rattle.rules.specs.Tables.{Board}
+use Rattle.rules.specs.Tables.{Board, marksLength, wordAt}
 use Rattle.rules.proofs.Sizes.{sizes}
-use Rattle.marks.specs.Marks.{markIn, marked, marksLength, marksOf, wordAt, wordOf}
-use Rattle.marks.specs.MarkedConditions.{MarksAt, MarksRead, onesAt}
-use Rattle.marks.proofs.Tables.{mark-at, marks-are, place, region-word, right, rule-of}
+use Rattle.marks.specs.Marks.{markIn}
+use Rattle.marks.specs.Marks.{MarksAt, MarksRead, onesAt}
+use Rattle.rules.specs.Marks.{marked, marksOf, wordOf}
+use Rattle.marks.proofs.Tables.{mark-at, marks-are, place, region-word}
+use Rattle.rules.proofs.MarkFacts.{right, rule-of}
 use Rattle.marks.proofs.Counted.{marks-counted, unassigned-unmarked}
 use Rattle.marks.proofs.FrameMarks.{marked-valid, unmarked}
 
@@ -45,31 +47,31 @@ module _ (p : Params) (b : Board) (fine : allowed p ≡ true) (r v : ℕ) (low :
       rw (region-word p b r v 0 low below (omega arith), region-word p b r v 1 low below (omega arith), region-word p b r v 2 low below (omega arith), region-word p b r v 3 low below (omega arith))
       (four-ones (marked p (view p b r) v))
 
-  own-marks : MarksAt p b (marksOf p b) r v
-  own-marks =
+  own-marks : b .marks ≡ marksOf p b → MarksAt p b r v
+  own-marks e =
       record {
-        words = λ w l. rw (region-word p b r v w low below l) (unfold wordOf in bits-lt 64 _);
-        each = λ f l. mark-at p b r v f low below (omega (arith, (sizes p fine) .short)) ∙ marked-valid p (view p b r) v f l;
-        above = λ f l m. mark-at p b r v f low below m ∙ unmarked p (view p b r) v f l;
-        without = λ a f l. mark-at p b r v f low below l ∙ unassigned-unmarked p (view p b r) v a f;
-        counted = counted ∙ marks-counted p fine (view p b r) v;
+        words = λ w l. rw (e, region-word p b r v w low below l) (unfold wordOf in bits-lt 64 _);
+        each = λ f l. rw e (mark-at p b r v f low below (omega (arith, (sizes p fine) .short)) ∙ marked-valid p (view p b r) v f l);
+        above = λ f l m. rw e (mark-at p b r v f low below m ∙ unmarked p (view p b r) v f l);
+        without = λ a f l. rw e (mark-at p b r v f low below l ∙ unassigned-unmarked p (view p b r) v a f);
+        counted = rw e (counted ∙ marks-counted p fine (view p b r) v);
       }
 
 -- ---- the rule
 
-module _ (p : Params) (b : Board) (marks : List ℕ) (all : (r v : ℕ) → r < p .mu → v < p .gamma → MarksAt p b marks r v) where
-  word-small : (k : ℕ) → k < marksLength p → wordAt marks k < 2 ^ 64
+module _ (p : Params) (b : Board) (all : (r v : ℕ) → r < p .mu → v < p .gamma → MarksAt p b r v) where
+  word-small : (k : ℕ) → k < marksLength p → wordAt (b .marks) k < 2 ^ 64
   word-small k h = let a = place p k h in rw (a .here) at ((all (k / 4 / p .gamma) (k / 4 % p .gamma) (a .region) (a .vblock)) .words (k % 4) (a .word))
 
-  mark-is : (r v f : ℕ) → r < p .mu → v < p .gamma → f < 256 → markIn p marks r v f ≡ marked p (view p b r) v f
+  mark-is : (r v f : ℕ) → r < p .mu → v < p .gamma → f < 256 → markIn p (b .marks) r v f ≡ marked p (view p b r) v f
   mark-is r v f low below l = go (decLt f (frames p))
     where
-      go : Dec (f < frames p) → markIn p marks r v f ≡ marked p (view p b r) v f
+      go : Dec (f < frames p) → markIn p (b .marks) r v f ≡ marked p (view p b r) v f
       go (yes h) = (all r v low below) .each f h ∙ sym (marked-valid p (view p b r) v f h)
       go (no h) = (all r v low below) .above f (omega arith) l ∙ sym (unmarked p (view p b r) v f (omega arith))
 
 pub marks-read : MarksRead
-marks-read p b marks fine e = (
-  λ rule r v low below. rw (right p b marks e rule) (own-marks p b fine r v low below),
-  λ all. rw (marks-are p b marks e (word-small p b marks all) (mark-is p b marks all)) (rule-of p b),
+marks-read p b fine e = (
+  λ rule r v low below. own-marks p b fine r v low below (right p b e rule),
+  λ all. rule-of p b (marks-are p b (b .marks) e (word-small p b all) (mark-is p b all)),
 )

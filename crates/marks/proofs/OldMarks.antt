@@ -20,9 +20,9 @@ use Rattle.rules.proofs.Frames.{seg-low}
 use Rattle.rules.proofs.RegionFacts.{Entry}
 use Rattle.rules.proofs.Sizes.{Sizes}
 use Rattle.rules.proofs.Victims.{Valid, valid-in, valid-one}
-use Rattle.claims.proofs.ValidFrames.{named-valid}
+use Rattle.rules.proofs.ValidFrames.{named-valid}
 use Rattle.marks.specs.Kept.{putMark, withoutOld}
-use Rattle.marks.specs.Marks.{Marks, marked}
+use Rattle.rules.specs.Marks.{Marks, marked}
 
 -- a test that does not pass where the numbers are equal
 apart : (t : Bool) (h c : ℕ) → (t ≡ true → h ≡ c → ⊥) → t ≡ t && not (eqb h c)

@@ -22,7 +22,7 @@ use Rattle.rules.specs.Pages.{frame, held}
 use Rattle.rules.specs.Parameters.{blockBytes, frames}
 use Rattle.rules.specs.Regions.{View, assigned, valid, validFrames, view}
 use Rattle.rules.specs.Tables.{Board, none}
-use Rattle.rules.specs.Write.{Plan, continues, copies, follow, hasRoom, lowestUnassigned, opens, planFrame, planOf, planVBlock, reclaims, withRoom}
+use Rattle.rules.specs.Write.{Plan, continues, copies, hasRoom, lowestUnassigned, opens, planFrame, planOf, planVBlock, reclaims}
 use Rattle.rules.proofs.Continues.{Makes}
 use Rattle.rules.proofs.Frames.{erased-not, seg-vblock}
 use Rattle.rules.proofs.Opens.{fresh-all}
@@ -34,7 +34,8 @@ use Rattle.rules.proofs.Victims.{valid-out}
 use Rattle.rules.proofs.Views.{body-size}
 use Rattle.rules.proofs.WritePromise.{makes}
 use Rattle.marks.specs.Kept.{firstMarks, roomMarks}
-use Rattle.marks.specs.Marks.{Marks, marked}
+use Rattle.rules.specs.Machine.{follow, withRoom}
+use Rattle.rules.specs.Marks.{Marks, marked}
 use Rattle.marks.proofs.Counted.{erased-invalid, unassigned-invalid}
 use Rattle.marks.proofs.FrameMarks.{marked-valid, unmarked}
 

@@ -11,16 +11,17 @@ use lib.Arith.{digits-div, digits-lt, digits-mod}
 use lib.Dec.{eqb, ltb}
 use lib.ListN.{getD, getD-replicate, length, length-replicate, replicate, set}
 use borrow.Author.Tests.{eq-eqb, eqb-true, le-ltb, lt-ltb, ne-eqb}
-use Rattle.lists.specs.Below.{updated}
-use Rattle.lists.proofs.Tests.{all-at, all-below-intro, and-left, and-right}
+use Rattle.lists.specs.Below.{bitsBelow, updated}
+use Rattle.lists.proofs.Tests.{and-left, and-right}
 use Rattle.lists.proofs.Joins.{updated-other, updated-same}
-use Rattle.bits.specs.Bits.{bitsBelow}
 use Rattle.bits.proofs.Words.{bits-at, bits-cong, bits-none, bits-of}
-use Rattle.bits.proofs.Lists.{list-at, list-cong, list-is, list-length, list-set}
+use Rattle.lists.proofs.Lists.{list-cong, list-set}
 use Rattle.rules.specs.declared.Params.{Params}
-use Rattle.rules.specs.Tables.{Board}
+use Rattle.rules.specs.Tables.{Board, markIndex, marksLength, wordAt}
 use Rattle.rules.specs.Regions.{view}
-use Rattle.marks.specs.Marks.{Marks, entryOf, markIn, markIndex, marked, marksLength, marksOf, marksOn, marksRule, tableOf, wordAt, wordOf}
+use Rattle.rules.specs.Marks.{Marks, entryOf, marked, marksIn, marksOf, marksOn, tableOf, wordOf}
+use Rattle.rules.proofs.MarkFacts.{table-is, table-word}
+use Rattle.marks.specs.Marks.{markIn}
 use Rattle.marks.specs.Kept.{firstMarks, putMark}
 
 -- ---- where a word stands
@@ -64,14 +65,6 @@ pub word-cong : (w : ℕ) (m n : ℕ → Bool) → ((i : ℕ) → i < 64 → m (
 unfolding wordOf
 word-cong w m n h = bits-cong 64 (λ i. m (64 * w + i)) (λ i. n (64 * w + i)) h
 
-pub table-length : (p : Params) (m : Marks) → length (tableOf p m) ≡ marksLength p
-unfolding tableOf
-table-length p m = list-length (marksLength p) (entryOf p m)
-
-pub table-word : (p : Params) (m : Marks) (k : ℕ) → k < marksLength p → getD (tableOf p m) k 0 ≡ entryOf p m k
-unfolding tableOf
-table-word p m k h = list-at (marksLength p) (entryOf p m) k 0 h
-
 pub entry-at : (p : Params) (m : Marks) (r v w : ℕ) → v < p .gamma → w < 4 → entryOf p m (markIndex p r v w) ≡ wordOf (m r v) w
 unfolding entryOf
 entry-at p m r v w k l = rw (index-region p r v w k l, index-vblock p r v w k l, index-word p r v w l)
@@ -79,10 +72,6 @@ entry-at p m r v w k l = rw (index-region p r v w k l, index-vblock p r v w k l,
 -- word w of virtual block v of region r
 pub table-at : (p : Params) (m : Marks) (r v w : ℕ) → r < p .mu → v < p .gamma → w < 4 → getD (tableOf p m) (markIndex p r v w) 0 ≡ wordOf (m r v) w
 table-at p m r v w h k l = table-word p m (markIndex p r v w) (index-in p r v w h k l) ∙ entry-at p m r v w k l
-
-pub table-is : (p : Params) (m : Marks) (t : List ℕ) → length t ≡ marksLength p → ((k : ℕ) → k < marksLength p → getD t k 0 ≡ entryOf p m k) → t ≡ tableOf p m
-unfolding tableOf
-table-is p m t e h = list-is 0 (marksLength p) (entryOf p m) t e h
 
 -- marks that agree give the same table
 pub table-cong : (p : Params) (m n : Marks)
@@ -235,27 +224,19 @@ table-marks p m t e small marks = table-is p m t e (λ k h. bits-of 64 (getD t k
         ∙ ap₂ (λ (w j : ℕ). eqb (getD t (markIndex p (k / 4 / p .gamma) (k / 4 % p .gamma) w) 0 / 2 ^ j % 2) 1) (sym q) (sym s)
         ∙ marks (k / 4 / p .gamma) (k / 4 % p .gamma) (64 * (k % 4) + i) (a .region) (a .vblock) (omega (arith, a .word))
 
--- ---- the rule
-
-pub right : (p : Params) (b : Board) (marks : List ℕ) → length marks ≡ marksLength p → marksRule p b marks ≡ true → marks ≡ marksOf p b
-unfolding marksRule marksOf wordAt
-right p b marks e h = table-is p (marksOn p b) marks e (λ k l. eqb-true _ _ (all-at (marksLength p) _ h k l))
-
-pub rule-of : (p : Params) (b : Board) → marksRule p b (marksOf p b) ≡ true
-unfolding marksRule marksOf wordAt
-rule-of p b = all-below-intro (marksLength p) _ (λ k l. eq-eqb _ _ (table-word p (marksOn p b) k l))
+-- ---- a board's own table
 
 -- a region's words are a function of its view
 pub region-word : (p : Params) (b : Board) (r v w : ℕ) → r < p .mu → v < p .gamma → w < 4 → wordAt (marksOf p b) (markIndex p r v w) ≡ wordOf (marked p (view p b r) v) w
-unfolding wordAt marksOf marksOn
+unfolding wordAt marksIn
 region-word p b r v w h k l = table-at p (marksOn p b) r v w h k l
 
 -- "each mark equals the validity rule"
 pub mark-at : (p : Params) (b : Board) (r v f : ℕ) → r < p .mu → v < p .gamma → f < 256 → markIn p (marksOf p b) r v f ≡ marked p (view p b r) v f
-unfolding marksOf marksOn
+unfolding marksIn
 mark-at p b r v f h k l = table-mark p (marksOn p b) r v f h k l
 
 pub marks-are : (p : Params) (b : Board) (t : List ℕ) → length t ≡ marksLength p → ((k : ℕ) → k < marksLength p → wordAt t k < 2 ^ 64)
     → ((r v f : ℕ) → r < p .mu → v < p .gamma → f < 256 → markIn p t r v f ≡ marked p (view p b r) v f) → t ≡ marksOf p b
-unfolding marksOf marksOn
+unfolding marksIn
 marks-are p b t e small marks = table-marks p (marksOn p b) t e small marks

@@ -9,10 +9,10 @@ use borrow.Author.Tests.{eq-eqb, ne-eqb}
 use Rattle.rules.specs.declared.Params.{Params}
 use Rattle.rules.specs.declared.Reply.the-variants.{Accepted}
 use Rattle.rules.specs.Regions.{View, view}
-use Rattle.rules.specs.Replies.{accessReply}
+use Rattle.rules.specs.Replies.{replyOf}
 use Rattle.rules.specs.Tables.{Board}
-use Rattle.rules.specs.Write.{Plan, Request, newFrame, planFrame, planOf, planVBlock, requestCluster, requestRegion, viewAfter, withRoom, written}
-use Rattle.rules.proofs.Admitted.{Admitted, admitted}
+use Rattle.rules.specs.Write.{Plan, newFrame, planFrame, planOf, planVBlock, written}
+use Rattle.rules.proofs.Admitted.{Admitted, admitted, write-checks}
 use Rattle.rules.proofs.Continues.{Makes}
 use Rattle.rules.proofs.FramePut.{Sheet}
 use Rattle.rules.proofs.NewFrames.{host-sheet}
@@ -20,13 +20,15 @@ use Rattle.rules.proofs.RegionFacts.{Neat, neat}
 use Rattle.rules.proofs.Views.{body-size}
 use Rattle.rules.proofs.WritePromise.{makes, write-promise}
 use Rattle.marks.specs.Kept.{putMark, roomMarks, writtenMarks}
-use Rattle.marks.specs.Marks.{marksOf, marksOn, tableOf}
+use Rattle.rules.specs.Requests.{Request, write, requestCluster, requestRegion}
+use Rattle.rules.specs.Machine.{viewAfter, withRoom}
+use Rattle.rules.specs.Marks.{marksIn, marksOf, marksOn, tableOf}
 use Rattle.marks.proofs.Tables.{table-cong}
 use Rattle.marks.proofs.FrameMarks.{frame-marks}
 use Rattle.marks.proofs.OldMarks.{old-cleared, old-elsewhere}
 use Rattle.marks.proofs.RoomMarks.{room-elsewhere, room-marks}
 
-module _ (p : Params) (b : Board) (q : Request) (e : accessReply p b q ≡ Accepted) where
+module _ (p : Params) (b : Board) (q : Request) (e : replyOf p b (write q) ≡ Accepted) where
   abbrev r : ℕ
   r = requestRegion p q
 
@@ -37,7 +39,7 @@ module _ (p : Params) (b : Board) (q : Request) (e : accessReply p b q ≡ Accep
   pl = planOf p vw
 
   acc : Admitted p b q
-  acc = admitted p b q e
+  acc = admitted p b q (write-checks p b q e)
 
   region : r < p .mu
   region = mod-lt (requestCluster p q) (acc .sized .regions)
@@ -52,7 +54,7 @@ module _ (p : Params) (b : Board) (q : Request) (e : accessReply p b q ≡ Accep
   sheet = host-sheet p (acc .sized) vw (λ v h a. body-size p (acc .sized) b (acc .tables) r v region h a) q (acc .asked) (tidy .entries (requestCluster p q) (acc .asked .cluster))
 
   mark-at : (r′ v f : ℕ) → r′ < p .mu → v < p .gamma → marksOn p (written p b q) r′ v f ≡ writtenMarks p b q (marksOn p b) r′ v f
-  unfolding marksOn writtenMarks putMark
+  unfolding marksIn writtenMarks putMark
   mark-at r′ v f h low = go (ℕ-discrete r′ r)
     where
       go : Dec (r′ ≡ r) → marksOn p (written p b q) r′ v f ≡ writtenMarks p b q (marksOn p b) r′ v f
@@ -70,5 +72,4 @@ module _ (p : Params) (b : Board) (q : Request) (e : accessReply p b q ≡ Accep
           (sym (old-elsewhere p (acc .sized) (withRoom p vw pl) r (requestCluster p q) (roomMarks p vw r pl (marksOn p b)) r′ v f k ∙ room-elsewhere p vw r pl (marksOn p b) r′ v f k))
 
   pub written-marks : marksOf p (written p b q) ≡ tableOf p (writtenMarks p b q (marksOn p b))
-  unfolding marksOf
   written-marks = table-cong p _ _ (λ r′ v f h low k. mark-at r′ v f h low)

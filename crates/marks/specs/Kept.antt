@@ -9,8 +9,10 @@ use Rattle.rules.specs.Numbers.{placeOf, vblockOf}
 use Rattle.rules.specs.Pages.{lastIn}
 use Rattle.rules.specs.Regions.{View, validFrames, view}
 use Rattle.rules.specs.Tables.{Board, none}
-use Rattle.rules.specs.Write.{Plan, Request, continues, opens, planFrame, planOf, planVBlock, reclaims, requestCluster, requestRegion, withRoom}
-use Rattle.marks.specs.Marks.{Marks}
+use Rattle.rules.specs.Write.{Plan, continues, opens, planFrame, planOf, planVBlock, reclaims}
+use Rattle.rules.specs.Marks.{Marks}
+use Rattle.rules.specs.Requests.{Request, requestCluster, requestRegion}
+use Rattle.rules.specs.Machine.{withRoom}
 
 -- the marks with that of one frame set so
 unfoldable pub putMark : Marks → ℕ → ℕ → ℕ → Bool → Marks

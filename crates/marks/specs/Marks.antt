@@ -1,58 +1,42 @@
--- Document 02, T-06, "Valid frames as bits": the table of marks, and the rule that an orderly state has of it.
+-- Document 02, T-06: what the marks say, in the words of the request.
 -- Assumes nothing.
-use Prim.Native.Nat.{ℕ, _+_, _*_, _/_, _%_, _^_}
-use mathlib.Core.Bool.{Bool, _&&_}
+use Prim.Native.Nat.{ℕ, _+_, _/_, _%_, _^_, _≤_, _<_}
+use mathlib.Core.Path.{_≡_}
+use mathlib.Core.Logic.{_↔_}
+use mathlib.Core.Bool.{Bool, true, false}
 use mathlib.Core.List.{List}
-use lib.Dec.{eqb, ltb}
-use lib.ListN.{getD}
-use Rattle.lists.specs.Below.{allBelow}
-use Rattle.bits.specs.Bits.{bitsBelow, listBelow}
+use lib.Count.{ones}
+use lib.Dec.{eqb}
+use lib.ListN.{length}
 use Rattle.rules.specs.declared.Params.{Params}
-use Rattle.rules.specs.Parameters.{frames}
-use Rattle.rules.specs.Tables.{Board}
-use Rattle.rules.specs.Regions.{View, valid, view}
-
--- marks of a board: which frames of which virtual blocks of which regions have one
-abbrev pub Marks : Type 0
-Marks = ℕ → ℕ → ℕ → Bool
-
--- "four 64-bit words for each region and virtual block": word w of virtual block v of region r stands at 4·(r·γ + v) + w
-abbrev pub marksLength : Params → ℕ
-marksLength p = 4 * (p .mu * p .gamma)
-
-abbrev pub markIndex : Params → ℕ → ℕ → ℕ → ℕ
-markIndex p r v w = 4 * (r * p .gamma + v) + w
-
--- an entry past the table's end has a value too
-unfoldable pub wordAt : List ℕ → ℕ → ℕ
-wordAt marks k = getD marks k 0
+use Rattle.rules.specs.Parameters.{allowed, frames}
+use Rattle.rules.specs.Tables.{Board, markIndex, marksLength, wordAt}
+use Rattle.rules.specs.Regions.{assigned, valid, validFrames, view}
+use Rattle.rules.specs.Orderly.{marksRule}
 
 -- "the mark of frame f stands at bit f mod 64 of word f / 64": the mark that stands in a table
 abbrev pub markIn : Params → List ℕ → ℕ → ℕ → ℕ → Bool
 markIn p marks r v f = eqb (wordAt marks (markIndex p r v (f / 64)) / 2 ^ (f % 64) % 2) 1
 
--- the other way round: word w of the marks of one virtual block
-unfoldable pub wordOf : (ℕ → Bool) → ℕ → ℕ
-wordOf m w = bitsBelow 64 (λ i. m (64 * w + i))
+-- "the count of ones in its words"
+unfoldable pub onesAt : Params → List ℕ → ℕ → ℕ → ℕ
+onesAt p marks r v =
+    ones (wordAt marks (markIndex p r v 0)) + ones (wordAt marks (markIndex p r v 1)) + ones (wordAt marks (markIndex p r v 2)) + ones (wordAt marks (markIndex p r v 3))
 
--- the word at index k of the table that holds these marks, and the table
-unfoldable pub entryOf : Params → Marks → ℕ → ℕ
-entryOf p m k = wordOf (m (k / 4 / p .gamma) (k / 4 % p .gamma)) (k % 4)
+-- the marks of virtual block v of region r
+pub record MarksAt (p : Params) (b : Board) (r v : ℕ) : Type 0 where
+  -- "four 64-bit words"
+  pub words : (w : ℕ) → w < 4 → wordAt (b .marks) (markIndex p r v w) < 2 ^ 64
+  -- "each mark equals the validity rule"
+  pub each : (f : ℕ) → f < frames p → markIn p (b .marks) r v f ≡ valid p (view p b r) v f
+  -- "Marks from F up are zero, and so are those of a virtual block without a physical block"
+  pub above : (f : ℕ) → frames p ≤ f → f < 256 → markIn p (b .marks) r v f ≡ false
+  pub without : assigned (view p b r) v ≡ false → (f : ℕ) → f < 256 → markIn p (b .marks) r v f ≡ false
+  -- "the valid frames of a block are the count of ones in its words"
+  pub counted : onesAt p (b .marks) r v ≡ length (validFrames p (view p b r) v)
 
-unfoldable pub tableOf : Params → Marks → List ℕ
-tableOf p m = listBelow (marksLength p) (entryOf p m)
-
--- "Marks from F up are zero", and "each mark equals the validity rule"; a virtual block without a physical block has no valid frame
-unfoldable pub marked : Params → View → ℕ → ℕ → Bool
-marked p vw v f = ltb f (frames p) && valid p vw v f
-
--- the marks of a board, and the table that holds them
-unfoldable pub marksOn : Params → Board → Marks
-marksOn p b r = marked p (view p b r)
-
-unfoldable pub marksOf : Params → Board → List ℕ
-marksOf p b = tableOf p (marksOn p b)
-
--- "An orderly state now also says that each mark equals the validity rule", word by word
-unfoldable pub marksRule : Params → Board → List ℕ → Bool
-marksRule p b marks = allBelow (marksLength p) (λ k. eqb (wordAt marks k) (entryOf p (marksOn p b) k))
+-- a table of the right length obeys the rule exactly when the marks of every virtual block are so
+abbrev pub MarksRead : Type 0
+MarksRead =
+    (p : Params) (b : Board) → allowed p ≡ true → length (b .marks) ≡ marksLength p
+    → (marksRule p b ≡ true) ↔ ((r v : ℕ) → r < p .mu → v < p .gamma → MarksAt p b r v)

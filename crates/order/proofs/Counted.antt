@@ -1,4 +1,4 @@
--- The check says exactly that the state is orderly and that each mark equals the validity rule. Where there are as many marks as CT entries, each entry is met
+-- The check says exactly that the state is orderly, each mark included. Where there are as many marks as CT entries, each entry is met
 -- by the cluster of a marked frame, so its segment holds it; and a valid frame has the cluster of one of these, so it is that one.
 -- Assumes nothing.
 use mathlib.Core.Path.{_≡_, ap, ap₂, refl, sym, _∙_}
@@ -22,16 +22,18 @@ use Rattle.rules.specs.Orderly.{blockRule, bstRule, btRule, freeRule, orderly}
 use Rattle.rules.specs.Pages.{block}
 use Rattle.rules.specs.Parameters.{frames}
 use Rattle.rules.specs.Regions.{view, viewOf}
-use Rattle.rules.specs.Tables.{Board, boardOf, btAt, ctAt, fstAt, none}
+use Rattle.rules.specs.Tables.{Board, boardOf, btAt, ctAt, fstAt, none, marksLength, wordAt}
 use Rattle.rules.proofs.Admitted.{orderly-region}
 use Rattle.rules.proofs.RegionFacts.{Entry, Neat, neat}
 use Rattle.rules.proofs.Sizes.{Sizes, sizes}
-use Rattle.agree.specs.Check.{Lengths, Lent, chipOk, clusterOk, clustersOk, fstOk, regionOk, tablesOk, vblockFrames, vblockOk}
-use Rattle.agree.proofs.Agree.{check-agrees, same-truth}
+use Rattle.agree.specs.Check.{Lengths, Lent, chipOk, clusterOk, clustersOk, fstOk, nineRules, regionOk, tablesOk, vblockFrames, vblockOk}
+use Rattle.agree.proofs.Agree.{check-agrees, orderly-is, same-truth}
 use Rattle.agree.proofs.Same.{Names}
 use Rattle.state.proofs.Blocks.{names-in}
-use Rattle.marks.specs.Marks.{markIn, marked, marksLength, marksRule, wordAt}
-use Rattle.marks.proofs.Tables.{mark-at, marks-are, right, rule-of}
+use Rattle.marks.specs.Marks.{markIn}
+use Rattle.rules.specs.Marks.{marked, marksOf}
+use Rattle.rules.proofs.MarkFacts.{right, rule-of}
+use Rattle.marks.proofs.Tables.{mark-at, marks-are}
 use Rattle.valid.specs.Shown.{marksValid}
 use Rattle.order.specs.Order.{bitAt, blockHeld, countsOk, entryOk, framesOk, named, orderOk, regionHeld}
 use Rattle.order.proofs.Blocks.{rule-of-block}
@@ -45,7 +47,7 @@ unfolding tablesOk
 lent-in p chip ct bt fst bst l k =
     record { fine = l .fine; chipLength = l .chipLength; btLength = l .btLength; names = and-left (btRule p bt) _ (and-right (bstRule p bst) k) }
 
-module _ (p : Params) (b : Board) (marks : List ℕ) (l : Lengths p (b .chip) (b .ct) (b .bt) (b .fst) (b .bst)) (long : length marks ≡ marksLength p)
+module _ (p : Params) (b : Board) (l : Lengths p (b .chip) (b .ct) (b .bt) (b .fst) (b .bst)) (long : length (b .marks) ≡ marksLength p)
     (k : tablesOk p (b .bt) (b .bst) ≡ true) (blocks : (r v : ℕ) → r < p .mu → v < p .gamma → vblockOk p (b .chip) (b .bt) (b .bst) r v ≡ true) where
   z : Sizes p
   z = sizes p (l .fine)
@@ -85,16 +87,16 @@ module _ (p : Params) (b : Board) (marks : List ℕ) (l : Lengths p (b .chip) (b
   cluster-of r v f hv hf = rw (bit-region p r v f hv hf, bit-vblock p r v f hv hf, bit-frame p r v f hv hf)
 
   -- ---- each mark is that of a valid frame, and there are as many as entries
-  module _ (sub : (r v f : ℕ) → r < p .mu → v < p .gamma → f < 256 → markIn p marks r v f ≡ true → marked p (view p b r) v f ≡ true)
-      (few : countBelow (p .C) (named (b .ct)) ≤ countBelow bits (bitAt marks)) where
-    bit-marked : (j : ℕ) → j < bits → bitAt marks j ≡ true → markedAt j ≡ true
+  module _ (sub : (r v f : ℕ) → r < p .mu → v < p .gamma → f < 256 → markIn p (b .marks) r v f ≡ true → marked p (view p b r) v f ≡ true)
+      (few : countBelow (p .C) (named (b .ct)) ≤ countBelow bits (bitAt (b .marks))) where
+    bit-marked : (j : ℕ) → j < bits → bitAt (b .marks) j ≡ true → markedAt j ≡ true
     bit-marked j h e =
-        sub (regionAt p j) (vblockAt p j) (frameAt p j) (region-in p (z .vblocks) j h) (vblock-in p (z .vblocks) j) (omega arith) (sym (bit-mark p (z .vblocks) marks j) ∙ e)
+        sub (regionAt p j) (vblockAt p j) (frameAt p j) (region-in p (z .vblocks) j h) (vblock-in p (z .vblocks) j) (omega arith) (sym (bit-mark p (z .vblocks) (b .marks) j) ∙ e)
 
     -- each entry is met
-    met : (c : ℕ) → c < p .C → named (b .ct) c ≡ true → (j : ℕ) × (j < bits) × (bitAt marks j ≡ true) × (clusterAt j ≡ c)
+    met : (c : ℕ) → c < p .C → named (b .ct) c ≡ true → (j : ℕ) × (j < bits) × (bitAt (b .marks) j ≡ true) × (clusterAt j ≡ c)
     met =
-        each-met bits (p .C) (bitAt marks) (named (b .ct)) clusterAt (λ j h e. into j h (bit-marked j h e))
+        each-met bits (p .C) (bitAt (b .marks)) (named (b .ct)) clusterAt (λ j h e. into j h (bit-marked j h e))
         (λ i j hi hj ei ej. apart i j hi hj (bit-marked i hi ei) (bit-marked j hj ej)) few
 
     cluster-ok : (c : ℕ) → c < p .C → clusterOk p (b .chip) (b .ct) (b .bt) (regionOf p c) c ≡ true
@@ -119,33 +121,33 @@ module _ (p : Params) (b : Board) (marks : List ℕ) (l : Lengths p (b .chip) (b
         go c low (no e) = rw (ne-eqb (regionOf p c) r e)
 
     -- each valid frame has its mark
-    mark-same : (r v f : ℕ) → r < p .mu → v < p .gamma → f < 256 → markIn p marks r v f ≡ marked p (view p b r) v f
-    mark-same r v f hr hv hf = same-truth (markIn p marks r v f) (marked p (view p b r) v f) (sub r v f hr hv hf) back
+    mark-same : (r v f : ℕ) → r < p .mu → v < p .gamma → f < 256 → markIn p (b .marks) r v f ≡ marked p (view p b r) v f
+    mark-same r v f hr hv hf = same-truth (markIn p (b .marks) r v f) (marked p (view p b r) v f) (sub r v f hr hv hf) back
       where
-        back : marked p (view p b r) v f ≡ true → markIn p marks r v f ≡ true
+        back : marked p (view p b r) v f ≡ true → markIn p (b .marks) r v f ≡ true
         back m =
             let j = bitOf p r v f in
             let hj : j < bits = bit-in p r v f hv hf hr in
             let mj : markedAt j ≡ true = marked-of r v f hv hf ∙ m in
             let w = met (clusterAt j) ((into j hj mj) .0) ((into j hj mj) .1) in
             let e : w .0 ≡ j = apart (w .0) j (w .1) hj (bit-marked (w .0) (w .1) (w .2)) mj (w .3) in
-            sym (bit-is p r v f hv hf marks) ∙ ap (bitAt marks) (sym e) ∙ w .2
+            sym (bit-is p r v f hv hf (b .marks)) ∙ ap (bitAt (b .marks)) (sym e) ∙ w .2
 
-    marks-right : ((k : ℕ) → k < marksLength p → wordAt marks k < 2 ^ 64) → marksRule p b marks ≡ true
-    marks-right small = rw (marks-are p b marks long small mark-same) (rule-of p b)
+    marks-right : ((k : ℕ) → k < marksLength p → wordAt (b .marks) k < 2 ^ 64) → b .marks ≡ marksOf p b
+    marks-right small = marks-are p b (b .marks) long small mark-same
 
-  -- ---- the state is orderly and each mark is right
-  module _ (o : orderly p b ≡ true) (m : marksRule p b marks ≡ true) where
-    mark-is : (r v f : ℕ) → r < p .mu → v < p .gamma → f < 256 → markIn p marks r v f ≡ marked p (view p b r) v f
-    mark-is r v f hr hv hf = rw (right p b marks long m) (mark-at p b r v f hr hv hf)
+  -- ---- the state is orderly, each mark included
+  module _ (o : orderly p b ≡ true) where
+    mark-is : (r v f : ℕ) → r < p .mu → v < p .gamma → f < 256 → markIn p (b .marks) r v f ≡ marked p (view p b r) v f
+    mark-is r v f hr hv hf = rw (right p b long (and-right (nineRules p b) (sym (orderly-is p b) ∙ o))) (mark-at p b r v f hr hv hf)
 
-    bit-of-mark : (j : ℕ) → j < bits → bitAt marks j ≡ markedAt j
+    bit-of-mark : (j : ℕ) → j < bits → bitAt (b .marks) j ≡ markedAt j
     bit-of-mark j h =
-        bit-mark p (z .vblocks) marks j ∙ mark-is (regionAt p j) (vblockAt p j) (frameAt p j) (region-in p (z .vblocks) j h) (vblock-in p (z .vblocks) j) (omega arith)
+        bit-mark p (z .vblocks) (b .marks) j ∙ mark-is (regionAt p j) (vblockAt p j) (frameAt p j) (region-in p (z .vblocks) j h) (vblock-in p (z .vblocks) j) (omega arith)
 
-    no-more : countBelow bits (bitAt marks) ≤ countBelow (p .C) (named (b .ct))
+    no-more : countBelow bits (bitAt (b .marks)) ≤ countBelow (p .C) (named (b .ct))
     no-more =
-        fewer bits (p .C) (bitAt marks) (named (b .ct)) clusterAt (λ j h e. into j h (sym (bit-of-mark j h) ∙ e))
+        fewer bits (p .C) (bitAt (b .marks)) (named (b .ct)) clusterAt (λ j h e. into j h (sym (bit-of-mark j h) ∙ e))
         (λ i j hi hj ei ej. apart i j hi hj (sym (bit-of-mark i hi) ∙ ei) (sym (bit-of-mark j hj) ∙ ej))
 
     entry-of : (c : ℕ) → c < p .C → named (b .ct) c ≡ true → Entry p (view p b (regionOf p c)) c
@@ -164,8 +166,8 @@ module _ (p : Params) (b : Board) (marks : List ℕ) (l : Lengths p (b .chip) (b
     abbrev bitNamed : ℕ → ℕ
     bitNamed c = bitOf p (regionOf p c) (vblockNamed p b c) (frameNamed p b c)
 
-    no-fewer : countBelow (p .C) (named (b .ct)) ≤ countBelow bits (bitAt marks)
-    no-fewer = fewer (p .C) bits (named (b .ct)) (bitAt marks) bitNamed to (λ c d hc hd ec ed q. sym (back c hc ec) ∙ ap clusterAt q ∙ back d hd ed)
+    no-fewer : countBelow (p .C) (named (b .ct)) ≤ countBelow bits (bitAt (b .marks))
+    no-fewer = fewer (p .C) bits (named (b .ct)) (bitAt (b .marks)) bitNamed to (λ c d hc hd ec ed q. sym (back c hc ec) ∙ ap clusterAt q ∙ back d hd ed)
       where
         found : (c : ℕ) → c < p .C → named (b .ct) c ≡ true
             → (vblockNamed p b c < p .gamma) × (frameNamed p b c < frames p) × (marked p (view p b (regionOf p c)) (vblockNamed p b c) (frameNamed p b c) ≡ true)
@@ -175,12 +177,12 @@ module _ (p : Params) (b : Board) (marks : List ℕ) (l : Lengths p (b .chip) (b
         short : (c : ℕ) → c < p .C → named (b .ct) c ≡ true → frameNamed p b c < 256
         short c hc ec = omega (arith, (found c hc ec) .1, z .short)
 
-        to : (c : ℕ) → c < p .C → named (b .ct) c ≡ true → (bitNamed c < bits) × (bitAt marks (bitNamed c) ≡ true)
+        to : (c : ℕ) → c < p .C → named (b .ct) c ≡ true → (bitNamed c < bits) × (bitAt (b .marks) (bitNamed c) ≡ true)
         to c hc ec =
             let w = found c hc ec in
             let hr = mod-lt c (z .regions) in (
               bit-in p (regionOf p c) (vblockNamed p b c) (frameNamed p b c) (w .0) (short c hc ec) hr,
-              bit-is p (regionOf p c) (vblockNamed p b c) (frameNamed p b c) (w .0) (short c hc ec) marks
+              bit-is p (regionOf p c) (vblockNamed p b c) (frameNamed p b c) (w .0) (short c hc ec) (b .marks)
                   ∙ mark-is (regionOf p c) (vblockNamed p b c) (frameNamed p b c) hr (w .0) (short c hc ec)
                   ∙ w .2,
             )
@@ -193,10 +195,7 @@ module _ (p : Params) (b : Board) (marks : List ℕ) (l : Lengths p (b .chip) (b
 module _ (p : Params) (chip ct bt fst bst marks : List ℕ) (l : Lengths p chip ct bt fst bst) (long : length marks ≡ marksLength p)
     (small : (k : ℕ) → k < marksLength p → wordAt marks k < 2 ^ 64) (wear : List ℕ) where
   abbrev board : Board
-  board = boardOf chip ct bt fst bst wear
-
-  abbrev holds : Bool
-  holds = orderly p board && marksRule p board marks
+  board = boardOf chip ct bt fst bst wear marks
 
   z′ : Sizes p
   z′ = sizes p (l .fine)
@@ -206,11 +205,12 @@ module _ (p : Params) (chip ct bt fst bst marks : List ℕ) (l : Lengths p chip 
   unfolding countsOk
   counts-are = rw (l .ctLength, long)
 
-  passes : orderOk p chip ct bt fst bst marks ≡ true → holds ≡ true
+  passes : orderOk p chip ct bt fst bst marks ≡ true → orderly p board ≡ true
   unfolding orderOk
   passes h =
-      and-intro (sym (check-agrees p chip ct bt fst bst l wear) ∙ and-intro k (unfold chipOk in and-intro free (all-below-intro (p .mu) _ region)))
-      (marks-right p board marks l long k block sub few small)
+      orderly-is p board ∙ and-intro
+      (sym (check-agrees p chip ct bt fst bst l wear marks) ∙ and-intro k (unfold chipOk in and-intro free (all-below-intro (p .mu) _ region)))
+      (rule-of p board (marks-right p board l long k block sub few small))
     where
       k : tablesOk p bt bst ≡ true
       k = and-left (tablesOk p bt bst) _ h
@@ -249,24 +249,18 @@ module _ (p : Params) (chip ct bt fst bst marks : List ℕ) (l : Lengths p chip 
       region r hr =
           unfold regionOk in
           and-intro (all-below-intro (p .gamma) _ (λ v hv. block r v hr hv))
-          (and-intro (entry r hr) (clusters-ok p board marks l long k block sub few r))
+          (and-intro (entry r hr) (clusters-ok p board l long k block sub few r))
 
-  fails-not : holds ≡ true → orderOk p chip ct bt fst bst marks ≡ true
+  fails-not : orderly p board ≡ true → orderOk p chip ct bt fst bst marks ≡ true
   unfolding orderOk
-  fails-not h =
+  fails-not o =
       and-intro k
       (and-intro (and-left (freeRule p chip bst) _ ck)
       (and-intro (all-below-intro (p .mu) _ region)
-      (counts-are ∙ eq-eqb (countBelow (p .C) (named ct)) (countBelow (64 * marksLength p) (bitAt marks)) (omega (arith, no-more p board marks l long k block o m, no-fewer p board marks l long k block o m)))))
+      (counts-are ∙ eq-eqb (countBelow (p .C) (named ct)) (countBelow (64 * marksLength p) (bitAt marks)) (omega (arith, no-more p board l long k block o, no-fewer p board l long k block o)))))
     where
-      o : orderly p board ≡ true
-      o = and-left (orderly p board) _ h
-
-      m : marksRule p board marks ≡ true
-      m = and-right (orderly p board) h
-
       both : tablesOk p bt bst && chipOk p chip ct bt fst bst ≡ true
-      both = check-agrees p chip ct bt fst bst l wear ∙ o
+      both = check-agrees p chip ct bt fst bst l wear marks ∙ and-left (nineRules p board) _ (sym (orderly-is p board) ∙ o)
 
       k : tablesOk p bt bst ≡ true
       k = and-left (tablesOk p bt bst) _ both
@@ -281,7 +275,7 @@ module _ (p : Params) (chip ct bt fst bst marks : List ℕ) (l : Lengths p chip 
       block r v hr hv = all-at (p .gamma) (vblockOk p chip bt bst r) (and-left (allBelow (p .gamma) (vblockOk p chip bt bst r)) _ (at-region r hr)) v hv
 
       right-marks : (r v : ℕ) → r < p .mu → v < p .gamma → marksValid p chip ct bt marks r v ≡ true
-      right-marks r v hr hv = marks-in p chip ct bt fst marks r v (λ f hf e. sym (mark-is p board marks l long k block o m r v f hr hv hf) ∙ e)
+      right-marks r v hr hv = marks-in p chip ct bt fst marks r v (λ f hf e. sym (mark-is p board l long k block o r v f hr hv hf) ∙ e)
 
       frames-right : (r : ℕ) → r < p .mu
           → (entryOk p bt r (fstAt fst r) ≡ true) × ((v : ℕ) → v < p .gamma → framesOk p (fstAt fst r) v (vblockFrames p chip bt bst r v) ≡ true)
@@ -295,6 +289,6 @@ module _ (p : Params) (chip ct bt fst bst marks : List ℕ) (l : Lengths p chip 
       region : (r : ℕ) → r < p .mu → regionHeld p chip ct bt fst bst marks r ≡ true
       region r hr = unfold regionHeld in and-intro ((frames-right r hr) .0) (all-below-intro (p .gamma) _ (λ v hv. held r v hr hv))
 
-  -- the tables, the free blocks, the regions and the counts are right exactly where the state is orderly and its marks are
-  pub order-agrees : orderOk p chip ct bt fst bst marks ≡ orderly p board && marksRule p board marks
-  order-agrees = same-truth (orderOk p chip ct bt fst bst marks) holds passes fails-not
+  -- the tables, the free blocks, the regions and the counts are right exactly where the state is orderly
+  pub order-agrees : orderOk p chip ct bt fst bst marks ≡ orderly p board
+  order-agrees = same-truth (orderOk p chip ct bt fst bst marks) (orderly p board) passes fails-not

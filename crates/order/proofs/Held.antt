@@ -21,10 +21,10 @@ use Rattle.rules.proofs.Frames.{seg-low, seg-place, seg-vblock}
 use Rattle.rules.proofs.RegionFacts.{Entry, GoodFrame}
 use Rattle.rules.proofs.Sizes.{Sizes}
 use Rattle.rules.proofs.Victims.{Valid, valid-in, valid-one}
-use Rattle.claims.proofs.ValidFrames.{named-valid}
+use Rattle.rules.proofs.ValidFrames.{named-valid}
 use Rattle.agree.specs.Check.{clusterOk}
 use Rattle.agree.proofs.Same.{Names, assigned-no, assigned-yes, body-is, entry-same}
-use Rattle.marks.specs.Marks.{marked}
+use Rattle.rules.specs.Marks.{marked}
 use Rattle.marks.proofs.Counted.{unassigned-unmarked}
 use Rattle.order.specs.Order.{named}
 use Rattle.order.proofs.Blocks.{good}

@@ -13,7 +13,9 @@ use borrow.Author.Tests.{not-true}
 use Rattle.lists.proofs.Tests.{all-at, all-below-intro, never, or-cases, so}
 use Rattle.rules.specs.declared.Params.{Params}
 use Rattle.rules.specs.Regions.{valid, viewOf}
-use Rattle.marks.specs.Marks.{markIn, markIndex, marked, marksLength, wordAt}
+use Rattle.marks.specs.Marks.{markIn}
+use Rattle.rules.specs.Tables.{markIndex, marksLength, wordAt}
+use Rattle.rules.specs.Marks.{marked}
 use Rattle.valid.specs.Shown.{bitIn, marksValid, onlyIn, wordOnly}
 use Rattle.order.specs.Order.{bitAt}
 

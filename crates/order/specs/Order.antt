@@ -13,10 +13,9 @@ use Rattle.rules.specs.declared.Params.{Params}
 use Rattle.rules.specs.Numbers.{segmentOf, vblockOf}
 use Rattle.rules.specs.Orderly.{freeRule}
 use Rattle.rules.specs.Parameters.{frames}
-use Rattle.rules.specs.Tables.{btAt, ctAt, fstAt, none}
+use Rattle.rules.specs.Tables.{btAt, ctAt, fstAt, none, marksLength, wordAt}
 use Rattle.checks.specs.Entries.{emptyAt}
 use Rattle.agree.specs.Check.{Lent, tablesOk, vblockFrames}
-use Rattle.marks.specs.Marks.{marksLength, wordAt}
 use Rattle.valid.specs.Shown.{bitIn, marksValid}
 
 -- segment sg, FST's entry of region r, is none exactly if the region has no block, and else one of a virtual block that has one

@@ -9,9 +9,8 @@ ghost use Rattle.lists.specs.Below.{allBelow, countBelow};
 ghost use Rattle.rules.specs.Numbers.{vblockOf};
 ghost use Rattle.rules.specs.Orderly.{orderly};
 ghost use Rattle.rules.specs.Parameters.{allowed, frames};
-ghost use Rattle.rules.specs.Tables.{boardOf};
+ghost use Rattle.rules.specs.Tables.{boardOf, marksLength};
 ghost use Rattle.agree.specs.Check.{Lengths};
-ghost use Rattle.marks.specs.Marks.{marksLength, marksRule};
 ghost use Rattle.order.specs.Order.{BlocksAsked, bitAt, blockHeld, countsOk, entryOk, framesOk, named, regionHeld};
 use rules::Params;
 use rules::Segment;
@@ -200,8 +199,7 @@ fn counts_ok(ct: &[u16], marks: &[u64]) -> bool
     k == count_marked(marks)
 }
 
-// Is the state orderly, and does each mark equal the validity rule? Reply 7 if not.
-// No rule looks at the wear.
+// Is the state orderly, each mark included? Reply 7 if not. No rule looks at the wear.
 pub fn in_order(
     p: Params,
     chip: &[u8],
@@ -213,7 +211,7 @@ pub fn in_order(
 ) -> bool
     requires { ⌜ Lengths p (now chip) (now ct) (now bt) (now fst) (now bst) ⌝ }
     requires { ⌜ length (now marks) ≡ marksLength p ⌝ }
-    ensures { λ ok. ⌜ ((wear : List ℕ) → ok ≡ orderly p (boardOf (now (chip .entry)) (now (ct .entry)) (now (bt .entry)) (now (fst .entry)) (now (bst .entry)) wear) && marksRule p (boardOf (now (chip .entry)) (now (ct .entry)) (now (bt .entry)) (now (fst .entry)) (now (bst .entry)) wear) (now (marks .entry))) ⌝ }
+    ensures { λ ok. ⌜ ((wear : List ℕ) → ok ≡ orderly p (boardOf (now (chip .entry)) (now (ct .entry)) (now (bt .entry)) (now (fst .entry)) (now (bst .entry)) wear (now (marks .entry)))) ⌝ }
 {
     if !state::tables_ok(p, bt, bst) {
         return false;

@@ -5,7 +5,7 @@ use Prim.Native.Nat.{_<_}
 use native.Mathlib.Omega.{arith}
 use Rattle.rules.specs.declared.Answer.{Answer}
 use Rattle.rules.specs.Replies.{numberOf}
-use Rattle.claims.proofs.Outcomes.{number-low}
+use Rattle.rules.proofs.Outcomes.{number-low}
 use Rattle.packing.specs.Packed.{packed}
 
 -- two answers with the same number have the same reply number and the same counts

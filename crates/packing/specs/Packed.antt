@@ -3,16 +3,11 @@
 use Prim.Native.Nat.{ℕ, _+_, _*_}
 use Rattle.rules.specs.declared.Params.{Params}
 use Rattle.rules.specs.declared.Answer.{Answer}
-use Rattle.rules.specs.Calls.{Outcome}
 use Rattle.rules.specs.Replies.{numberOf}
 
 -- reply + 65,536 × programs + 4,294,967,296 × erases
 unfoldable pub packed : Answer → ℕ
 packed a = numberOf (a .reply) + 65536 * a .programs + 4294967296 * a .erases
-
--- that of an outcome
-unfoldable pub packedIn : Outcome → ℕ
-packedIn o = packed (o .answer)
 
 -- the eight parameters, in the order in which they are passed
 abbrev pub paramsOf : ℕ → ℕ → ℕ → ℕ → ℕ → ℕ → ℕ → ℕ → Params

@@ -1,44 +1,64 @@
 -- The answers of a queue of two have room in their numbers; and the numbers in their places.
 -- Assumes nothing.
-use mathlib.Core.Path.{_≡_, refl, sym, subst}
-use mathlib.Core.Bool.{Bool, true, false}
+use mathlib.Core.Path.{_≡_, refl, sym, ap, _∙_, subst}
+use mathlib.Core.Logic.{_⊎_, inl, inr}
+use mathlib.Core.Bool.{false}
 use mathlib.Core.List.{List, [], _∷_}
 use Prim.Native.Nat.{ℕ, _<_, _≤_}
 use native.Mathlib.Omega.{arith}
 use lib.ListN.{length, set}
 use Rattle.rules.specs.declared.Params.{Params}
 use Rattle.rules.specs.declared.Answer.{Answer}
-use Rattle.rules.specs.Calls.{answerOf}
-use Rattle.rules.specs.Replies.{isAccepted}
+use Rattle.rules.specs.declared.Item.{Item}
+use Rattle.rules.specs.declared.Reply.the-variants.{Accepted}
+use Rattle.rules.specs.Tables.{Board}
 use Rattle.rules.specs.Traces.{programsIn}
-use Rattle.marks.specs.MarkedConditions.{MarkedBoard, markedLeaves, markedOutcomeOf, markedOutcomes}
-use Rattle.queued.specs.declared.Item.{Item}
-use Rattle.queued.specs.Queue.{QueueOutcome, answerIn, itemWrite, itemWrites, queueCall, queueOutcome, queueReply}
-use Rattle.packing.proofs.Counts.{few-marked}
+use Rattle.rules.specs.Requests.{Call, itemRequest, itemRequests, lentAnswers, queue, queueOf, write}
+use Rattle.rules.specs.Replies.{isAccepted, replyOf}
+use Rattle.rules.specs.Calls.{Outcome, answerOf, answersIn, outcomeOf, over, writeAll}
+use Rattle.rules.proofs.Outcomes.{all-lent, call-refused, queue-accepted, reply-cases}
+use Rattle.queued.specs.Served.{itemOutcome}
+use Rattle.queued.proofs.Served.{answers-more}
+use Rattle.packing.proofs.Counts.{few-programs}
+use Rattle.ends.specs.Claims.{outcome}
 use Rattle.pair.specs.Two.{placed, unset}
 
 abbrev AllFew : List Answer → Type 0
 AllFew [] = Unit {0}
 AllFew (a ∷ answers) = (a .programs < 65536) × AllFew answers
 
-abbrev Few : QueueOutcome → Type 0
+abbrev Few : Outcome → Type 0
 Few o = (o .answer .programs < 65536) × AllFew (o .answers)
 
-few-one : (p : Params) (x : MarkedBoard) (bytes : List ℕ) (it : Item) → (markedOutcomeOf p x (itemWrite p bytes it)) .answer .programs < 65536
-unfolding markedOutcomeOf
-few-one p x bytes it = few-marked p (x .board) (x .marks) (itemWrite p bytes it)
+module _ (p : Params) (x : Board) (a b : Item) (bytes : List ℕ) where
+  abbrev call : Call
+  call = queue (queueOf (a ∷ b ∷ []) bytes (unset ∷ unset ∷ []))
 
-few-call : (p : Params) (x : MarkedBoard) (a b : Item) (bytes : List ℕ) → Few (queueCall p x (a ∷ b ∷ []) bytes (unset ∷ unset ∷ []))
-unfolding queueCall itemWrites markedOutcomes answerIn answerOf programsIn
-few-call p x a b bytes = go (isAccepted (queueReply p x 2 2)) refl
-  where
-    go : (t : Bool) → isAccepted (queueReply p x 2 2) ≡ t → Few (queueCall p x (a ∷ b ∷ []) bytes (unset ∷ unset ∷ []))
-    go true e = rw e (omega arith, (few-one p x bytes a, (few-one p (markedLeaves p x (itemWrite p bytes a)) bytes b, tt)))
-    go false e = rw e (omega arith, (omega arith, (omega arith, tt)))
+  -- the items' answers
+  both : answersIn ((writeAll p x (itemRequests p bytes (a ∷ b ∷ [])) (queueOf (a ∷ b ∷ []) bytes (unset ∷ unset ∷ []))) .parts)
+      ≡ (itemOutcome p bytes x a) .answer ∷ (itemOutcome p bytes ((itemOutcome p bytes x a) .board) b) .answer ∷ []
+  unfolding itemRequests itemOutcome
+  both =
+      answers-more p x (itemRequest p bytes a) (itemRequest p bytes b ∷ []) _
+      ∙ ap (λ (l : List Answer). (outcomeOf p x (write (itemRequest p bytes a))) .answer ∷ l) (answers-more p _ (itemRequest p bytes b) [] _ ∙ unfold writeAll answersIn in refl)
 
-pub few-two : (p : Params) (x : MarkedBoard) (a b : Item) (bytes : List ℕ) (own first second : Answer) (x′ : MarkedBoard)
-    → queueOutcome own (first ∷ second ∷ []) x′ ≡ queueCall p x (a ∷ b ∷ []) bytes (unset ∷ unset ∷ []) → Few (queueOutcome own (first ∷ second ∷ []) x′)
-few-two p x a b bytes own first second x′ e = subst Few (sym e) (few-call p x a b bytes)
+  served-two : replyOf p x call ≡ Accepted → (outcomeOf p x call) .answers ≡ (itemOutcome p bytes x a) .answer ∷ (itemOutcome p bytes ((itemOutcome p bytes x a) .board) b) .answer ∷ []
+  unfolding outcomeOf over
+  served-two e = rw (queue-accepted p x _ e, all-lent p x (itemRequests p bytes (a ∷ b ∷ [])) _, both)
+
+  -- both places have them, or are as lent
+  few-answers : AllFew ((outcomeOf p x call) .answers)
+  few-answers = go (reply-cases (replyOf p x call))
+    where
+      go : (replyOf p x call ≡ Accepted) ⊎ (isAccepted (replyOf p x call) ≡ false) → AllFew ((outcomeOf p x call) .answers)
+      go (inl e) = rw (served-two e) (unfold itemOutcome in (few-programs p x (write (itemRequest p bytes a)), (few-programs p _ (write (itemRequest p bytes b)), tt)))
+      go (inr e) = rw (call-refused p x call e) (unfold lentAnswers in (omega arith, (omega arith, tt)))
+
+  few-call : Few (outcomeOf p x call)
+  few-call = (few-programs p x call, few-answers)
+
+  pub few-two : (own first second : Answer) (x′ : Board) → outcome own bytes (first ∷ second ∷ []) x′ ≡ outcomeOf p x call → Few (outcome own bytes (first ∷ second ∷ []) x′)
+  few-two own first second x′ e = subst Few (sym e) few-call
 
 pub placed-two : (first second : ℕ) (list : List ℕ) → 2 ≤ length list → set (set list 0 first) 1 second ≡ placed first second list
 unfolding placed

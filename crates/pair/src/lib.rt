@@ -1,13 +1,14 @@
 // A queue of two writes with plain parameters, so that the queue of crate `queue` can be run by a test.
 ghost use mathlib.Core.Path.{_≡_};
 ghost use mathlib.Core.List.{[], _∷_};
-ghost use Rattle.queued.specs.Queue.{queueCall, queueOutcome};
-ghost use Rattle.heads.specs.Heads.{lentBoard};
-ghost use Rattle.items.specs.Items.{itemOf};
+ghost use Rattle.rules.specs.Tables.{boardOf};
+ghost use Rattle.rules.specs.Requests.{itemOf, queue, queueOf};
+ghost use Rattle.rules.specs.Calls.{outcomeOf};
+ghost use Rattle.ends.specs.Claims.{outcome};
 ghost use Rattle.packing.specs.Packed.{paramsOf};
 ghost use Rattle.pair.specs.Two.{Two, placed, unset};
-use queued::Item;
 use rules::Answer;
+use rules::Item;
 use rules::Params;
 use rules::Reply;
 
@@ -33,7 +34,7 @@ fn two(
     bytes: &[u8],
     blank: Answer,
 ) -> Pair
-    ensures { λ r. ⌜ queueOutcome (r .own) (r .first ∷ r .second ∷ []) (lentBoard (now (chip .exit)) (now (ct .exit)) (now (bt .exit)) (now (fst .exit)) (now (bst .exit)) (now (wear .exit)) (now (marks .exit))) ≡ queueCall p (lentBoard (now (chip .entry)) (now (ct .entry)) (now (bt .entry)) (now (fst .entry)) (now (bst .entry)) (now (wear .entry)) (now (marks .entry))) (a ∷ b ∷ []) (now (bytes .entry)) (blank ∷ blank ∷ []) ⌝ }
+    ensures { λ r. ⌜ outcome (r .own) (now (bytes .entry)) (r .first ∷ r .second ∷ []) (boardOf (now (chip .exit)) (now (ct .exit)) (now (bt .exit)) (now (fst .exit)) (now (bst .exit)) (now (wear .exit)) (now (marks .exit))) ≡ outcomeOf p (boardOf (now (chip .entry)) (now (ct .entry)) (now (bt .entry)) (now (fst .entry)) (now (bst .entry)) (now (wear .entry)) (now (marks .entry))) (queue (queueOf (a ∷ b ∷ []) (now (bytes .entry)) (blank ∷ blank ∷ []))) ⌝ }
 {
     let requests = [a, b];
     let mut answers = [blank, blank];
@@ -75,7 +76,7 @@ pub fn queue_two(
     first2: u32,
     bytes: &[u8],
 ) -> Pair
-    ensures { λ r. ⌜ queueOutcome (r .own) (r .first ∷ r .second ∷ []) (lentBoard (now (chip .exit)) (now (ct .exit)) (now (bt .exit)) (now (fst .exit)) (now (bst .exit)) (now (wear .exit)) (now (marks .exit))) ≡ queueCall p (lentBoard (now (chip .entry)) (now (ct .entry)) (now (bt .entry)) (now (fst .entry)) (now (bst .entry)) (now (wear .entry)) (now (marks .entry))) (itemOf lba count first ∷ itemOf lba2 count2 first2 ∷ []) (now (bytes .entry)) (unset ∷ unset ∷ []) ⌝ }
+    ensures { λ r. ⌜ outcome (r .own) (now (bytes .entry)) (r .first ∷ r .second ∷ []) (boardOf (now (chip .exit)) (now (ct .exit)) (now (bt .exit)) (now (fst .exit)) (now (bst .exit)) (now (wear .exit)) (now (marks .exit))) ≡ outcomeOf p (boardOf (now (chip .entry)) (now (ct .entry)) (now (bt .entry)) (now (fst .entry)) (now (bst .entry)) (now (wear .entry)) (now (marks .entry))) (queue (queueOf (itemOf lba count first ∷ itemOf lba2 count2 first2 ∷ []) (now (bytes .entry)) (unset ∷ unset ∷ []))) ⌝ }
 {
     let a = Item {
         lba: lba,
@@ -132,7 +133,7 @@ pub extern "C" fn cnftl_queue_two(
     bytes: &[u8],
     answers: &mut [u64],
 ) -> u64
-    ensures { λ word. ⌜ Two (queueCall (paramsOf s alpha beta d mu gamma c n) (lentBoard (now (chip .entry)) (now (ct .entry)) (now (bt .entry)) (now (fst .entry)) (now (bst .entry)) (now (wear .entry)) (now (marks .entry))) (itemOf lba count first ∷ itemOf lba2 count2 first2 ∷ []) (now (bytes .entry)) (unset ∷ unset ∷ [])) (now (answers .entry)) word (now (answers .exit)) (lentBoard (now (chip .exit)) (now (ct .exit)) (now (bt .exit)) (now (fst .exit)) (now (bst .exit)) (now (wear .exit)) (now (marks .exit))) ⌝ }
+    ensures { λ word. ⌜ Two (outcomeOf (paramsOf s alpha beta d mu gamma c n) (boardOf (now (chip .entry)) (now (ct .entry)) (now (bt .entry)) (now (fst .entry)) (now (bst .entry)) (now (wear .entry)) (now (marks .entry))) (queue (queueOf (itemOf lba count first ∷ itemOf lba2 count2 first2 ∷ []) (now (bytes .entry)) (unset ∷ unset ∷ [])))) (now (bytes .entry)) (now (answers .entry)) word (now (answers .exit)) (boardOf (now (chip .exit)) (now (ct .exit)) (now (bt .exit)) (now (fst .exit)) (now (bst .exit)) (now (wear .exit)) (now (marks .exit))) ⌝ }
 {
     let p = Params {
         s: s as usize,

@@ -21,10 +21,11 @@ use Rattle.lists.proofs.Tests.{and-left, and-right, never}
 use Rattle.rules.specs.declared.Params.{Params}
 use Rattle.rules.specs.Parameters.{frames, pageBytes, frameBytes, blockBytes}
 use Rattle.rules.specs.Numbers.{sectorOf, regionOf, vblockOf, placeOf, segmentOf}
-use Rattle.rules.specs.Write.{requestCluster, Request, requestRegion, newSector, newPage, newFrame}
+use Rattle.rules.specs.Write.{newSector, newPage, newFrame}
 use Rattle.rules.specs.Tables.{Board, none, ctAt, btAt, btEntry}
 use Rattle.rules.specs.Regions.{View, view, viewOf, bodyAt, assigned, frameOf, sectorIn}
 use Rattle.rules.specs.Pages.{block, frame, page, spare, spareBytes, programmed, held, holds, lastIn}
+use Rattle.rules.specs.Requests.{requestCluster, Request, requestRegion}
 use Rattle.rules.proofs.Sizes.{Sizes, sizes}
 use Rattle.rules.proofs.Frames.{erased-not, seg-low as seg-low-of}
 use Rattle.lists.proofs.Parts.{next, part-part, part-length}

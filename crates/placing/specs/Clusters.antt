@@ -12,7 +12,8 @@ use Rattle.rules.specs.Parameters.{allowed, frames, frameBytes, blockBytes}
 use Rattle.rules.specs.Numbers.{segmentOf}
 use Rattle.rules.specs.Tables.{Board, none, btEntry, btAt}
 use Rattle.rules.specs.Regions.{view}
-use Rattle.rules.specs.Write.{Request, requestCluster, requestRegion, newFrame}
+use Rattle.rules.specs.Write.{newFrame}
+use Rattle.rules.specs.Requests.{Request, requestCluster, requestRegion}
 use Rattle.rules.proofs.RegionKept.{Base}
 use Rattle.rules.proofs.Admitted.{Asked}
 

@@ -1,14 +1,14 @@
 -- The plan that the code finds is the rules' own: its tests over the lent tables are those of the region's view.
 -- Assumes nothing.
-use mathlib.Core.Path.{_≡_, refl, sym, ap, _∙_}
+use mathlib.Core.Path.{_≡_, refl, sym, _∙_}
 use mathlib.Core.Logic.{_⊎_, inl, inr}
-use mathlib.Core.Bool.{Bool, true, false, not, _&&_, cond}
+use mathlib.Core.Bool.{true, false, not, _&&_, cond}
 use mathlib.Core.List.{List, []}
-use Prim.Native.Nat.{ℕ, zero, suc, _*_, _≤_, _<_}
+use Prim.Native.Nat.{ℕ, _*_, _≤_, _<_}
 use native.Mathlib.Omega.{arith}
 use native.Mathlib.Decide.{ℕ-discrete}
 use lib.Dec.{eqb, ltb}
-use borrow.Author.Tests.{eq-eqb, ne-eqb, lt-ltb, le-ltb, eqb-false}
+use borrow.Author.Tests.{eq-eqb, ne-eqb, lt-ltb, le-ltb}
 use lib.ListN.{length}
 use Rattle.lists.proofs.Parts.{next}
 use Rattle.lists.proofs.Searches.{first-cong}
@@ -23,7 +23,7 @@ use Rattle.rules.proofs.Sizes.{Sizes, sizes}
 use Rattle.rules.proofs.TableFacts.{chip-size}
 use Rattle.rules.proofs.Replays.{block-size}
 use Rattle.rules.proofs.Views.{some-bytes}
-use Rattle.marks.specs.Marks.{Marks, marksOf, marksOn, tableOf}
+use Rattle.rules.specs.Marks.{Marks, marksIn, marksOf, marksOn, tableOf}
 use Rattle.marks.proofs.Counted.{victim-counted}
 use Rattle.blocks.specs.First.{FirstFrames}
 use Rattle.choose.specs.Search.{leastMarked, lowestNone}
@@ -157,6 +157,6 @@ module _ (p : Params) (chip bt fst : List ℕ) (r : ℕ) (a : PlanAsked p chip b
       reclaims-is e u k = rw (no-room, ← lowest-is, eq-eqb v none e, k)
 
     -- the virtual block with fewest marks is the one with fewest valid frames
-    pub victim-is : (bst wear marks : List ℕ) → marks ≡ marksOf p (boardOf chip ct bt fst bst wear) → (v : ℕ) → ((m : Marks) → marks ≡ tableOf p m → v ≡ leastMarked m r (p .gamma)) → v ≡ victim p vw
-    unfolding marksOf marksOn
-    victim-is bst wear marks e v h = h (marksOn p (boardOf chip ct bt fst bst wear)) e ∙ sym (victim-counted p (a .fine) vw)
+    pub victim-is : (marks : List ℕ) → marks ≡ marksOf p (boardOf chip ct bt fst [] [] []) → (v : ℕ) → ((m : Marks) → marks ≡ tableOf p m → v ≡ leastMarked m r (p .gamma)) → v ≡ victim p vw
+    unfolding marksIn
+    victim-is marks e v h = h (marksOn p (boardOf chip ct bt fst [] [] [])) e ∙ sym (victim-counted p (a .fine) vw)

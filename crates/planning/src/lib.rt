@@ -1,12 +1,12 @@
 // Document 01, "Write", on a state that is known to be orderly: where the write goes.
 ghost use mathlib.Core.Path.{_≡_};
-ghost use mathlib.Core.List.{List};
+ghost use mathlib.Core.List.{List, []};
 ghost use Prim.Native.Nat.{ℕ};
 ghost use lib.ListN.{length};
-ghost use Rattle.rules.specs.Tables.{boardOf};
+ghost use Rattle.rules.specs.Tables.{boardOf, marksLength};
 ghost use Rattle.rules.specs.Regions.{viewOf};
 ghost use Rattle.rules.specs.Write.{planOf};
-ghost use Rattle.marks.specs.Marks.{marksLength, marksOf};
+ghost use Rattle.rules.specs.Marks.{marksOf};
 ghost use Rattle.planning.specs.Plans.{PlanAsked, nextIn, planIs};
 use rules::Params;
 use rules::VBlock;
@@ -37,7 +37,7 @@ fn next_frame(p: Params, chip: &[u8], bt: &[u16], fst: &[u16], r: usize) -> usiz
 pub fn plan_of(p: Params, chip: &[u8], bt: &[u16], fst: &[u16], marks: &[u64], r: usize) -> Planned
     requires { ⌜ PlanAsked p (now chip) (now bt) (now fst) r ⌝ }
     requires { ⌜ length (now marks) ≡ marksLength p ⌝ }
-    ensures { λ pl. ⌜ ((ct bst wear : List ℕ) → now (marks .entry) ≡ marksOf p (boardOf (now (chip .entry)) ct (now (bt .entry)) (now (fst .entry)) bst wear)
+    ensures { λ pl. ⌜ ((ct : List ℕ) → now (marks .entry) ≡ marksOf p (boardOf (now (chip .entry)) ct (now (bt .entry)) (now (fst .entry)) [] [] [])
         → planIs pl ≡ planOf p (viewOf p (now (chip .entry)) ct (now (bt .entry)) (now (fst .entry)) r)) ⌝ }
 {
     let f = next_frame(p, chip, bt, fst, r);

@@ -57,8 +57,3 @@ pub record Printed (x before after : List ℕ) (r : ℕ) : Type 0 where
   pub rest : drop r after ≡ drop r before
   pub within : r ≤ length after
   pub counted : r ≡ length (take r after)
-
--- every definition of this file, for an `unfolding` line
-unfoldable pub all-output : Unit {0}
-unfolding digit decimalUpTo decimal hex sectors countsLine readLine unknownLine
-all-output = tt

@@ -1,9 +1,11 @@
 // Document 02, T-01: one call that takes a list of write requests and fills a list of answers.
 ghost use mathlib.Core.Path.{_≡_};
-ghost use Rattle.queued.specs.Queue.{queueCall, queueOutcome};
-ghost use Rattle.heads.specs.Heads.{lentBoard};
-use queued::Item;
+ghost use Rattle.rules.specs.Tables.{boardOf};
+ghost use Rattle.rules.specs.Requests.{queue, queueOf};
+ghost use Rattle.rules.specs.Calls.{outcomeOf};
+ghost use Rattle.ends.specs.Claims.{outcome};
 use rules::Answer;
+use rules::Item;
 use rules::Params;
 
 // The items are written in list order, each answered in its place; the state is checked once.
@@ -20,7 +22,7 @@ pub fn queue(
     bytes: &[u8],
     answers: &mut [Answer],
 ) -> Answer
-    ensures { λ a. ⌜ queueOutcome a (now (answers .exit)) (lentBoard (now (chip .exit)) (now (ct .exit)) (now (bt .exit)) (now (fst .exit)) (now (bst .exit)) (now (wear .exit)) (now (marks .exit))) ≡ queueCall p (lentBoard (now (chip .entry)) (now (ct .entry)) (now (bt .entry)) (now (fst .entry)) (now (bst .entry)) (now (wear .entry)) (now (marks .entry))) (now (requests .entry)) (now (bytes .entry)) (now (answers .entry)) ⌝ }
+    ensures { λ a. ⌜ outcome a (now (bytes .entry)) (now (answers .exit)) (boardOf (now (chip .exit)) (now (ct .exit)) (now (bt .exit)) (now (fst .exit)) (now (bst .exit)) (now (wear .exit)) (now (marks .exit))) ≡ outcomeOf p (boardOf (now (chip .entry)) (now (ct .entry)) (now (bt .entry)) (now (fst .entry)) (now (bst .entry)) (now (wear .entry)) (now (marks .entry))) (queue (queueOf (now (requests .entry)) (now (bytes .entry)) (now (answers .entry)))) ⌝ }
 {
     let h = heads::head_of(
         p,

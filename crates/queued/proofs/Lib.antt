@@ -1,4 +1,1 @@
-pub mod Queues
 pub mod Served
-pub mod Singles
-pub mod QueueConditions

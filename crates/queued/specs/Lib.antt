@@ -1,3 +1,1 @@
-pub mod Queue
 pub mod Served
-pub mod QueueRuns

@@ -1,8 +1,8 @@
 -- A read: an accepted one has what the code asks, and the sectors read one after the other are the rules' answer.
 -- Assumes nothing.
-use mathlib.Core.Path.{_≡_, refl}
+use mathlib.Core.Path.{_≡_}
 use mathlib.Core.List.{List}
-use Prim.Native.Nat.{ℕ, zero, suc, _+_, _<_}
+use Prim.Native.Nat.{ℕ, _+_}
 use native.Mathlib.Nat.{mod-lt}
 use native.Mathlib.Omega.{arith}
 use mathlib.Core.Bool.{Bool}
@@ -11,8 +11,8 @@ use Rattle.rules.specs.declared.Params.{Params}
 use Rattle.rules.specs.Numbers.{clusterOf, sectorOf, regionOf}
 use Rattle.rules.specs.Tables.{Board, boardOf}
 use Rattle.rules.specs.Regions.{view, sector}
-use Rattle.rules.specs.Write.{Request, requestCluster}
 use Rattle.rules.specs.Calls.{readBytes}
+use Rattle.rules.specs.Requests.{Request, requestCluster}
 use Rattle.rules.proofs.RegionFacts.{neat}
 use Rattle.rules.proofs.Admitted.{Admitted}
 use Rattle.lists.proofs.Joins.{join-cong}
@@ -40,8 +40,8 @@ module _ (p : Params) (chip ct bt : List ℕ) (lba count : ℕ) (bytes : List �
   pub run-asked : (j : ℕ) → j ≡ sectorOf p lba → RunAsked p chip kept frame j count bytes
   run-asked j e = record { source = source p chip ct bt ct (clusterOf p lba) (a .lookup) kept frame s; inside = rw e (a .inside); size = a .size }
 
-  pub read-is : (j : ℕ) → j ≡ sectorOf p lba → (fst bst wear : List ℕ)
-      → joinBelow count (λ i. sectorFrom p chip kept frame (j + i)) ≡ readBytes p (boardOf chip ct bt fst bst wear) (requestOf lba count bytes)
+  pub read-is : (j : ℕ) → j ≡ sectorOf p lba → (fst bst wear marks : List ℕ)
+      → joinBelow count (λ i. sectorFrom p chip kept frame (j + i)) ≡ readBytes p (boardOf chip ct bt fst bst wear marks) (requestOf lba count bytes)
   unfolding readBytes sector
-  read-is j e fst bst wear =
+  read-is j e fst bst wear marks =
       join-cong count _ _ (λ i h. rw e (sector-same p chip ct bt fst (clusterOf p lba) (a .lookup) kept frame s (sectorOf p lba + i) (omega (arith, a .inside))))

@@ -9,7 +9,7 @@ use Rattle.lists.specs.Parts.{part}
 use Rattle.rules.specs.declared.Params.{Params}
 use Rattle.rules.specs.Parameters.{allowed, pageBytes, frameBytes}
 use Rattle.rules.specs.Numbers.{clusterOf, sectorOf}
-use Rattle.rules.specs.Write.{Request}
+use Rattle.rules.specs.Requests.{Request}
 use Rattle.reading.specs.Lookup.{Lookup}
 
 -- sector j of a cluster that is kept in this frame of the chip: the data bytes of the frame's page j; 255 where it is not kept

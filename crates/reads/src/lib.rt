@@ -1,8 +1,9 @@
-// Document 01, "Read", on the lent chip and tables, with T-06's table of marks. No `requires`: the contract says that the whole outcome is the rules', for every input.
+// Document 01, "Read", on the lent chip and tables. No `requires`: the contract says that the whole outcome is the rules', for every input.
 ghost use mathlib.Core.Path.{_≡_};
+ghost use mathlib.Core.List.{[]};
 ghost use Rattle.rules.specs.Tables.{boardOf};
-ghost use Rattle.rules.specs.Calls.{read};
-ghost use Rattle.marks.specs.MarkedCalls.{markedCall, markedOutcome};
+ghost use Rattle.rules.specs.Requests.{read};
+ghost use Rattle.rules.specs.Calls.{outcomeOf};
 ghost use Rattle.reading.specs.Sectors.{requestOf};
 ghost use Rattle.ends.specs.Claims.{outcome};
 use rules::Answer;
@@ -22,7 +23,7 @@ pub fn read(
     count: u32,
     bytes: &mut [u8],
 ) -> Answer
-    ensures { λ a. ⌜ markedOutcome (outcome a (now (bytes .exit)) (boardOf (now (chip .entry)) (now (ct .entry)) (now (bt .entry)) (now (fst .entry)) (now (bst .entry)) (now (wear .entry)))) (now (marks .entry)) ≡ markedCall p (boardOf (now (chip .entry)) (now (ct .entry)) (now (bt .entry)) (now (fst .entry)) (now (bst .entry)) (now (wear .entry))) (now (marks .entry)) (read (requestOf lba count (now (bytes .entry)))) ⌝ }
+    ensures { λ a. ⌜ outcome a (now (bytes .exit)) [] (boardOf (now (chip .entry)) (now (ct .entry)) (now (bt .entry)) (now (fst .entry)) (now (bst .entry)) (now (wear .entry)) (now (marks .entry))) ≡ outcomeOf p (boardOf (now (chip .entry)) (now (ct .entry)) (now (bt .entry)) (now (fst .entry)) (now (bst .entry)) (now (wear .entry)) (now (marks .entry))) (read (requestOf lba count (now (bytes .entry)))) ⌝ }
 {
     let reply = replies::access_reply(
         p,

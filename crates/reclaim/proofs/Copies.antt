@@ -17,15 +17,17 @@ use Rattle.lists.proofs.Ranks.{keep-length, map-at, keep-nth}
 use Rattle.rules.specs.declared.Params.{Params}
 use Rattle.rules.specs.Parameters.{frames, frameBytes, blockBytes}
 use Rattle.rules.specs.Numbers.{segmentOf}
-use Rattle.rules.specs.Tables.{wearAt}
+use Rattle.rules.specs.Tables.{wearAt, marksLength, wordAt}
 use Rattle.rules.specs.Pages.{block, frame, held, erased}
 use Rattle.rules.specs.Traces.{erase, onChip, replayChip, frameOps, framesOps}
-use Rattle.rules.specs.Write.{putFrames, followCt}
+use Rattle.rules.specs.Write.{followCt}
 use Rattle.rules.proofs.Sizes.{sizes}
 use Rattle.rules.proofs.Chip.{replay-append, frame-put}
 use Rattle.rules.proofs.Replays.{Ran, Wholes, frames-ran, block-size, put-frames-else}
 use Rattle.rules.proofs.Following.{follow-length}
-use Rattle.marks.specs.Marks.{markIn, marksLength, tableOf, wordAt}
+use Rattle.marks.specs.Marks.{markIn}
+use Rattle.rules.specs.Machine.{putFrames}
+use Rattle.rules.specs.Marks.{tableOf}
 use Rattle.marks.proofs.Tables.{table-marks}
 use Rattle.reclaim.specs.Moves.{Whole, OnChip, MoveAsked, MovedIf, FromTo, Copied, Reclaimed, markedFrames}
 use Rattle.reclaim.proofs.Places.{block-fits, frame-fits, frame-whole}

@@ -1,7 +1,7 @@
 // Document 01, "Reclaim": the victim's valid frames, which are those with a mark, are copied to the free block, CT follows each, and the victim is erased.
 ghost use mathlib.Core.Path.{_≡_};
 ghost use Rattle.rules.specs.Pages.{block, frame, held};
-ghost use Rattle.marks.specs.Marks.{Marks, tableOf};
+ghost use Rattle.rules.specs.Marks.{Marks, tableOf};
 ghost use Rattle.marking.specs.Asked.{WordsAsked};
 ghost use Rattle.reclaim.specs.Moves.{OnChip, MoveAsked, Moved, MovedIf, FromTo, Copied, ReclaimAsked, Reclaimed, markedFrames};
 use rules::Cluster;

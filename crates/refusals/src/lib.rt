@@ -1,19 +1,14 @@
-// Document 01, "Reply numbers", and T-06's: the rows that look at the request and the lengths alone, and the answer of a call that is refused.
+// Document 01, "Reply numbers": the rows that look at the request alone, and the answer of a call that is refused.
 ghost use mathlib.Core.Path.{_≡_};
-ghost use mathlib.Core.Bool.{true, false, not, _&&_};
-ghost use mathlib.Core.List.{List, []};
-ghost use Prim.Native.Nat.{ℕ};
+ghost use mathlib.Core.Bool.{true, false, not};
+ghost use mathlib.Core.List.{[]};
 ghost use lib.ListN.{length};
-ghost use lib.Dec.{eqb};
 ghost use Rattle.rules.specs.Parameters.{allowed};
 ghost use Rattle.rules.specs.Tables.{Board};
 ghost use Rattle.rules.specs.Orderly.{orderly};
-ghost use Rattle.rules.specs.Write.{Request};
-ghost use Rattle.rules.specs.Replies.{badCount, badAddress, badCluster, lengthsFit, wrongData, accessReply};
+ghost use Rattle.rules.specs.Requests.{Request, write};
+ghost use Rattle.rules.specs.Replies.{accessRows, badAddress, badCluster, badCount, firstRow, lengthsFit, replyOf, wrongData};
 ghost use Rattle.rules.specs.Calls.{answerOf};
-ghost use Rattle.marks.specs.Marks.{marksLength, marksRule};
-ghost use Rattle.marks.specs.MarkedCalls.{markedReply};
-ghost use Rattle.refusals.specs.Rows.{requestReply};
 use rules::Answer;
 use rules::Params;
 use rules::Reply;
@@ -32,7 +27,7 @@ fn bad_count(p: Params, lba: u32, count: u32) -> bool
 // Is LBA C·α or more? Reply 4 if so.
 pub fn bad_address(p: Params, lba: u32) -> bool
     requires { ⌜ allowed p ≡ true ⌝ }
-    ensures { λ bad. ⌜ ((q : Request) → q .lba ≡ lba → bad ≡ badAddress p q) ⌝ }
+    ensures { λ bad. ⌜ bad ≡ badAddress p lba ⌝ }
 {
     p.C * p.alpha <= lba as usize
 }
@@ -48,7 +43,7 @@ pub fn wrong_data(p: Params, count: u32, len: usize) -> bool
 // The reply by the request of a read or a write: its count, its address, and whether its data has the wrong length. 3, 4 or 5, else 0.
 pub fn request_reply(p: Params, lba: u32, count: u32, wrong: bool) -> Reply
     requires { ⌜ allowed p ≡ true ⌝ }
-    ensures { λ r. ⌜ ((q : Request) → q .lba ≡ lba → q .count ≡ count → (badCount p q ≡ false → wrongData p q ≡ wrong) → r ≡ requestReply p q) ⌝ }
+    ensures { λ r. ⌜ ((q : Request) → q .lba ≡ lba → q .count ≡ count → (badCount p q ≡ false → wrongData p q ≡ wrong) → r ≡ firstRow Reply.Accepted (accessRows p q)) ⌝ }
 {
     if bad_count(p, lba, count) {
         return Reply::BadCount;
@@ -69,19 +64,11 @@ pub fn bad_cluster(p: Params, c: u32) -> bool
     p.C <= c as usize
 }
 
-// Has the table of marks the right length? Reply 2 if not.
-pub fn marks_fit(p: Params, len: usize) -> bool
-    requires { ⌜ allowed p ≡ true ⌝ }
-    ensures { λ ok. ⌜ ok ≡ eqb len (marksLength p) ⌝ }
-{
-    len == 4 * (p.mu * p.gamma)
-}
-
 // The reply to a write whose parameters and lengths are right, by its count, its address, whether its data has the right length, and whether the state
-// is orderly with each mark right.
+// is orderly.
 pub fn item_reply(p: Params, ordered: bool, lba: u32, count: u32, fits: bool) -> Reply
     requires { ⌜ allowed p ≡ true ⌝ }
-    ensures { λ r. ⌜ ((b : Board) (marks : List ℕ) (q : Request) → lengthsFit p b ≡ true → length marks ≡ marksLength p → ordered ≡ orderly p b && marksRule p b marks → q .lba ≡ lba → q .count ≡ count → (badCount p q ≡ false → wrongData p q ≡ not fits) → r ≡ markedReply p b marks true (accessReply p b q)) ⌝ }
+    ensures { λ r. ⌜ ((b : Board) (q : Request) → lengthsFit p b ≡ true → ordered ≡ orderly p b → q .lba ≡ lba → q .count ≡ count → (badCount p q ≡ false → wrongData p q ≡ not fits) → r ≡ replyOf p b (write q)) ⌝ }
 {
     let asked = request_reply(p, lba, count, !fits);
     if rules::number(asked) != 0 {

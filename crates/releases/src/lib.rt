@@ -2,8 +2,8 @@
 ghost use mathlib.Core.Path.{_≡_};
 ghost use mathlib.Core.List.{[]};
 ghost use Rattle.rules.specs.Tables.{boardOf};
-ghost use Rattle.rules.specs.Calls.{release};
-ghost use Rattle.marks.specs.MarkedCalls.{markedCall, markedOutcome};
+ghost use Rattle.rules.specs.Requests.{release};
+ghost use Rattle.rules.specs.Calls.{outcomeOf};
 ghost use Rattle.ends.specs.Claims.{outcome};
 use rules::Answer;
 use rules::Cluster;
@@ -22,7 +22,7 @@ pub fn release(
     marks: &mut [u64],
     cluster: u32,
 ) -> Answer
-    ensures { λ a. ⌜ markedOutcome (outcome a [] (boardOf (now (chip .entry)) (now (ct .exit)) (now (bt .entry)) (now (fst .entry)) (now (bst .entry)) (now (wear .entry)))) (now (marks .exit)) ≡ markedCall p (boardOf (now (chip .entry)) (now (ct .entry)) (now (bt .entry)) (now (fst .entry)) (now (bst .entry)) (now (wear .entry))) (now (marks .entry)) (release cluster) ⌝ }
+    ensures { λ a. ⌜ outcome a [] [] (boardOf (now (chip .entry)) (now (ct .exit)) (now (bt .entry)) (now (fst .entry)) (now (bst .entry)) (now (wear .entry)) (now (marks .exit))) ≡ outcomeOf p (boardOf (now (chip .entry)) (now (ct .entry)) (now (bt .entry)) (now (fst .entry)) (now (bst .entry)) (now (wear .entry)) (now (marks .entry))) (release cluster) ⌝ }
 {
     let reply = replies::release_reply(p, chip, ct, bt, fst, bst, wear, marks, cluster);
     if rules::number(reply) != 0 {

@@ -1,16 +1,12 @@
-// Document 01, "Reply numbers": the rows of each call, checked in the table's order; and T-06's, for the table of marks.
+// Document 01, "Reply numbers": the rows of each call, checked in the table's order.
 ghost use mathlib.Core.Path.{_≡_};
-ghost use mathlib.Core.Bool.{true, false};
 ghost use mathlib.Core.List.{List};
 ghost use Prim.Native.Nat.{ℕ};
 ghost use lib.ListN.{length};
-ghost use Rattle.rules.specs.Tables.{boardOf};
-ghost use Rattle.rules.specs.Write.{Request};
-ghost use Rattle.rules.specs.Replies.{formatReply, accessReply, releaseReply, whyReply};
+ghost use Rattle.rules.specs.Tables.{boardOf, marksLength};
+ghost use Rattle.rules.specs.Requests.{Request, format, read, release, write};
+ghost use Rattle.rules.specs.Replies.{firstRow, lentRows, orderRow, replyOf, whyReply};
 ghost use Rattle.agree.specs.Check.{Lengths};
-ghost use Rattle.marks.specs.Marks.{marksLength};
-ghost use Rattle.marks.specs.MarkedCalls.{markedReply};
-ghost use Rattle.refusals.specs.Rows.{boardReply, stateReply};
 use rules::Params;
 use rules::Reply;
 
@@ -25,7 +21,7 @@ pub fn board_reply(
     wear: &[u32],
     marks: &[u64],
 ) -> Reply
-    ensures { λ r. ⌜ r ≡ boardReply p (boardOf (now (chip .entry)) (now (ct .entry)) (now (bt .entry)) (now (fst .entry)) (now (bst .entry)) (now (wear .entry))) (now (marks .entry)) ⌝ }
+    ensures { λ r. ⌜ r ≡ firstRow Reply.Accepted (lentRows p (boardOf (now (chip .entry)) (now (ct .entry)) (now (bt .entry)) (now (fst .entry)) (now (bst .entry)) (now (wear .entry)) (now (marks .entry)))) ⌝ }
 {
     if !sizes::parameters_allowed(p) {
         return Reply::BadParameter;
@@ -38,16 +34,14 @@ pub fn board_reply(
         fst.len(),
         bst.len(),
         wear.len(),
+        marks.len(),
     ) {
         return Reply::WrongLength;
     }
-    if refusals::marks_fit(p, marks.len()) {
-        return Reply::Accepted;
-    }
-    Reply::WrongLength
+    Reply::Accepted
 }
 
-// The reply by the state and its marks: 7, else 0.
+// The reply by the state: 7, else 0.
 pub fn state_reply(
     p: Params,
     chip: &[u8],
@@ -59,7 +53,7 @@ pub fn state_reply(
 ) -> Reply
     requires { ⌜ Lengths p (now chip) (now ct) (now bt) (now fst) (now bst) ⌝ }
     requires { ⌜ length (now marks) ≡ marksLength p ⌝ }
-    ensures { λ r. ⌜ ((wear : List ℕ) → r ≡ stateReply p (boardOf (now (chip .entry)) (now (ct .entry)) (now (bt .entry)) (now (fst .entry)) (now (bst .entry)) wear) (now (marks .entry))) ⌝ }
+    ensures { λ r. ⌜ ((wear : List ℕ) → r ≡ firstRow Reply.Accepted (orderRow p (boardOf (now (chip .entry)) (now (ct .entry)) (now (bt .entry)) (now (fst .entry)) (now (bst .entry)) wear (now (marks .entry))))) ⌝ }
 {
     if order::in_order(p, chip, ct, bt, fst, bst, marks) {
         return Reply::Accepted;
@@ -81,7 +75,8 @@ pub fn access_reply(
     count: u32,
     len: usize,
 ) -> Reply
-    ensures { λ r. ⌜ ((q : Request) → q .lba ≡ lba → q .count ≡ count → length (q .bytes) ≡ len → r ≡ markedReply p (boardOf (now (chip .entry)) (now (ct .entry)) (now (bt .entry)) (now (fst .entry)) (now (bst .entry)) (now (wear .entry))) (now (marks .entry)) true (accessReply p (boardOf (now (chip .entry)) (now (ct .entry)) (now (bt .entry)) (now (fst .entry)) (now (bst .entry)) (now (wear .entry))) q)) ⌝ }
+    ensures { λ r. ⌜ ((q : Request) → q .lba ≡ lba → q .count ≡ count → length (q .bytes) ≡ len → r ≡ replyOf p (boardOf (now (chip .entry)) (now (ct .entry)) (now (bt .entry)) (now (fst .entry)) (now (bst .entry)) (now (wear .entry)) (now (marks .entry))) (read q)) ⌝ }
+    ensures { λ r. ⌜ ((q : Request) → q .lba ≡ lba → q .count ≡ count → length (q .bytes) ≡ len → r ≡ replyOf p (boardOf (now (chip .entry)) (now (ct .entry)) (now (bt .entry)) (now (fst .entry)) (now (bst .entry)) (now (wear .entry)) (now (marks .entry))) (write q)) ⌝ }
 {
     let head = board_reply(p, chip, ct, bt, fst, bst, wear, marks);
     if rules::number(head) != 0 {
@@ -106,7 +101,7 @@ pub fn release_reply(
     marks: &[u64],
     c: u32,
 ) -> Reply
-    ensures { λ r. ⌜ r ≡ markedReply p (boardOf (now (chip .entry)) (now (ct .entry)) (now (bt .entry)) (now (fst .entry)) (now (bst .entry)) (now (wear .entry))) (now (marks .entry)) true (releaseReply p (boardOf (now (chip .entry)) (now (ct .entry)) (now (bt .entry)) (now (fst .entry)) (now (bst .entry)) (now (wear .entry))) c) ⌝ }
+    ensures { λ r. ⌜ r ≡ replyOf p (boardOf (now (chip .entry)) (now (ct .entry)) (now (bt .entry)) (now (fst .entry)) (now (bst .entry)) (now (wear .entry)) (now (marks .entry))) (release c) ⌝ }
 {
     let head = board_reply(p, chip, ct, bt, fst, bst, wear, marks);
     if rules::number(head) != 0 {
@@ -130,7 +125,7 @@ pub fn why_reply(
     marks: &[u64],
     lba: u32,
 ) -> Reply
-    ensures { λ r. ⌜ r ≡ markedReply p (boardOf (now (chip .entry)) (now (ct .entry)) (now (bt .entry)) (now (fst .entry)) (now (bst .entry)) (now (wear .entry))) (now (marks .entry)) true (whyReply p (boardOf (now (chip .entry)) (now (ct .entry)) (now (bt .entry)) (now (fst .entry)) (now (bst .entry)) (now (wear .entry))) lba) ⌝ }
+    ensures { λ r. ⌜ r ≡ whyReply p (boardOf (now (chip .entry)) (now (ct .entry)) (now (bt .entry)) (now (fst .entry)) (now (bst .entry)) (now (wear .entry)) (now (marks .entry))) lba ⌝ }
 {
     let head = board_reply(p, chip, ct, bt, fst, bst, wear, marks);
     if rules::number(head) != 0 {
@@ -153,7 +148,7 @@ pub fn format_reply(
     wear: &[u32],
     marks: &[u64],
 ) -> Reply
-    ensures { λ r. ⌜ r ≡ markedReply p (boardOf (now (chip .entry)) (now (ct .entry)) (now (bt .entry)) (now (fst .entry)) (now (bst .entry)) (now (wear .entry))) (now (marks .entry)) false (formatReply p (boardOf (now (chip .entry)) (now (ct .entry)) (now (bt .entry)) (now (fst .entry)) (now (bst .entry)) (now (wear .entry)))) ⌝ }
+    ensures { λ r. ⌜ r ≡ replyOf p (boardOf (now (chip .entry)) (now (ct .entry)) (now (bt .entry)) (now (fst .entry)) (now (bst .entry)) (now (wear .entry)) (now (marks .entry))) format ⌝ }
 {
     let head = board_reply(p, chip, ct, bt, fst, bst, wear, marks);
     if rules::number(head) != 0 {

@@ -2,8 +2,8 @@
 -- Assumes nothing.
 use mathlib.Core.Path.{_≡_, ap, refl, sym, _∙_}
 use mathlib.Core.Bool.{Bool}
-use mathlib.Core.List.{List, [], _∷_, _++_, map}
-use Prim.Native.Nat.{ℕ, _+_, _*_, _<_, min}
+use mathlib.Core.List.{List, [], _∷_, map}
+use Prim.Native.Nat.{ℕ, _+_, _*_, _<_}
 use native.Mathlib.Omega.{arith}
 use borrow.Author.Tests.{lt-ltb, ne-eqb}
 use lib.ListN.{length, set}
@@ -11,13 +11,13 @@ use lib.Seq.{set-getD}
 use Rattle.lists.proofs.Ranks.{keep-cong}
 use Rattle.rules.specs.declared.Params.{Params}
 use Rattle.rules.specs.Parameters.{frames}
-use Rattle.rules.specs.Tables.{Board, boardOf, none, btAt, btEntry, wearAt}
+use Rattle.rules.specs.Tables.{Board, boardOf, none, btAt, btEntry}
 use Rattle.rules.specs.Pages.{block, frame}
 use Rattle.rules.specs.Regions.{view, viewOf, bodyAt, validFrames}
-use Rattle.rules.specs.Traces.{Op, erase, isErase, erasesIn, onWear, replayChip, replayWear, frameOps, framesOps}
+use Rattle.rules.specs.Traces.{erase, isErase, erasesIn, onWear, replayChip, replayWear, framesOps}
 use Rattle.rules.specs.Write.{continues, opens, reclaims, planVBlock, planFrame, copies, freeBlock, planBlock, eraseOps, roomOps, followCt, planBst}
 use Rattle.rules.proofs.Sizes.{sizes}
-use Rattle.marks.specs.Marks.{Marks, marksOf, marksOn, tableOf}
+use Rattle.rules.specs.Marks.{Marks, marksIn, marksOf, marksOn, tableOf}
 use Rattle.marks.proofs.FrameMarks.{marked-valid}
 use Rattle.reclaim.specs.Moves.{Reclaimed, ReclaimAsked, markedFrames}
 use Rattle.rooms.specs.Rooms.{OpenAsked, Opened, ReclaimReady, BlockReclaimed, RoomMade}
@@ -42,8 +42,8 @@ module _ (p : Params) (bt bst wear : List ℕ) (r v : ℕ) (a : OpenAsked p bt b
 
 module _ (p : Params) (chip ct bt bst wear marks : List ℕ) (r v : ℕ) (a : ReclaimReady p chip ct bt bst wear marks r v) where
   -- the marked frames are the ones that the plan copies
-  copies-are : (fst : List ℕ) → markedFrames p (block p chip (btAt p bt r v)) (marksOn p (boardOf chip ct bt fst bst wear) r v) ≡ copies p (viewOf p chip ct bt fst r) (reclaims v)
-  unfolding copies validFrames marksOn
+  copies-are : (fst : List ℕ) → markedFrames p (block p chip (btAt p bt r v)) (marksOn p (boardOf chip ct bt fst bst wear marks) r v) ≡ copies p (viewOf p chip ct bt fst r) (reclaims v)
+  unfolding copies validFrames marksIn
   copies-are fst =
       rw (body fst)
       (ap (map (frame p (block p chip (btAt p bt r v)))) (keep-cong (frames p) _ _ (λ f h. marked-valid p (viewOf p chip ct bt fst r) v f h)))
@@ -65,9 +65,9 @@ module _ (p : Params) (chip ct bt bst wear marks : List ℕ) (r v : ℕ) (a : Re
 
 -- ---- by the plan
 
-module _ (p : Params) (chip ct bt fst bst wear : List ℕ) (r : ℕ) where
+module _ (p : Params) (chip ct bt fst bst wear marks : List ℕ) (r : ℕ) where
   abbrev b : Board
-  b = boardOf chip ct bt fst bst wear
+  b = boardOf chip ct bt fst bst wear marks
 
   pub made-continues : (v f : ℕ) → RoomMade p b r (continues v f) v f 0 0 chip ct bt bst wear
   unfolding planVBlock planFrame copies eraseOps erasesIn roomOps framesOps replayChip followCt planBlock planBst replayWear
@@ -109,10 +109,9 @@ module _ (p : Params) (chip ct bt fst bst wear : List ℕ) (r : ℕ) where
       }
 
 -- the copies of a reclaim are the marked frames, where each mark equals the validity rule
-pub made-by-marks : (p : Params) (chip ct bt bst wear marks : List ℕ) (r v : ℕ) → ReclaimReady p chip ct bt bst wear marks r v → (fst : List ℕ) → marks ≡ marksOf p (boardOf chip ct bt fst bst wear)
+pub made-by-marks : (p : Params) (chip ct bt bst wear marks : List ℕ) (r v : ℕ) → ReclaimReady p chip ct bt bst wear marks r v → (fst : List ℕ) → marks ≡ marksOf p (boardOf chip ct bt fst bst wear marks)
     → (chip′ ct′ bt′ bst′ wear′ : List ℕ) (k : ℕ)
     → ((m : Marks) → marks ≡ tableOf p m → BlockReclaimed p chip ct bt bst wear r v (markedFrames p (block p chip (btAt p bt r v)) (m r v)) chip′ ct′ bt′ bst′ wear′ k)
-    → RoomMade p (boardOf chip ct bt fst bst wear) r (reclaims v) v k k 1 chip′ ct′ bt′ bst′ wear′
-unfolding marksOf
+    → RoomMade p (boardOf chip ct bt fst bst wear marks) r (reclaims v) v k k 1 chip′ ct′ bt′ bst′ wear′
 made-by-marks p chip ct bt bst wear marks r v a fst e chip′ ct′ bt′ bst′ wear′ k d =
-    made-reclaims p chip ct bt fst bst wear r v chip′ ct′ bt′ bst′ wear′ k (rw (copies-are p chip ct bt bst wear marks r v a fst) at (d (marksOn p (boardOf chip ct bt fst bst wear)) e))
+    made-reclaims p chip ct bt fst bst wear marks r v chip′ ct′ bt′ bst′ wear′ k (rw (copies-are p chip ct bt bst wear marks r v a fst) at (d (marksOn p (boardOf chip ct bt fst bst wear marks)) e))

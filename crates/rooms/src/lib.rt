@@ -4,7 +4,7 @@ ghost use mathlib.Core.List.{List};
 ghost use Prim.Native.Nat.{ℕ};
 ghost use Rattle.rules.specs.Tables.{boardOf, btAt};
 ghost use Rattle.rules.specs.Pages.{block};
-ghost use Rattle.marks.specs.Marks.{Marks, marksOf, tableOf};
+ghost use Rattle.rules.specs.Marks.{Marks, marksOf, tableOf};
 ghost use Rattle.reclaim.specs.Moves.{markedFrames};
 ghost use Rattle.planning.specs.Plans.{planIs};
 ghost use Rattle.rooms.specs.Rooms.{OpenAsked, Opened, ReclaimReady, BlockReclaimed, RoomAsked, RoomMade};
@@ -68,8 +68,8 @@ pub fn make_room(
     pl: Planned,
 ) -> Room
     requires { ⌜ RoomAsked p (now chip) (now ct) (now bt) (now bst) (now wear) (now marks) r (planIs pl) ⌝ }
-    ensures { λ m. ⌜ ((fst : List ℕ) → now (marks .entry) ≡ marksOf p (boardOf (now (chip .entry)) (now (ct .entry)) (now (bt .entry)) fst (now (bst .entry)) (now (wear .entry)))
-        → RoomMade p (boardOf (now (chip .entry)) (now (ct .entry)) (now (bt .entry)) fst (now (bst .entry)) (now (wear .entry))) r (planIs pl) (m .vblock .0) (m .frame) (m .copied) (m .erases) (now (chip .exit)) (now (ct .exit)) (now (bt .exit)) (now (bst .exit)) (now (wear .exit))) ⌝ }
+    ensures { λ m. ⌜ ((fst : List ℕ) → now (marks .entry) ≡ marksOf p (boardOf (now (chip .entry)) (now (ct .entry)) (now (bt .entry)) fst (now (bst .entry)) (now (wear .entry)) (now (marks .entry)))
+        → RoomMade p (boardOf (now (chip .entry)) (now (ct .entry)) (now (bt .entry)) fst (now (bst .entry)) (now (wear .entry)) (now (marks .entry))) r (planIs pl) (m .vblock .0) (m .frame) (m .copied) (m .erases) (now (chip .exit)) (now (ct .exit)) (now (bt .exit)) (now (bst .exit)) (now (wear .exit))) ⌝ }
 {
     match pl {
         Planned::Continues(v, f) => Room {

@@ -6,6 +6,7 @@ use native.Mathlib.Nat.{div-lt-iff-lt-mul, mod-lt}
 use native.Mathlib.Omega.{arith}
 use native.Mathlib.Decide.{ℕ-discrete, decLt}
 use mathlib.Core.Bool.{Bool, true, false, cond}
+use mathlib.Core.List.{_++_}
 use lib.Dec.{eqb}
 use borrow.Author.Tests.{eqb-true, eqb-false, ne-eqb, ltb-false, leb-false, not-false}
 use lib.ListN.{length}
@@ -17,10 +18,11 @@ use Rattle.rules.specs.Parameters.{allowed}
 use Rattle.rules.specs.Numbers.{regionOf, sectorOf}
 use Rattle.rules.specs.Tables.{Board}
 use Rattle.rules.specs.Regions.{view, viewOf}
+use Rattle.rules.specs.Marks.{marksOf}
 use Rattle.rules.specs.Orderly.{blocksRule, clusterRule, ctRule, fstRule, orderly, regionBlocks, regionFst, rulesOf}
 use Rattle.rules.specs.Format.{goodBlocks}
-use Rattle.rules.specs.Write.{Request, requestCluster}
-use Rattle.rules.specs.Replies.{accessReply, badAddress, badCluster, badCount, badParameter, firstRow, formatReply, lengthsFit, notOrderly, numberOf, releaseReply, tooFewBlocks, wrongData, wrongLength}
+use Rattle.rules.specs.Replies.{accessRows, badAddress, badCluster, badCount, badParameter, firstRow, lengthsFit, lentRows, notOrderly, numberOf, orderRow, replyOf, rowsOf, tooFewBlocks, wrongData, wrongLength}
+use Rattle.rules.specs.Requests.{Request, requestCluster, format, read, release, write}
 use Rattle.rules.proofs.RegionFacts.{regionOrderly}
 use Rattle.rules.proofs.Sizes.{Sizes, sizes}
 use Rattle.rules.proofs.TableFacts.{Tables, orderly-out, tables-in}
@@ -39,18 +41,19 @@ orderly-region p b h r low =
     cluster c k (yes e) = rw e at (all-at (p .C) (λ c. clusterRule p (view p b (regionOf p c)) c) ((truths _ h) .1 .1 .1 .1 .1 .1 .1 .1 .0) c k)
     cluster c k (no e) = unfold clusterRule viewOf in rw (ne-eqb (regionOf p c) r e)
 
-pub orderly-all : (p : Params) (b : Board) → Sizes p → Tables p b → ((r : ℕ) → r < p .mu → regionOrderly p r (view p b r) ≡ true) → orderly p b ≡ true
+pub orderly-all : (p : Params) (b : Board) → Sizes p → Tables p b → ((r : ℕ) → r < p .mu → regionOrderly p r (view p b r) ≡ true) → b .marks ≡ marksOf p b → orderly p b ≡ true
 unfolding blocksRule fstRule ctRule regionOrderly
-orderly-all p b z t h =
+orderly-all p b z t h m =
     orderly-out p b t
     (all-below-intro (p .mu) _ (λ r k. (truths _ (h r k)) .0))
     (all-below-intro (p .mu) _ (λ r k. (truths _ (h r k)) .1 .0))
     (all-below-intro (p .C) _ (λ c k. all-at (p .C) (clusterRule p (view p b (regionOf p c))) ((truths _ (h (regionOf p c) (mod-lt c (z .regions)))) .1 .1 .0) c k))
+    m
 
 -- ---- the reply table
 
 -- a row that does not apply leaves the later rows
-passed : (t : Bool) (r x : Reply) → (numberOf r ≡ 0 → ⊥) → cond t r x ≡ Accepted → (t ≡ false) × (x ≡ Accepted)
+pub passed : (t : Bool) (r x : Reply) → (numberOf r ≡ 0 → ⊥) → cond t r x ≡ Accepted → (t ≡ false) × (x ≡ Accepted)
 passed true r x ne e = absurd (ne (ap numberOf e))
 passed false r x ne e = (refl, e)
 
@@ -70,7 +73,7 @@ pub record Admitted (p : Params) (b : Board) (q : Request) : Type 0 where
   pub tidy : (r : ℕ) → r < p .mu → regionOrderly p r (view p b r) ≡ true
   pub asked : Asked p q
 
-pub asked-in : (p : Params) (q : Request) → Sizes p → badCount p q ≡ false → badAddress p q ≡ false → wrongData p q ≡ false → Asked p q
+pub asked-in : (p : Params) (q : Request) → Sizes p → badCount p q ≡ false → badAddress p (q .lba) ≡ false → wrongData p q ≡ false → Asked p q
 unfolding badCount badAddress wrongData
 asked-in p q z c a d =
     let k = or-neither (eqb (q .count) 0) c in
@@ -90,24 +93,31 @@ pub record Checks (p : Params) (b : Board) (q : Request) : Type 0 where
   pub fine : allowed p ≡ true
   pub lengths : lengthsFit p b ≡ true
   pub count : badCount p q ≡ false
-  pub address : badAddress p q ≡ false
+  pub address : badAddress p (q .lba) ≡ false
   pub given : wrongData p q ≡ false
   pub tidy : orderly p b ≡ true
 
-pub access-checks : (p : Params) (b : Board) (q : Request) → accessReply p b q ≡ Accepted → Checks p b q
-unfolding accessReply firstRow badParameter wrongLength notOrderly
-access-checks p b q e =
+rows-checks : (p : Params) (b : Board) (q : Request) → firstRow Accepted (lentRows p b ++ (accessRows p q ++ orderRow p b)) ≡ Accepted → Checks p b q
+unfolding lentRows accessRows orderRow firstRow badParameter wrongLength notOrderly
+rows-checks p b q e =
     let a = passed (badParameter p) _ _ (λ x. omega arith) e in
     let l = passed (wrongLength p b) _ _ (λ x. omega arith) (a .1) in
     let c = passed (badCount p q) _ _ (λ x. omega arith) (l .1) in
-    let i = passed (badAddress p q) _ _ (λ x. omega arith) (c .1) in
+    let i = passed (badAddress p (q .lba)) _ _ (λ x. omega arith) (c .1) in
     let d = passed (wrongData p q) _ _ (λ x. omega arith) (i .1) in
     let o = passed (notOrderly p b) _ _ (λ x. omega arith) (d .1) in
     record { fine = not-false _ (a .0); lengths = not-false _ (l .0); count = c .0; address = i .0; given = d .0; tidy = not-false _ (o .0) }
 
-pub admitted : (p : Params) (b : Board) (q : Request) → accessReply p b q ≡ Accepted → Admitted p b q
-admitted p b q e =
-    let c = access-checks p b q e in
+pub read-checks : (p : Params) (b : Board) (q : Request) → replyOf p b (read q) ≡ Accepted → Checks p b q
+unfolding replyOf rowsOf
+read-checks p b q e = rows-checks p b q e
+
+pub write-checks : (p : Params) (b : Board) (q : Request) → replyOf p b (write q) ≡ Accepted → Checks p b q
+unfolding replyOf rowsOf
+write-checks p b q e = rows-checks p b q e
+
+pub admitted : (p : Params) (b : Board) (q : Request) → Checks p b q → Admitted p b q
+admitted p b q c =
     let z = sizes p (c .fine) in
     record {
       fine = c .fine;
@@ -124,8 +134,8 @@ pub record FormatAdmitted (p : Params) (b : Board) : Type 0 where
   pub lengths : lengthsFit p b ≡ true
   pub enough : p .mu * p .gamma + 1 ≤ goodBlocks p (b .chip)
 
-pub format-admitted : (p : Params) (b : Board) → formatReply p b ≡ Accepted → FormatAdmitted p b
-unfolding formatReply firstRow badParameter wrongLength tooFewBlocks
+pub format-admitted : (p : Params) (b : Board) → replyOf p b format ≡ Accepted → FormatAdmitted p b
+unfolding replyOf rowsOf lentRows firstRow badParameter wrongLength tooFewBlocks
 format-admitted p b e =
     let a = passed (badParameter p) _ _ (λ x. omega arith) e in
     let l = passed (wrongLength p b) _ _ (λ x. omega arith) (a .1) in
@@ -139,8 +149,8 @@ pub record ReleaseAdmitted (p : Params) (b : Board) (c : ℕ) : Type 0 where
   pub cluster : c < p .C
   pub tidy : orderly p b ≡ true
 
-pub release-admitted : (p : Params) (b : Board) (c : ℕ) → releaseReply p b c ≡ Accepted → ReleaseAdmitted p b c
-unfolding releaseReply firstRow badParameter wrongLength badCluster notOrderly
+pub release-admitted : (p : Params) (b : Board) (c : ℕ) → replyOf p b (release c) ≡ Accepted → ReleaseAdmitted p b c
+unfolding replyOf rowsOf lentRows orderRow firstRow badParameter wrongLength badCluster notOrderly
 release-admitted p b c e =
     let a = passed (badParameter p) _ _ (λ x. omega arith) e in
     let l = passed (wrongLength p b) _ _ (λ x. omega arith) (a .1) in

@@ -18,7 +18,7 @@ use Rattle.rules.specs.Tables.{Board, btEntry, ctAt, fstAt, none}
 use Rattle.rules.specs.Pages.{block}
 use Rattle.rules.specs.Regions.{View, view}
 use Rattle.rules.specs.Traces.{clean, frameOps, replayChip}
-use Rattle.rules.specs.Write.{withFrame}
+use Rattle.rules.specs.Machine.{withFrame}
 use Rattle.rules.proofs.Chip.{block-other, block-same, run-clean, run-length}
 use Rattle.rules.proofs.FramePut.{Ready, Sheet}
 use Rattle.rules.proofs.Isolation.{Effect, index-low}

@@ -4,21 +4,11 @@ use mathlib.Core.Path.{_≡_, refl, ap₂}
 use Prim.Native.Nat.{ℕ}
 use mathlib.Core.Bool.{true, false≢true}
 use mathlib.Core.List.{List, [], _∷_}
-use Rattle.lists.specs.Below.{all-below}
-use Rattle.lists.specs.Parts.{sameList, all-parts}
+use Rattle.lists.specs.Parts.{sameList}
 use Rattle.lists.proofs.Tests.{and-left, and-right}
 use Rattle.lists.proofs.Joins.{sameList→eq}
-use Rattle.rules.specs.Parameters.{all-parameters}
-use Rattle.rules.specs.Tables.{all-tables}
-use Rattle.rules.specs.Pages.{all-pages}
-use Rattle.rules.specs.Regions.{all-regions}
-use Rattle.rules.specs.Orderly.{all-orderly}
-use Rattle.rules.specs.Traces.{all-traces}
-use Rattle.rules.specs.Format.{all-format}
-use Rattle.rules.specs.Write.{all-write}
-use Rattle.rules.specs.Replies.{all-replies}
-use Rattle.rules.specs.Calls.{all-calls}
-use Rattle.rules.specs.BoardT.{sessionT, outputT, marked, asSaid, sameLists, all-boardT}
+use Rattle.rules.specs.BoardT.{sessionT, outputT, markedCases, asSaid, sameLists}
+use Rattle.rules.proofs.Names.{all-boardT}
 
 sameLists→eq : (x y : List (List ℕ)) → sameLists x y ≡ true → x ≡ y
 unfolding sameLists
@@ -28,16 +18,16 @@ sameLists→eq (a ∷ x) [] e = absurd (false≢true e)
 sameLists→eq (a ∷ x) (b ∷ y) e =
     ap₂ {C = List (List ℕ)} (λ h t. h ∷ t) (sameList→eq a b (and-left (sameList a b) (sameLists x y) e)) (sameLists→eq x y (and-right (sameList a b) e))
 
-marked-test : sameLists marked asSaid ≡ true
-unfolding all-below all-parts all-parameters all-tables all-pages all-regions all-orderly all-traces all-format all-write all-replies all-calls all-boardT
+marked-test : sameLists markedCases asSaid ≡ true
+unfolding all-boardT
 marked-test = refl
 
 -- (a) to (j)
-pub marked-cases : marked ≡ asSaid
-marked-cases = sameLists→eq marked asSaid marked-test
+pub marked-cases : markedCases ≡ asSaid
+marked-cases = sameLists→eq markedCases asSaid marked-test
 
 session-test : sameLists sessionT outputT ≡ true
-unfolding all-below all-parts all-parameters all-tables all-pages all-regions all-orderly all-traces all-format all-write all-replies all-calls all-boardT
+unfolding all-boardT
 session-test = refl
 
 -- "The whole output"

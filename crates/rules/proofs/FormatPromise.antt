@@ -21,18 +21,20 @@ use Rattle.rules.specs.Numbers.{regionOf}
 use Rattle.rules.specs.Tables.{Board, bstAt, btAt, btEntry, ctAt, fstAt, none}
 use Rattle.rules.specs.Pages.{block}
 use Rattle.rules.specs.Regions.{assigned, bodyAt, sector, sectorIn, view, viewOf}
+use Rattle.rules.specs.Marks.{marksOf}
+use Rattle.rules.specs.Requests.{format}
 use Rattle.rules.specs.Orderly.{clusterRule, openRule, orderly, regionBlocks, regionFst}
 use Rattle.rules.specs.Traces.{erase, replayChip}
 use Rattle.rules.specs.Format.{bad, formatOps, formatted, goodBlocks}
-use Rattle.rules.specs.Write.{erasedBlock}
-use Rattle.rules.specs.Replies.{formatReply, lengthsFit}
+use Rattle.rules.specs.Replies.{lengthsFit, replyOf}
+use Rattle.rules.specs.Machine.{erasedBlock}
 use Rattle.rules.proofs.Admitted.{FormatAdmitted, format-admitted, orderly-all}
 use Rattle.rules.proofs.Chip.{replay-append}
 use Rattle.rules.proofs.Opens.{fresh-all}
 use Rattle.rules.proofs.RegionFacts.{regionOrderly}
 use Rattle.rules.proofs.Replays.{erase-ran}
 use Rattle.rules.proofs.Sizes.{Sizes, sizes}
-use Rattle.rules.proofs.TableFacts.{Tables, chip-size}
+use Rattle.rules.proofs.TableFacts.{Tables, chip-size, lengths-out}
 use Rattle.rules.proofs.Writes.{wear-length}
 
 -- ---- the erases
@@ -66,7 +68,7 @@ module _ (p : Params) (chip : List ℕ) (fits : length chip ≡ p .N * blockByte
 
 -- ---- the state that is left
 
-module _ (p : Params) (b : Board) (e : formatReply p b ≡ Accepted) where
+module _ (p : Params) (b : Board) (e : replyOf p b format ≡ Accepted) where
   checks : FormatAdmitted p b
   checks = format-admitted p b e
 
@@ -160,8 +162,16 @@ module _ (p : Params) (b : Board) (e : formatReply p b ≡ Accepted) where
       opened : cond (allBelow (p .gamma) (λ v. not (assigned (view p (formatted p b) r) v))) (eqb ((view p (formatted p b) r) .lastSeg) none) (openRule p (view p (formatted p b) r)) ≡ true
       opened = rw (all-below-intro (p .gamma) (λ v. not (assigned (view p (formatted p b) r) v)) (λ v h. rw (lacks r v))) (eq-eqb _ _ (no-last r))
 
+  -- the marks are those of the board that is left
+  pub format-marks : (formatted p b) .marks ≡ marksOf p (formatted p b)
+  unfolding formatted
+  format-marks = refl
+
   pub format-orderly : orderly p (formatted p b) ≡ true
-  format-orderly = orderly-all p (formatted p b) z tables (λ r h. empty-region r)
+  format-orderly = orderly-all p (formatted p b) z tables (λ r h. empty-region r) format-marks
+
+  pub format-lengths : lengthsFit p (formatted p b) ≡ true
+  format-lengths = lengths-out p (formatted p b) tables format-marks
 
   pub format-reads : (c j : ℕ) → sector p (formatted p b) c j ≡ replicate (p .s) 255
   unfolding sector sectorIn

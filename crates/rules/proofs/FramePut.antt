@@ -20,7 +20,7 @@ use Rattle.rules.specs.Numbers.{placeOf, segmentOf, vblockOf}
 use Rattle.rules.specs.Tables.{none}
 use Rattle.rules.specs.Pages.{frame, held, holds, lastIn, page, programmed, spare, spareBytes}
 use Rattle.rules.specs.Regions.{View, frameOf, sectorIn}
-use Rattle.rules.specs.Write.{withFrame}
+use Rattle.rules.specs.Machine.{withFrame}
 use Rattle.rules.proofs.Frames.{erased-not, marked-held, marked-programmed, seg-low, seg-place, seg-vblock}
 use Rattle.rules.proofs.Sizes.{Sizes}
 

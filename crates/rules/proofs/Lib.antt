@@ -1,6 +1,9 @@
+pub mod Names
 pub mod BoardT
+pub mod Refusals
 pub mod Sizes
 pub mod Frames
+pub mod MarkFacts
 pub mod Chip
 pub mod Replays
 pub mod TableFacts
@@ -24,3 +27,7 @@ pub mod WritePromise
 pub mod FormatPromise
 pub mod Releases
 pub mod Totals
+pub mod Outcomes
+pub mod FormatCounts
+pub mod ValidFrames
+pub mod ItemData

@@ -20,7 +20,8 @@ use Rattle.rules.specs.Numbers.{sectorOf, vblockOf}
 use Rattle.rules.specs.Tables.{none}
 use Rattle.rules.specs.Pages.{bytes32, frame, page, spare, spareBytes}
 use Rattle.rules.specs.Regions.{View, assigned, frameOf, sectorIn}
-use Rattle.rules.specs.Write.{Request, newFrame, newPage, newSector, requestCluster}
+use Rattle.rules.specs.Write.{newFrame, newPage, newSector}
+use Rattle.rules.specs.Requests.{Request, requestCluster}
 use Rattle.rules.proofs.FramePut.{Sheet}
 use Rattle.rules.proofs.Admitted.{Asked}
 use Rattle.rules.proofs.Sizes.{Sizes}

@@ -21,7 +21,8 @@ use Rattle.rules.specs.Tables.{Board, bstAt, btAt, ctAt, none}
 use Rattle.rules.specs.Pages.{block, filled, frame, held}
 use Rattle.rules.specs.Regions.{View, assigned, frameOf, sectorIn, view}
 use Rattle.rules.specs.Traces.{clean, framesOps, replayChip}
-use Rattle.rules.specs.Write.{copies, eraseOps, erasedBlock, followCt, freeBlock, hasRoom, opens, planBlock, planBst, planFrame, planVBlock, roomOps, withRoom}
+use Rattle.rules.specs.Write.{copies, eraseOps, followCt, freeBlock, hasRoom, opens, planBlock, planBst, planFrame, planVBlock, roomOps}
+use Rattle.rules.specs.Machine.{erasedBlock, withRoom}
 use Rattle.rules.proofs.Continues.{Makes, frames-pos, segs-in, segs-out}
 use Rattle.rules.proofs.Sizes.{Sizes}
 use Rattle.rules.proofs.RegionFacts.{Entry, Neat, Open, UpTo, filled-le, neat}

@@ -23,7 +23,8 @@ use Rattle.rules.specs.Numbers.{placeOf, segmentOf, vblockOf}
 use Rattle.rules.specs.Tables.{none}
 use Rattle.rules.specs.Pages.{filled, frame, held, holds, lastIn, programmed}
 use Rattle.rules.specs.Regions.{View, assigned, frameOf, sectorIn, valid, validFrames}
-use Rattle.rules.specs.Write.{copies, erasedBlock, follow, hasRoom, putFrames, reclaims, withRoom, written}
+use Rattle.rules.specs.Write.{copies, hasRoom, reclaims, written}
+use Rattle.rules.specs.Machine.{erasedBlock, follow, putFrames, withRoom}
 use Rattle.rules.proofs.Continues.{frames-pos}
 use Rattle.rules.proofs.Following.{follow-hit, follow-miss}
 use Rattle.rules.proofs.FramePut.{last-holds}

@@ -15,7 +15,8 @@ use Rattle.rules.specs.Tables.{Board, bstAt, btAt, btEntry, ctAt, none}
 use Rattle.rules.specs.Pages.{block, held}
 use Rattle.rules.specs.Regions.{assigned, validFrames, view}
 use Rattle.rules.specs.Traces.{clean, erase, framesOps, replayChip}
-use Rattle.rules.specs.Write.{copies, eraseOps, erasedBlock, follow, freeBlock, hasRoom, planBlock, planBst, planFrame, planVBlock, putFrames, reclaims, roomOps, withRoom}
+use Rattle.rules.specs.Write.{copies, eraseOps, freeBlock, hasRoom, planBlock, planBst, planFrame, planVBlock, reclaims, roomOps}
+use Rattle.rules.specs.Machine.{erasedBlock, follow, putFrames, withRoom}
 use Rattle.rules.proofs.Chip.{clean-append, replay-append}
 use Rattle.rules.proofs.Continues.{Makes, segs-in, segs-out}
 use Rattle.rules.proofs.Following.{follow-ct, follow-length, follow-miss}

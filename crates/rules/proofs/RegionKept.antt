@@ -17,7 +17,7 @@ use Rattle.rules.specs.Numbers.{placeOf, regionOf, segmentOf, vblockOf}
 use Rattle.rules.specs.Tables.{none}
 use Rattle.rules.specs.Pages.{filled, frame, held, lastIn}
 use Rattle.rules.specs.Regions.{View, assigned}
-use Rattle.rules.specs.Write.{withFrame}
+use Rattle.rules.specs.Machine.{withFrame}
 use Rattle.rules.proofs.FramePut.{Ready, Sheet, body-old, frame-new, frame-old, last-new, last-old, seg-new, seg-old}
 use Rattle.rules.proofs.Sizes.{Sizes}
 use Rattle.rules.proofs.Frames.{marked-held, seg-low, seg-place, seg-vblock}

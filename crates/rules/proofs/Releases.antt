@@ -14,18 +14,21 @@ use Rattle.lists.specs.Below.{updated}
 use Rattle.lists.proofs.Tests.{all-at, all-below-intro, all-true, truths}
 use Rattle.rules.specs.declared.Params.{Params}
 use Rattle.rules.specs.Numbers.{regionOf, segmentOf}
+use Rattle.rules.specs.Marks.{marksOf}
+use Rattle.rules.specs.Traces.{replayChip, replayWear}
 use Rattle.rules.specs.Orderly.{clusterRule, entryRule, fullRule, openRule, orderly, regionBlocks, regionFst}
 use Rattle.rules.specs.Pages.{frame, held, lastIn, programmed}
 use Rattle.rules.specs.Parameters.{frames}
 use Rattle.rules.specs.Regions.{View, assigned, frameOf, sector, sectorIn, valid, view, viewOf}
-use Rattle.rules.specs.Release.{released, without}
+use Rattle.rules.specs.Release.{released}
 use Rattle.rules.specs.Replies.{lengthsFit}
 use Rattle.rules.specs.Tables.{Board, ctAt, none}
+use Rattle.rules.specs.Machine.{without}
 use Rattle.rules.proofs.Admitted.{orderly-all, orderly-region}
 use Rattle.rules.proofs.Frames.{seg-low}
 use Rattle.rules.proofs.RegionFacts.{regionOrderly}
 use Rattle.rules.proofs.Sizes.{Sizes}
-use Rattle.rules.proofs.TableFacts.{Tables, tables-in}
+use Rattle.rules.proofs.TableFacts.{Tables, lengths-out, tables-in}
 
 -- ---- the view
 
@@ -37,8 +40,8 @@ entry-none (x ∷ ct) zero = refl
 entry-none (x ∷ ct) (suc c) = entry-none ct c
 
 -- every region sees the board without the cluster; one that it is not in sees no change
-pub released-view : (p : Params) (b : Board) (c r : ℕ) → view p (released b c) r ≡ without (view p b r) c
-unfolding viewOf released without updated
+pub released-view : (p : Params) (b : Board) (c r : ℕ) → view p (released p b c) r ≡ without (view p b r) c
+unfolding viewOf released replayChip without updated
 released-view p b c r = λ i. record { segOf = λ x. at x (ℕ-discrete x c) i; lastSeg = (view p b r) .lastSeg; body = (view p b r) .body }
   where
     either : (t : Bool) → cond t none none ≡ none
@@ -50,8 +53,8 @@ released-view p b c r = λ i. record { segOf = λ x. at x (ℕ-discrete x c) i; 
     at x (no e) = rw (ne-eqb x c e) (ap (λ (s : ℕ). cond (eqb (regionOf p x) r) s none) (unfold ctAt in getD-set-other (b .ct) c x none none e))
 
 -- of a region that the cluster is not in, the view stays
-pub released-else : (p : Params) (b : Board) (c r : ℕ) → (regionOf p c ≡ r → ⊥) → view p (released b c) r ≡ view p b r
-unfolding viewOf released
+pub released-else : (p : Params) (b : Board) (c r : ℕ) → (regionOf p c ≡ r → ⊥) → view p (released p b c) r ≡ view p b r
+unfolding viewOf released replayChip
 released-else p b c r ne = λ i. record { segOf = λ x. at x (ℕ-discrete x c) i; lastSeg = (view p b r) .lastSeg; body = (view p b r) .body }
   where
     at : (x : ℕ) → Dec (x ≡ c) → cond (eqb (regionOf p x) r) (ctAt (set (b .ct) c none) x) none ≡ cond (eqb (regionOf p x) r) (ctAt (b .ct) x) none
@@ -59,8 +62,8 @@ released-else p b c r ne = λ i. record { segOf = λ x. at x (ℕ-discrete x c) 
     at x (no e) = ap (λ (s : ℕ). cond (eqb (regionOf p x) r) s none) (unfold ctAt in getD-set-other (b .ct) c x none none e)
 
 -- no byte of a block changes
-pub release-body : (p : Params) (b : Board) (c r : ℕ) → (view p (released b c) r) .body ≡ (view p b r) .body
-unfolding viewOf released
+pub release-body : (p : Params) (b : Board) (c r : ℕ) → (view p (released p b c) r) .body ≡ (view p b r) .body
+unfolding viewOf released replayChip
 release-body p b c r = refl
 
 -- ---- order
@@ -113,19 +116,15 @@ module _ (p : Params) (vw : View) (c : ℕ) where
 -- ---- the board
 
 module _ (p : Params) (b : Board) (c : ℕ) where
-  pub release-lengths : lengthsFit p b ≡ true → lengthsFit p (released b c) ≡ true
-  unfolding lengthsFit released
-  release-lengths h = rw (length-set (b .ct) c none) h
+  -- the marks are those of the board that is left
+  pub release-marks : (released p b c) .marks ≡ marksOf p (released p b c)
+  unfolding released
+  release-marks = refl
 
-  pub release-orderly : Sizes p → lengthsFit p b ≡ true → orderly p b ≡ true → orderly p (released b c) ≡ true
-  release-orderly z l o =
-      orderly-all p (released b c) z tables (λ r k. rw (released-view p b c r) (without-orderly p (view p b r) c r (orderly-region p b o r k)))
-    where
-      t : Tables p b
-      t = tables-in p b l o
-
-      tables : Tables p (released b c)
-      tables = unfold released in record {
+  release-tables : Tables p b → Tables p (released p b c)
+  unfolding released replayChip replayWear
+  release-tables t =
+      record {
         chipLength = t .chipLength;
         ctLength = length-set (b .ct) c none ∙ t .ctLength;
         btLength = t .btLength;
@@ -141,16 +140,24 @@ module _ (p : Params) (b : Board) (c : ℕ) where
         free = t .free;
       }
 
+  pub release-lengths : lengthsFit p b ≡ true → orderly p b ≡ true → lengthsFit p (released p b c) ≡ true
+  release-lengths l o = lengths-out p (released p b c) (release-tables (tables-in p b l o)) release-marks
+
+  pub release-orderly : Sizes p → lengthsFit p b ≡ true → orderly p b ≡ true → orderly p (released p b c) ≡ true
+  release-orderly z l o =
+      orderly-all p (released p b c) z (release-tables (tables-in p b l o))
+      (λ r k. rw (released-view p b c r) (without-orderly p (view p b r) c r (orderly-region p b o r k))) release-marks
+
   -- "its sectors read as 255", and every other sector as before
-  pub release-reads : (j : ℕ) → sector p (released b c) c j ≡ replicate (p .s) 255
+  pub release-reads : (j : ℕ) → sector p (released p b c) c j ≡ replicate (p .s) 255
   unfolding sector
   release-reads j = rw (released-view p b c (regionOf p c)) (without-reads p (view p b (regionOf p c)) c j)
 
-  pub release-others : (x j : ℕ) → (x ≡ c → ⊥) → sector p (released b c) x j ≡ sector p b x j
+  pub release-others : (x j : ℕ) → (x ≡ c → ⊥) → sector p (released p b c) x j ≡ sector p b x j
   unfolding sector
   release-others x j ne = rw (released-view p b c (regionOf p x)) (without-others p (view p b (regionOf p x)) c x j ne)
 
   -- "the room comes back at reclaim": the frames that are valid then are those of the other clusters
   pub release-valid : Sizes p → (r v f : ℕ) → v < p .gamma → f < frames p
-      → valid p (view p (released b c) r) v f ≡ valid p (view p b r) v f && not (eqb (held p (frame p ((view p b r) .body v) f)) c)
+      → valid p (view p (released p b c) r) v f ≡ valid p (view p b r) v f && not (eqb (held p (frame p ((view p b r) .body v) f)) c)
   release-valid z r v f hv hf = rw (released-view p b c r) (without-valid p (view p b r) c z v f hv hf)

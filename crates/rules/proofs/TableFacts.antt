@@ -14,10 +14,12 @@ use Rattle.lists.specs.Parts.{allAre}
 use Rattle.lists.proofs.Tests.{all-at, all-below-intro, all-true, never, or-cases, or-right, so, some-fails, truths}
 use Rattle.rules.specs.declared.Params.{Params}
 use Rattle.rules.specs.Parameters.{pages, frameBytes, blockBytes, chipBytes}
-use Rattle.rules.specs.Tables.{Board, bstAt, btEntry, none}
+use Rattle.rules.specs.Tables.{Board, bstAt, btEntry, marksLength, none}
 use Rattle.rules.specs.Pages.{block}
+use Rattle.rules.specs.Marks.{marksOf}
 use Rattle.rules.specs.Orderly.{bstRule, btRule, onceRule, named, usedRule, roomRule, freeRule, blocksRule, fstRule, ctRule, rulesOf, orderly}
 use Rattle.rules.specs.Replies.{lengthsFit}
+use Rattle.rules.proofs.MarkFacts.{marks-long, right, rule-of}
 
 -- what the tables' lengths and rules give
 pub record Tables (p : Params) (b : Board) : Type 0 where
@@ -147,15 +149,29 @@ tables-in p b l h =
       free = free-in p b (t .1 .1 .1 .1 .1 .0);
     }
 
-pub lengths-out : (p : Params) (b : Board) → Tables p b → lengthsFit p b ≡ true
-unfolding lengthsFit
-lengths-out p b t =
-    all-true _ (eq-eqb _ _ (t .chipLength ∙ sym (chip-size p)), (eq-eqb _ _ (t .ctLength), (eq-eqb _ _ (t .btLength), (eq-eqb _ _ (t .fstLength), (eq-eqb _ _ (t .bstLength), (eq-eqb _ _ (t .wearLength), tt))))))
+-- of an orderly board the marks are its own
+pub marks-in : (p : Params) (b : Board) → lengthsFit p b ≡ true → orderly p b ≡ true → b .marks ≡ marksOf p b
+unfolding lengthsFit orderly rulesOf
+marks-in p b l h = right p b (eqb-true _ _ ((truths _ l) .1 .1 .1 .1 .1 .1 .0)) ((truths _ h) .1 .1 .1 .1 .1 .1 .1 .1 .1 .0)
 
--- the tables' rules, and those of the used blocks, FST and CT, make an orderly state
-pub orderly-out : (p : Params) (b : Board) → Tables p b → blocksRule p b ≡ true → fstRule p b ≡ true → ctRule p b ≡ true → orderly p b ≡ true
+pub lengths-out : (p : Params) (b : Board) → Tables p b → b .marks ≡ marksOf p b → lengthsFit p b ≡ true
+unfolding lengthsFit
+lengths-out p b t m =
+    all-true _ (
+      eq-eqb _ _ (t .chipLength ∙ sym (chip-size p)),
+      (
+        eq-eqb _ _ (t .ctLength),
+        (
+          eq-eqb _ _ (t .btLength),
+          (eq-eqb _ _ (t .fstLength), (eq-eqb _ _ (t .bstLength), (eq-eqb _ _ (t .wearLength), (eq-eqb _ _ (marks-long p b m), tt)))),
+        ),
+      ),
+    )
+
+-- the tables' rules, and those of the used blocks, FST and CT, make an orderly state of a board whose marks are its own
+pub orderly-out : (p : Params) (b : Board) → Tables p b → blocksRule p b ≡ true → fstRule p b ≡ true → ctRule p b ≡ true → b .marks ≡ marksOf p b → orderly p b ≡ true
 unfolding orderly rulesOf bstRule roomRule
-orderly-out p b t u f c =
+orderly-out p b t u f c m =
     all-true _ (
       all-below-intro (p .N) _ (λ n k. le-leb _ _ (t .kinds n k)),
       (
@@ -164,7 +180,7 @@ orderly-out p b t u f c =
           once-out p b (t .once),
           (
             used-out p b (t .used) (t .usedBack),
-            (le-leb _ _ (t .room), (free-out p b (t .free), (u, (f, (c, tt))))),
+            (le-leb _ _ (t .room), (free-out p b (t .free), (u, (f, (c, (rule-of p b m, tt)))))),
           ),
         ),
       ),

@@ -24,9 +24,11 @@ use Rattle.rules.specs.Pages.{filled, frame, page}
 use Rattle.rules.specs.Regions.{View, assigned, sector, validFrames, view}
 use Rattle.rules.specs.Orderly.{orderly}
 use Rattle.rules.specs.Traces.{Op, clean, erasesIn, frameOps, framesOps, isErase, program, programsIn}
-use Rattle.rules.specs.Write.{Plan, Request, continues, copies, eraseOps, hasRoom, lowestUnassigned, newFrame, opens, planBlock, planFrame, planOf, planOps, reclaims, requestCluster, requestRegion, roomOps, victim, viewAfter, writeOps, written, writtenBy}
-use Rattle.rules.specs.Replies.{accessReply, lengthsFit}
-use Rattle.rules.proofs.Admitted.{Admitted, admitted}
+use Rattle.rules.specs.Write.{Plan, continues, copies, eraseOps, hasRoom, lowestUnassigned, newFrame, opens, planBlock, planFrame, planOf, planOps, reclaims, roomOps, victim, writeOps, written, writtenBy}
+use Rattle.rules.specs.Replies.{lengthsFit, replyOf}
+use Rattle.rules.specs.Requests.{Request, write, requestCluster, requestRegion}
+use Rattle.rules.specs.Machine.{viewAfter}
+use Rattle.rules.proofs.Admitted.{Admitted, admitted, write-checks}
 use Rattle.rules.proofs.Continues.{Makes, continue-base, continue-makes, is-open}
 use Rattle.rules.proofs.Sizes.{Sizes}
 use Rattle.rules.proofs.Opens.{open-makes}
@@ -35,7 +37,7 @@ use Rattle.rules.proofs.RegionFacts.{Neat, neat}
 use Rattle.rules.proofs.TableFacts.{Tables, lengths-out}
 use Rattle.rules.proofs.Victims.{victim-room}
 use Rattle.rules.proofs.Views.{body-size}
-use Rattle.rules.proofs.Writes.{others-same, own-is, reads-else, reads-given, reads-rest, tables-after, write-clean, write-orderly}
+use Rattle.rules.proofs.Writes.{others-same, own-is, reads-else, reads-given, reads-rest, tables-after, write-clean, write-orderly, written-marks}
 
 -- ---- every plan makes room
 
@@ -90,7 +92,7 @@ module _ (p : Params) (z : Sizes p) (b : Board) (t : Tables p b) (r : ℕ) (regi
 
 -- ---- the counts
 
-programs-append : (xs ys : List Op) → programsIn (xs ++ ys) ≡ programsIn xs + programsIn ys
+pub programs-append : (xs ys : List Op) → programsIn (xs ++ ys) ≡ programsIn xs + programsIn ys
 unfolding programsIn
 programs-append [] ys = omega arith
 programs-append (o ∷ xs) ys = rw (programs-append xs ys) (omega arith)
@@ -175,17 +177,17 @@ pub record Promise (p : Params) (b : Board) (q : Request) (b′ : Board) : Type 
   pub bounded : (programsIn (writeOps p b q) ≤ pages p) × (erasesIn (writeOps p b q) ≤ 1)
   pub erases : erasesIn (writeOps p b q) ≡ erasesOf (planOf p (view p b (requestRegion p q)))
 
-pub write-promise : (p : Params) (b : Board) (q : Request) → accessReply p b q ≡ Accepted → Promise p b q (written p b q)
+pub write-promise : (p : Params) (b : Board) (q : Request) → replyOf p b (write q) ≡ Accepted → Promise p b q (written p b q)
 unfolding written writeOps viewAfter
 write-promise p b q e =
-    let acc = admitted p b q e in
+    let acc = admitted p b q (write-checks p b q e) in
     let r = regionOf p (requestCluster p q) in
     let low : r < p .mu = mod-lt (requestCluster p q) (acc .sized .regions) in
     let pl = planOf p (view p b r) in
     let m : Makes p b r pl = makes p (acc .sized) b (acc .tables) r low (neat p r (view p b r) (acc .tidy r low)) in
     record {
       orderlyLeft = write-orderly p b q acc r refl pl m;
-      lengths = lengths-out p (writtenBy p b r q pl) (tables-after p b q acc r refl pl m);
+      lengths = lengths-out p (writtenBy p b r q pl) (tables-after p b q acc r refl pl m) (written-marks p b r q pl);
       given = reads-given p b q acc r refl pl m;
       rest = reads-rest p b q acc r refl pl m;
       others = reads-else p b q acc r refl pl m;

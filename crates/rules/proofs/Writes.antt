@@ -19,8 +19,11 @@ use Rattle.rules.specs.Tables.{Board, bstAt, btAt, btEntry, none}
 use Rattle.rules.specs.Pages.{block, lastIn}
 use Rattle.rules.specs.Regions.{assigned, sector, sectorIn, view}
 use Rattle.rules.specs.Orderly.{orderly}
+use Rattle.rules.specs.Marks.{marksOf}
 use Rattle.rules.specs.Traces.{Op, clean, erase, onWear, program, replayChip, replayWear}
-use Rattle.rules.specs.Write.{Plan, Request, copies, followCt, newFrame, newSector, planBlock, planFrame, planOps, planVBlock, requestCluster, roomOps, withFrame, withRoom, writtenBy}
+use Rattle.rules.specs.Write.{Plan, copies, followCt, newFrame, newSector, planBlock, planFrame, planOps, planVBlock, roomOps, writtenBy}
+use Rattle.rules.specs.Requests.{Request, requestCluster}
+use Rattle.rules.specs.Machine.{withFrame, withRoom}
 use Rattle.rules.proofs.Admitted.{Admitted, orderly-all}
 use Rattle.rules.proofs.BoardPut.{Put, block-else, chip-length, host-clean, write-effect}
 use Rattle.rules.proofs.Chip.{clean-append, replay-append}
@@ -39,6 +42,11 @@ unfolding replayWear onWear
 wear-length wear [] = refl
 wear-length wear (program n q x ∷ os) = wear-length wear os
 wear-length wear (erase n ∷ os) = wear-length (set wear n _) os ∙ length-set wear n _
+
+-- the marks that a write leaves are those of the board that it leaves
+pub written-marks : (p : Params) (b : Board) (r : ℕ) (q : Request) (pl : Plan) → (writtenBy p b r q pl) .marks ≡ marksOf p (writtenBy p b r q pl)
+unfolding writtenBy
+written-marks p b r q pl = refl
 
 -- ---- a write by a plan that makes room
 
@@ -167,7 +175,7 @@ module _ (p : Params) (b : Board) (q : Request) (acc : Admitted p b q) (r : ℕ)
   tables-after = tables-kept p (acc .sized) b (writtenBy p b r q pl) (acc .tables) _ _ change
 
   pub write-orderly : orderly p (writtenBy p b r q pl) ≡ true
-  write-orderly = orderly-all p (writtenBy p b r q pl) (acc .sized) tables-after (λ r′ h. go r′ h (ℕ-discrete r′ r))
+  write-orderly = orderly-all p (writtenBy p b r q pl) (acc .sized) tables-after (λ r′ h. go r′ h (ℕ-discrete r′ r)) (written-marks p b r q pl)
     where
       go : (r′ : ℕ) → r′ < p .mu → Dec (r′ ≡ r) → regionOrderly p r′ (view p (writtenBy p b r q pl) r′) ≡ true
       go r′ h (yes e) = rw (e, own-is) (put-orderly p (acc .sized) r (withRoom p (view p b r) pl) (planVBlock pl) (planFrame p (view p b r) pl) (requestCluster p q) (newFrame p (view p b r) q) (makes .base) sheet (acc .asked .cluster) is)

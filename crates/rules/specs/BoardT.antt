@@ -4,7 +4,7 @@
 use Prim.Native.Nat.{ℕ, _+_, _-_, _*_}
 use mathlib.Core.Bool.{Bool, true, false, _&&_, cond}
 use mathlib.Core.List.{List, [], _∷_, _++_}
-use lib.ListN.{take, drop, getD, replicate}
+use lib.ListN.{take, replicate}
 use Rattle.lists.specs.Below.{joinBelow}
 use Rattle.lists.specs.Parts.{sameList}
 use Rattle.rules.specs.declared.Params.{Params}
@@ -12,9 +12,10 @@ use Rattle.rules.specs.declared.Answer.{Answer}
 use Rattle.rules.specs.Numbers.{clusterOf, regionOf, vblockOf, placeOf}
 use Rattle.rules.specs.Tables.{Board, ctAt, btAt, bstAt, wearAt}
 use Rattle.rules.specs.Regions.{view}
-use Rattle.rules.specs.Write.{Request, requestRegion, Plan, continues, opens, reclaims, planOf}
-use Rattle.rules.specs.Replies.{numberOf, isAccepted, formatReply, accessReply}
-use Rattle.rules.specs.Calls.{Outcome, Call, format, read, write, release, outcomeOf}
+use Rattle.rules.specs.Requests.{Request, requestRegion, Call, format, read, write, release, queue}
+use Rattle.rules.specs.Write.{Plan, continues, opens, reclaims, planOf}
+use Rattle.rules.specs.Replies.{numberOf, isAccepted, replyOf}
+use Rattle.rules.specs.Calls.{Outcome, outcomeOf}
 
 -- "s=16, α=2, β=1, d=2, μ=2, γ=2, C=6, N=5", with C and N open
 unfoldable pub paramsT : ℕ → ℕ → Params
@@ -33,6 +34,7 @@ blankT n q x =
       fst = replicate 2 0;
       bst = replicate n 0;
       wear = replicate n 0;
+      marks = replicate 16 0;
     }
 
 -- "count, byte value for all given bytes"
@@ -52,11 +54,16 @@ inputT =
 
 -- ---- the session: a line of output is its numbers
 
+-- reply, programs, erases
+unfoldable pub counted : Answer → List ℕ
+counted a = numberOf (a .reply) ∷ a .programs ∷ a .erases ∷ []
+
 -- "letter, reply, programs, erases; for `R` letter, reply, then each sector .. if the reply is 0"
 unfoldable pub printed : Call → Outcome → List ℕ
-printed format o = numberOf (o .answer .reply) ∷ o .answer .programs ∷ o .answer .erases ∷ []
-printed (write q) o = numberOf (o .answer .reply) ∷ o .answer .programs ∷ o .answer .erases ∷ []
-printed (release c) o = numberOf (o .answer .reply) ∷ o .answer .programs ∷ o .answer .erases ∷ []
+printed format o = counted (o .answer)
+printed (write q) o = counted (o .answer)
+printed (release c) o = counted (o .answer)
+printed (queue l) o = counted (o .answer)
 printed (read q) o = numberOf (o .answer .reply) ∷ cond (isAccepted (o .answer .reply)) (o .bytes) []
 
 unfoldable pub sessionFrom : Board → List Call → List (List ℕ)
@@ -102,7 +109,14 @@ planNumbers (continues v f) = 0 ∷ v ∷ []
 planNumbers (opens v) = 1 ∷ v ∷ []
 planNumbers (reclaims v) = 2 ∷ v ∷ []
 
--- the write after k calls, to region 0: its region, its plan, and the block of its virtual block 0 before and after
+-- the number of a reply to a format, and to a read of count sectors from an LBA on, on Board T just formatted
+unfoldable pub formatsT : Params → Board → ℕ
+formatsT p b = numberOf (replyOf p b format)
+
+unfoldable pub readsT : Params → ℕ → ℕ → ℕ
+readsT p lba count = numberOf (replyOf p (after 0) (R lba count))
+
+-- the write after k calls: its region; its plan; the block of virtual block 0 of region 0 before it and after it
 unfoldable pub reclaimAfter : ℕ → Request → List ℕ
 reclaimAfter k q =
     requestRegion boardT q ∷ planNumbers (planOf boardT (view boardT (after k) 0))
@@ -112,34 +126,53 @@ reclaimAfter k q =
 unfoldable pub paramsJ : Params
 paramsJ = record { s = 16; alpha = 4; beta = 1; d = 2; mu = 512; gamma = 4; C = 1024; N = 3000 }
 
--- (a) to (j), as the rules give them; (f) for each block in turn, with the mark on its first page and on its second
-unfoldable pub marked : List (List ℕ)
-marked =
+-- (a) to (j), as the rules give them
+unfoldable pub markedCases : List (List ℕ)
+markedCases =
+    -- (a) the sixth write; what BST says of block 0 before it and after it
     (reclaimAfter 5 (asks 5 1 22) ++ (bstAt ((after 5) .bst) 0 ∷ bstAt ((after 6) .bst) 0 ∷ []))
+    -- (b) the seventh; what BST says of block 0 before it, and the wear of blocks 0 and 4
     ∷ (reclaimAfter 6 (asks 0 2 23) ++ (bstAt ((after 6) .bst) 0 ∷ wearAt ((after 6) .wear) 0 ∷ wearAt ((after 6) .wear) 4 ∷ []))
+    -- (c) CT of clusters 0, 2, 4
     ∷ (ctAt ((after 7) .ct) 0 ∷ ctAt ((after 7) .ct) 2 ∷ ctAt ((after 7) .ct) 4 ∷ [])
-    ∷ (numberOf (formatReply (paramsT 7 5) (blankT 5 0 255)) ∷ numberOf (accessReply (paramsT 7 5) (after 0) (asks 0 1 0)) ∷ [])
-    ∷ (numberOf (formatReply (paramsT 6 4) (blankT 4 0 255)) ∷ [])
-    ∷ joinBelow 5 (λ n. numberOf (formatReply boardT (blankT 5 (n * 4) 0)) ∷ numberOf (formatReply boardT (blankT 5 (n * 4 + 1) 0)) ∷ [])
-    ∷ (numberOf (accessReply boardT (after 0) (asks 11 1 0)) ∷ [])
-    ∷ (numberOf (accessReply boardT (after 0) (asks 13 2 0)) ∷ [])
-    ∷ (numberOf (accessReply boardT (after 0) (asks 0 0 0)) ∷ [])
+    -- (d) C=7: a format and a read
+    ∷ (formatsT (paramsT 7 5) (blankT 5 0 255) ∷ readsT (paramsT 7 5) 0 1 ∷ [])
+    -- (e) N=4
+    ∷ (formatsT (paramsT 6 4) (blankT 4 0 255) ∷ [])
+    -- (f) N=5 with one bad block, each in turn, marked on its first page and on its second
+    ∷ joinBelow 5 (λ n. formatsT boardT (blankT 5 (n * 4) 0) ∷ formatsT boardT (blankT 5 (n * 4 + 1) 0) ∷ [])
+    -- (g) LBA 11 count 1
+    ∷ (readsT boardT 11 1 ∷ [])
+    -- (h) LBA 13 count 2
+    ∷ (readsT boardT 13 2 ∷ [])
+    -- (i) count 0
+    ∷ (readsT boardT 0 0 ∷ [])
+    -- (j) the cluster of LBA 2,093, its region; the virtual block and the place of segment 7
     ∷ (clusterOf paramsJ 2093 ∷ regionOf paramsJ 523 ∷ vblockOf paramsJ 7 ∷ placeOf paramsJ 7 ∷ [])
     ∷ []
 
--- (a) to (j), as the document says: region 0, a reclaim of virtual block 0, from block 0 into 3, which was used and is free; .. from 3 into 4, "not
--- 0, by wear"; ..
+-- (a) to (j), as the document says
 unfoldable pub asSaid : List (List ℕ)
 asSaid =
+    -- (a) region 0; "reclaims virtual block 0"; from block 0 "into block 3"; block 0 was used, and is free
     (0 ∷ 2 ∷ 0 ∷ 0 ∷ 3 ∷ 1 ∷ 0 ∷ [])
+    -- (b) region 0; reclaims virtual block 0; from block 3 "into block 4, not 0"; block 0 is free, and "by wear": 2 against 1
     ∷ (0 ∷ 2 ∷ 0 ∷ 3 ∷ 4 ∷ 0 ∷ 2 ∷ 1 ∷ [])
+    -- (c) "is 1, 0, 2"
     ∷ (1 ∷ 0 ∷ 2 ∷ [])
+    -- (d) "is reply 1", for both calls
     ∷ (1 ∷ 1 ∷ [])
+    -- (e) "is reply 6"
     ∷ (6 ∷ [])
+    -- (f) "is reply 6", ten times
     ∷ replicate 10 6
+    -- (g) "is accepted"
     ∷ (0 ∷ [])
+    -- (h) "is reply 3, not 4"
     ∷ (3 ∷ [])
+    -- (i) "is reply 3"
     ∷ (3 ∷ [])
+    -- (j) "cluster 523 of region 11, and segment 7 is in virtual block 3, place 1"
     ∷ (523 ∷ 11 ∷ 3 ∷ 1 ∷ [])
     ∷ []
 
@@ -149,8 +182,3 @@ sameLists [] [] = true
 sameLists [] (b ∷ y) = false
 sameLists (a ∷ x) [] = false
 sameLists (a ∷ x) (b ∷ y) = sameList a b && sameLists x y
-
--- every definition of this file, for an `unfolding` line
-unfoldable pub all-boardT : Unit {0}
-unfolding paramsT boardT blankT asks W R inputT printed sessionFrom sessionT outputT boardFrom after planNumbers reclaimAfter paramsJ marked asSaid sameLists
-all-boardT = tt

@@ -10,7 +10,7 @@ use Rattle.rules.specs.declared.Params.{Params}
 use Rattle.rules.specs.Parameters.{pages}
 use Rattle.rules.specs.Tables.{Board, none}
 use Rattle.rules.specs.Pages.{block, spare}
-use Rattle.rules.specs.Traces.{Op, erase, replayChip, replayWear}
+use Rattle.rules.specs.Traces.{Op, erase, finish}
 
 -- "byte 5 of the spare area is not 255" in page j of block n
 unfoldable pub badMark : Params → List ℕ → ℕ → ℕ → Bool
@@ -30,17 +30,10 @@ formatOps p chip = joinBelow (p .N) (λ n. cond (bad p chip n) [] (erase n ∷ [
 -- "Bad blocks become reserved .. All others .. become free. CT, BT and FST become none"
 unfoldable pub formatted : Params → Board → Board
 formatted p b =
-    let ops = formatOps p (b .chip) in
-    record {
-      chip = replayChip p (b .chip) ops;
+    finish p b (formatOps p (b .chip))
+    (record {
       ct = replicate (p .C) none;
       bt = replicate (p .mu * p .gamma) none;
       fst = replicate (p .mu) none;
       bst = joinBelow (p .N) (λ n. cond (bad p (b .chip) n) 2 0 ∷ []);
-      wear = replayWear (b .wear) ops;
-    }
-
--- every definition of this file, for an `unfolding` line
-unfoldable pub all-format : Unit {0}
-unfolding badMark bad goodBlocks formatOps formatted
-all-format = tt
+    })

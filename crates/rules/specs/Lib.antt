@@ -3,11 +3,15 @@ pub mod Numbers
 pub mod Tables
 pub mod Pages
 pub mod Regions
+pub mod Marks
 pub mod Orderly
 pub mod Traces
+pub mod Requests
 pub mod Format
 pub mod Write
 pub mod Release
 pub mod Replies
+pub mod Refusals
 pub mod Calls
+pub mod Machine
 pub mod BoardT

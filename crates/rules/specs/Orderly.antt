@@ -1,4 +1,4 @@
--- Document 01, "When a state is orderly": nine rules, each a test with a name, in the document's order.
+-- Document 01, "When a state is orderly", and document 02's rule of the marks: ten rules, each a test with a name, in the documents' order.
 -- Assumes nothing.
 use Prim.Native.Nat.{ℕ, _+_, _-_, _*_}
 use mathlib.Core.Bool.{Bool, true, not, _&&_, _||_, Bool·beq, cond}
@@ -9,9 +9,10 @@ use Rattle.lists.specs.Parts.{sameList}
 use Rattle.rules.specs.declared.Params.{Params}
 use Rattle.rules.specs.Parameters.{frames}
 use Rattle.rules.specs.Numbers.{regionOf, vblockOf, placeOf, segmentOf}
-use Rattle.rules.specs.Tables.{Board, none, btEntry, bstAt}
+use Rattle.rules.specs.Tables.{Board, none, btEntry, bstAt, marksLength, wordAt}
 use Rattle.rules.specs.Pages.{block, frame, spare, spareBytes, erased, held, filled, lastIn}
 use Rattle.rules.specs.Regions.{View, view, assigned}
+use Rattle.rules.specs.Marks.{entryOf, marksOn}
 
 -- "BST holds 0, 1 or 2"
 unfoldable pub bstRule : Params → List ℕ → Bool
@@ -101,7 +102,11 @@ clusterRule p vw c = eqb (vw .segOf c) none || entryRule p vw c
 unfoldable pub ctRule : Params → Board → Bool
 ctRule p b = allBelow (p .C) (λ c. clusterRule p (view p b (regionOf p c)) c)
 
--- the nine rules in order
+-- T-06: "An orderly state now also says that each mark equals the validity rule", word by word
+unfoldable pub marksRule : Params → Board → Bool
+marksRule p b = allBelow (marksLength p) (λ k. eqb (wordAt (b .marks) k) (entryOf p (marksOn p b) k))
+
+-- the ten rules in order
 unfoldable pub rulesOf : Params → Board → List Bool
 rulesOf p b =
     bstRule p (b .bst)
@@ -113,12 +118,8 @@ rulesOf p b =
     ∷ blocksRule p b
     ∷ fstRule p b
     ∷ ctRule p b
+    ∷ marksRule p b
     ∷ []
 
 unfoldable pub orderly : Params → Board → Bool
 orderly p b = allTrue (rulesOf p b)
-
--- every definition of this file, for an `unfolding` line
-unfoldable pub all-orderly : Unit {0}
-unfolding bstRule btRule onceRule named usedRule roomRule freeRule goodFrame goodUpTo blockRule regionBlocks blocksRule fullRule openRule regionFst fstRule entryRule clusterRule ctRule rulesOf orderly
-all-orderly = tt

@@ -9,7 +9,7 @@ use Rattle.lists.specs.Below.{countBelow, lastBelow}
 use Rattle.lists.specs.Parts.{part, allAre}
 use Rattle.rules.specs.declared.Params.{Params}
 use Rattle.rules.specs.Parameters.{frames, pageBytes, frameBytes, blockBytes}
-use Rattle.rules.specs.Tables.{none}
+use Rattle.rules.specs.Tables.{notFound}
 
 -- block n of the chip, frame f of a block, page j of a frame, and that page's spare bytes
 unfoldable pub block : Params → List ℕ → ℕ → List ℕ
@@ -56,9 +56,4 @@ filled p blk = countBelow (frames p) (λ f. programmed p (frame p blk f))
 
 -- the last frame of the segment in place k of a block that holds cluster c
 unfoldable pub lastIn : Params → List ℕ → ℕ → ℕ → ℕ
-lastIn p blk k c = lastBelow none (frames p) (λ f. eqb (f / p .beta) k && holds p (frame p blk f) c)
-
--- every definition of this file, for an `unfolding` line
-unfoldable pub all-pages : Unit {0}
-unfolding block frame page spare le32 bytes32 spareBytes held programmed holds filled lastIn
-all-pages = tt
+lastIn p blk k c = lastBelow notFound (frames p) (λ f. eqb (f / p .beta) k && holds p (frame p blk f) c)

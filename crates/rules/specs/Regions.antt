@@ -58,8 +58,3 @@ sectorIn p vw c j = cond (eqb (vw .segOf c) none) (replicate (p .s) 255) (take (
 
 unfoldable pub sector : Params → Board → ℕ → ℕ → List ℕ
 sector p b c j = sectorIn p (view p b (regionOf p c)) c j
-
--- every definition of this file, for an `unfolding` line
-unfoldable pub all-regions : Unit {0}
-unfolding bodyAt viewOf assigned valid validFrames frameOf sectorIn sector
-all-regions = tt

@@ -1,15 +1,12 @@
--- Document 02, T-03: "a call that releases one cluster". The region's view after it, and the board.
+-- Document 02, T-03: "a call that releases one cluster".
 -- Assumes nothing.
 use Prim.Native.Nat.{ℕ}
+use mathlib.Core.List.{[]}
 use lib.ListN.{set}
-use Rattle.lists.specs.Below.{updated}
+use Rattle.rules.specs.declared.Params.{Params}
 use Rattle.rules.specs.Tables.{Board, none}
-use Rattle.rules.specs.Regions.{View}
-
--- the view without cluster c
-unfoldable pub without : View → ℕ → View
-without vw c = record { segOf = updated (vw .segOf) c none; lastSeg = vw .lastSeg; body = vw .body }
+use Rattle.rules.specs.Traces.{finish}
 
 -- "its CT entry becomes none .. Where it is none already, nothing changes"
-unfoldable pub released : Board → ℕ → Board
-released b c = record { chip = b .chip; ct = set (b .ct) c none; bt = b .bt; fst = b .fst; bst = b .bst; wear = b .wear }
+unfoldable pub released : Params → Board → ℕ → Board
+released p b c = finish p b [] (record { ct = set (b .ct) c none; bt = b .bt; fst = b .fst; bst = b .bst })

@@ -1,8 +1,9 @@
--- Document 01, "Reply numbers": the table, row by row, and its order; and the rows that document 02's calls have.
+-- Document 01, "Reply numbers", and document 02's refusals: when a row applies, and which rows a call has, in order.
 -- Assumes nothing.
 use Prim.Native.Nat.{ℕ, _+_, _*_}
-use mathlib.Core.Bool.{Bool, not, _||_, cond}
-use mathlib.Core.List.{List, [], _∷_}
+use mathlib.Core.Path.{_≡_}
+use mathlib.Core.Bool.{Bool, true, not, _||_, cond}
+use mathlib.Core.List.{List, [], _∷_, _++_}
 use lib.ListN.{length}
 use lib.Dec.{leb, ltb, eqb}
 use Rattle.lists.specs.Below.{allTrue}
@@ -11,10 +12,10 @@ use Rattle.rules.specs.declared.Reply.{Reply}
 use Rattle.rules.specs.declared.Reply.the-variants.{Accepted, BadParameter, WrongLength, BadCount, BadAddress, WrongData, TooFewBlocks, NotOrderly, TooFewAnswers}
 use Rattle.rules.specs.Parameters.{chipBytes, allowed}
 use Rattle.rules.specs.Numbers.{sectorOf}
-use Rattle.rules.specs.Tables.{Board}
+use Rattle.rules.specs.Tables.{Board, marksLength}
 use Rattle.rules.specs.Orderly.{orderly}
+use Rattle.rules.specs.Requests.{Request, Call, format, read, write, release, queue}
 use Rattle.rules.specs.Format.{goodBlocks}
-use Rattle.rules.specs.Write.{Request}
 
 -- the documents' number of each reply; 8 is T-01's
 abbrev pub numberOf : Reply → ℕ
@@ -31,7 +32,9 @@ numberOf TooFewAnswers = 8
 unfoldable pub isAccepted : Reply → Bool
 isAccepted r = eqb (numberOf r) 0
 
--- the chip (in bytes) and each table (in entries) has the right length
+-- ---- when a row applies
+
+-- the chip (in bytes) and each table (in entries) has the right length; T-06: "also for the new table's length"
 unfoldable pub lengthsFit : Params → Board → Bool
 lengthsFit p b =
     allTrue
@@ -41,7 +44,14 @@ lengthsFit p b =
     ∷ eqb (length (b .fst)) (p .mu)
     ∷ eqb (length (b .bst)) (p .N)
     ∷ eqb (length (b .wear)) (p .N)
+    ∷ eqb (length (b .marks)) (marksLength p)
     ∷ [])
+
+-- what a call past 1, 2 and 7 finds: the parameters are allowed, the lengths fit, and the state is orderly
+pub record OrderlyBoard (p : Params) (b : Board) : Type 0 where
+  pub fine : allowed p ≡ true
+  pub lengths : lengthsFit p b ≡ true
+  pub tidy : orderly p b ≡ true
 
 -- 1: "a parameter outside the table above, P above 256, or C/μ rounded up above γF − 1"
 unfoldable pub badParameter : Params → Bool
@@ -56,8 +66,8 @@ unfoldable pub badCount : Params → Request → Bool
 badCount p q = eqb (q .count) 0 || ltb (p .alpha) (sectorOf p (q .lba) + q .count)
 
 -- 4: "LBA is C·α or more"
-unfoldable pub badAddress : Params → Request → Bool
-badAddress p q = leb (p .C * p .alpha) (q .lba)
+unfoldable pub badAddress : Params → ℕ → Bool
+badAddress p lba = leb (p .C * p .alpha) lba
 
 -- T-03: "4 for a cluster not below C"
 unfoldable pub badCluster : Params → ℕ → Bool
@@ -75,47 +85,50 @@ tooFewBlocks p b = ltb (goodBlocks p (b .chip)) (p .mu * p .gamma + 1)
 unfoldable pub notOrderly : Params → Board → Bool
 notOrderly p b = not (orderly p b)
 
--- "Checked in this order": the reply of the first row that applies; 0 "otherwise"
-pub record Row : Type 0 where
-  pub applies : Bool
-  pub gives : Reply
+-- 8: "when the answer list is shorter than the request list"
+unfoldable pub tooFewAnswers : ℕ → ℕ → Bool
+tooFewAnswers items answers = ltb answers items
 
-abbrev pub row : Bool → Reply → Row
+-- ---- the table
+
+-- what is given where the row applies
+pub record Row (A : Type 0) : Type 0 where
+  pub applies : Bool
+  pub gives : A
+
+abbrev pub row : {A : Type 0} → Bool → A → Row A
 row t r = record { applies = t; gives = r }
 
-unfoldable pub firstRow : List Row → Reply
-firstRow [] = Accepted
-firstRow (x ∷ xs) = cond (x .applies) (x .gives) (firstRow xs)
+-- "Checked in this order": what the first row that applies gives; what is given "otherwise"
+unfoldable pub firstRow : {A : Type 0} → A → List (Row A) → A
+firstRow other [] = other
+firstRow other (x ∷ xs) = cond (x .applies) (x .gives) (firstRow other xs)
 
--- the rows that a format has, in order
-unfoldable pub formatReply : Params → Board → Reply
-formatReply p b =
-    firstRow (row (badParameter p) BadParameter ∷ row (wrongLength p b) WrongLength ∷ row (tooFewBlocks p b) TooFewBlocks ∷ [])
+-- 1 and 2 are "by" all; 3, 4 and 5 by read and write; 7 by every call that asks for an orderly state
+unfoldable pub lentRows : Params → Board → List (Row Reply)
+lentRows p b = row (badParameter p) BadParameter ∷ row (wrongLength p b) WrongLength ∷ []
 
--- and those of a read and of a write
-unfoldable pub accessReply : Params → Board → Request → Reply
-accessReply p b q =
-    firstRow
-    (row (badParameter p) BadParameter
-    ∷ row (wrongLength p b) WrongLength
-    ∷ row (badCount p q) BadCount
-    ∷ row (badAddress p q) BadAddress
-    ∷ row (wrongData p q) WrongData
-    ∷ row (notOrderly p b) NotOrderly
-    ∷ [])
+unfoldable pub accessRows : Params → Request → List (Row Reply)
+accessRows p q = row (badCount p q) BadCount ∷ row (badAddress p (q .lba)) BadAddress ∷ row (wrongData p q) WrongData ∷ []
 
--- T-03: "Refusals: 1, 2, then 4 for a cluster not below C, then 7"
-unfoldable pub releaseReply : Params → Board → ℕ → Reply
-releaseReply p b c =
-    firstRow (row (badParameter p) BadParameter ∷ row (wrongLength p b) WrongLength ∷ row (badCluster p c) BadAddress ∷ row (notOrderly p b) NotOrderly ∷ [])
+unfoldable pub orderRow : Params → Board → List (Row Reply)
+orderRow p b = row (notOrderly p b) NotOrderly ∷ []
+
+-- T-01: "8, after 2"; "1, 2 and 8 are for the whole call"; by the lengths of both lists
+unfoldable pub queueRows : Params → Board → ℕ → ℕ → List (Row Reply)
+queueRows p b items answers = lentRows p b ++ (row (tooFewAnswers items answers) TooFewAnswers ∷ [])
+
+-- the rows of a call. T-03: "1, 2, then 4 for a cluster not below C, then 7"
+unfoldable pub rowsOf : Params → Board → Call → List (Row Reply)
+rowsOf p b format = lentRows p b ++ (row (tooFewBlocks p b) TooFewBlocks ∷ [])
+rowsOf p b (read q) = lentRows p b ++ (accessRows p q ++ orderRow p b)
+rowsOf p b (write q) = lentRows p b ++ (accessRows p q ++ orderRow p b)
+rowsOf p b (release c) = lentRows p b ++ (row (badCluster p c) BadAddress ∷ orderRow p b)
+rowsOf p b (queue l) = queueRows p b (length (l .items)) (length (l .answers))
+
+unfoldable pub replyOf : Params → Board → Call → Reply
+replyOf p b c = firstRow Accepted (rowsOf p b c)
 
 -- T-05: "Refusals: 1, 2, 4, 7", of one LBA
 unfoldable pub whyReply : Params → Board → ℕ → Reply
-whyReply p b lba =
-    firstRow
-    (row (badParameter p) BadParameter ∷ row (wrongLength p b) WrongLength ∷ row (leb (p .C * p .alpha) lba) BadAddress ∷ row (notOrderly p b) NotOrderly ∷ [])
-
--- every definition of this file, for an `unfolding` line
-unfoldable pub all-replies : Unit {0}
-unfolding isAccepted lengthsFit badParameter wrongLength badCount badAddress badCluster wrongData tooFewBlocks notOrderly firstRow formatReply accessReply releaseReply whyReply
-all-replies = tt
+whyReply p b lba = firstRow Accepted (lentRows p b ++ (row (badAddress p lba) BadAddress ∷ orderRow p b))

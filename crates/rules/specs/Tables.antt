@@ -1,11 +1,12 @@
--- Document 01, "Numbers and tables", the tables. An entry past a table's end has a value too, so that every definition has one for every content.
+-- Document 01, "Numbers and tables", the tables, with document 02's table of marks. An entry past a table's end has a value too, so that every
+-- definition has one for every content.
 -- Assumes nothing.
 use Prim.Native.Nat.{ℕ, _+_, _*_}
 use mathlib.Core.List.{List}
 use lib.ListN.{getD}
 use Rattle.rules.specs.declared.Params.{Params}
 
--- the lent chip and the five lent tables
+-- the lent chip and the six lent tables
 pub record Board : Type 0 where
   pub chip : List ℕ
   pub ct : List ℕ
@@ -13,9 +14,11 @@ pub record Board : Type 0 where
   pub fst : List ℕ
   pub bst : List ℕ
   pub wear : List ℕ
+  pub marks : List ℕ
 
-abbrev pub boardOf : List ℕ → List ℕ → List ℕ → List ℕ → List ℕ → List ℕ → Board
-boardOf chip ct bt fst bst wear = record { chip = chip; ct = ct; bt = bt; fst = fst; bst = bst; wear = wear }
+-- as they are lent, one after the other
+abbrev pub boardOf : List ℕ → List ℕ → List ℕ → List ℕ → List ℕ → List ℕ → List ℕ → Board
+boardOf chip ct bt fst bst wear marks = record { chip = chip; ct = ct; bt = bt; fst = fst; bst = bst; wear = wear; marks = marks }
 
 -- "65,535 means none in all three"
 abbrev pub none : ℕ
@@ -44,7 +47,16 @@ bstAt bst n = getD bst n 0
 unfoldable pub wearAt : List ℕ → ℕ → ℕ
 wearAt wear n = getD wear n 0
 
--- every definition of this file, for an `unfolding` line
-unfoldable pub all-tables : Unit {0}
-unfolding ctAt btEntry btAt fstAt bstAt wearAt
-all-tables = tt
+-- T-06: "four 64-bit words for each region and virtual block": word w of virtual block v of region r stands at 4·(r·γ + v) + w
+abbrev pub marksLength : Params → ℕ
+marksLength p = 4 * (p .mu * p .gamma)
+
+abbrev pub markIndex : Params → ℕ → ℕ → ℕ → ℕ
+markIndex p r v w = 4 * (r * p .gamma + v) + w
+
+unfoldable pub wordAt : List ℕ → ℕ → ℕ
+wordAt marks k = getD marks k 0
+
+-- what a search gives that finds nothing: each is over numbers below it
+abbrev pub notFound : ℕ
+notFound = 65535

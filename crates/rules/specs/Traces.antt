@@ -1,5 +1,5 @@
 -- What a call does to the chip, as a trace: page programs and block erases in their order. The chip and the wear after a call are the trace's
--- replay, and what the call reports is counted on it.
+-- replay, what the call reports is counted on it, and the board that it leaves is that replay with the tables that the call decides.
 -- Assumes nothing.
 use Prim.Native.Nat.{ℕ, suc, _+_, _*_, min}
 use mathlib.Core.Bool.{Bool, true, false, _&&_, cond}
@@ -9,8 +9,9 @@ use Rattle.lists.specs.Below.{joinBelow}
 use Rattle.lists.specs.Parts.{part, putPart}
 use Rattle.rules.specs.declared.Params.{Params}
 use Rattle.rules.specs.Parameters.{pages, pageBytes, blockBytes}
-use Rattle.rules.specs.Tables.{wearAt}
+use Rattle.rules.specs.Tables.{Board, wearAt}
 use Rattle.rules.specs.Pages.{page, erased}
+use Rattle.rules.specs.Marks.{marksOf}
 
 -- page q of block n programmed with these bytes; block n erased
 pub data Op : Type 0 where
@@ -66,7 +67,28 @@ unfoldable pub framesOps : Params → ℕ → ℕ → List (List ℕ) → List O
 framesOps p n to [] = []
 framesOps p n to (x ∷ xs) = frameOps p n to x (p .alpha) ++ framesOps p n (suc to) xs
 
--- every definition of this file, for an `unfolding` line
-unfoldable pub all-traces : Unit {0}
-unfolding onChip onWear replayChip replayWear clean isErase programsIn erasesIn frameOps framesOps
-all-traces = tt
+-- ---- the board that is left
+
+-- the tables that a call decides; chip and wear follow from its operations, and the marks from all of these
+pub record NewTables : Type 0 where
+  pub ct : List ℕ
+  pub bt : List ℕ
+  pub fst : List ℕ
+  pub bst : List ℕ
+
+-- the board b once these operations are made, with these tables and these marks
+abbrev pub made : Params → Board → List Op → NewTables → List ℕ → Board
+made p b ops t marks =
+    record {
+      chip = replayChip p (b .chip) ops;
+      ct = t .ct;
+      bt = t .bt;
+      fst = t .fst;
+      bst = t .bst;
+      wear = replayWear (b .wear) ops;
+      marks = marks;
+    }
+
+-- T-06: the marks are those of the board itself
+abbrev pub finish : Params → Board → List Op → NewTables → Board
+finish p b ops t = made p b ops t (marksOf p (made p b ops t []))

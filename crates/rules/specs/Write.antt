@@ -1,32 +1,21 @@
--- Document 01, "Write", "Reclaim" and "Free block". Where a write goes, its plan, and the region's view after it follow from the region's view
+-- Document 01, "Write", "Reclaim" and "Free block". Where a write goes, its plan, and the cluster that it writes follow from the region's view
 -- alone; on the board it is a trace and the tables that follow it.
 -- Assumes nothing.
 use Prim.Native.Nat.{ℕ, suc, _+_, _-_, _*_}
 use mathlib.Core.Bool.{Bool, true, not, _&&_, cond}
 use mathlib.Core.List.{List, [], _∷_, _++_, map}
-use lib.ListN.{length, set, replicate}
+use lib.ListN.{length, set}
 use lib.Dec.{leb, ltb, eqb}
-use Rattle.lists.specs.Below.{joinBelow, firstBelow, leastBelow, updated}
-use Rattle.lists.specs.Parts.{part, putPart}
+use Rattle.lists.specs.Below.{joinBelow, firstBelow, leastBelow}
+use Rattle.lists.specs.Parts.{part}
 use Rattle.rules.specs.declared.Params.{Params}
-use Rattle.rules.specs.Parameters.{frames, frameBytes, blockBytes}
-use Rattle.rules.specs.Numbers.{clusterOf, sectorOf, regionOf, vblockOf, segmentOf}
-use Rattle.rules.specs.Tables.{Board, none, btAt, bstAt, wearAt}
+use Rattle.rules.specs.Parameters.{frames}
+use Rattle.rules.specs.Numbers.{sectorOf, vblockOf, segmentOf}
+use Rattle.rules.specs.Tables.{Board, none, notFound, btAt, bstAt, wearAt}
 use Rattle.rules.specs.Pages.{frame, spareBytes, held, filled}
 use Rattle.rules.specs.Regions.{View, view, assigned, validFrames, sectorIn}
-use Rattle.rules.specs.Traces.{Op, erase, replayChip, replayWear, frameOps, framesOps}
-
--- an access: its LBA, its count, and the lent data as it is at entry
-pub record Request : Type 0 where
-  pub lba : ℕ
-  pub count : ℕ
-  pub bytes : List ℕ
-
-abbrev pub requestCluster : Params → Request → ℕ
-requestCluster p q = clusterOf p (q .lba)
-
-abbrev pub requestRegion : Params → Request → ℕ
-requestRegion p q = regionOf p (requestCluster p q)
+use Rattle.rules.specs.Traces.{Op, erase, frameOps, framesOps, finish}
+use Rattle.rules.specs.Requests.{Request, requestCluster, requestRegion}
 
 -- ---- the plan
 
@@ -43,11 +32,11 @@ hasRoom p vw = not (eqb (vw .lastSeg) none) && ltb (filled p (vw .body (vblockOf
 
 -- "the lowest virtual block without a physical block"
 unfoldable pub lowestUnassigned : Params → View → ℕ
-lowestUnassigned p vw = firstBelow none (p .gamma) (λ v. not (assigned vw v))
+lowestUnassigned p vw = firstBelow notFound (p .gamma) (λ v. not (assigned vw v))
 
 -- "The victim is the virtual block with fewest valid frames, the lowest on a tie"
 unfoldable pub victim : Params → View → ℕ
-victim p vw = leastBelow (λ v. length (validFrames p vw v)) none (p .gamma) (λ v. true)
+victim p vw = leastBelow (λ v. length (validFrames p vw v)) notFound (p .gamma) (λ v. true)
 
 -- "It goes to the lowest erased frame of the open block", which is the one after its programmed ones. "If there is no open block or it is full: the
 -- lowest virtual block without a physical block takes a free block, frame 0. If all are assigned, reclaim first"
@@ -55,7 +44,7 @@ unfoldable pub planOf : Params → View → Plan
 planOf p vw =
     let o = vblockOf p (vw .lastSeg) in
     let v = lowestUnassigned p vw in
-    cond (hasRoom p vw) (continues o (filled p (vw .body o))) (cond (eqb v none) (reclaims (victim p vw)) (opens v))
+    cond (hasRoom p vw) (continues o (filled p (vw .body o))) (cond (eqb v notFound) (reclaims (victim p vw)) (opens v))
 
 -- the plan's virtual block
 unfoldable pub planVBlock : Plan → ℕ
@@ -75,28 +64,7 @@ planFrame p vw (continues v f) = f
 planFrame p vw (opens v) = 0
 planFrame p vw (reclaims v) = length (validFrames p vw v)
 
--- ---- the region's view after it
-
-unfoldable pub erasedBlock : Params → List ℕ
-erasedBlock p = replicate (blockBytes p) 255
-
--- "are copied to it in order from frame 0"
-unfoldable pub putFrames : Params → ℕ → List (List ℕ) → List ℕ → List ℕ
-putFrames p to [] blk = blk
-putFrames p to (x ∷ xs) blk = putFrames p (suc to) xs (putPart (frameBytes p) to x blk)
-
--- "and CT follows each"
-unfoldable pub follow : Params → ℕ → ℕ → List (List ℕ) → (ℕ → ℕ) → ℕ → ℕ
-follow p v to [] seg = seg
-follow p v to (x ∷ xs) seg = follow p v (suc to) xs (updated seg (held p x) (segmentOf p v to))
-
--- the view once the plan has made room
-unfoldable pub withRoom : Params → View → Plan → View
-withRoom p vw (continues v f) = vw
-withRoom p vw (opens v) = record { segOf = vw .segOf; lastSeg = vw .lastSeg; body = updated (vw .body) v (erasedBlock p) }
-withRoom p vw (reclaims v) =
-    let xs = copies p vw (reclaims v) in
-    record { segOf = follow p v 0 xs (vw .segOf); lastSeg = vw .lastSeg; body = updated (vw .body) v (putFrames p 0 xs (erasedBlock p)) }
+-- ---- the new cluster
 
 -- "The new cluster is the old one (all 255 if CT has none) with the given sectors replaced": its sector j, its page j, its frame
 unfoldable pub newSector : Params → View → Request → ℕ → List ℕ
@@ -111,25 +79,11 @@ newPage p vw q j = newSector p vw q j ++ spareBytes (requestCluster p q) j
 unfoldable pub newFrame : Params → View → Request → List ℕ
 newFrame p vw q = joinBelow (p .alpha) (newPage p vw q)
 
--- frame f of virtual block v is x, of cluster c, and "Then CT and FST name the segment just written"
-unfoldable pub withFrame : Params → View → ℕ → ℕ → ℕ → List ℕ → View
-withFrame p vw v f c x =
-    record {
-      segOf = updated (vw .segOf) c (segmentOf p v f);
-      lastSeg = segmentOf p v f;
-      body = updated (vw .body) v (putPart (frameBytes p) f x (vw .body v));
-    }
-
-unfoldable pub viewAfter : Params → View → Request → View
-viewAfter p vw q =
-    let pl = planOf p vw in
-    withFrame p (withRoom p vw pl) (planVBlock pl) (planFrame p vw pl) (requestCluster p q) (newFrame p vw q)
-
 -- ---- the write on the board
 
 -- "Free block. The one with the lowest wear, the lowest number on a tie"
 unfoldable pub freeBlock : Params → List ℕ → List ℕ → ℕ
-freeBlock p bst wear = leastBelow (wearAt wear) none (p .N) (λ n. eqb (bstAt bst n) 0)
+freeBlock p bst wear = leastBelow (wearAt wear) notFound (p .N) (λ n. eqb (bstAt bst n) 0)
 
 -- the physical block that is written
 unfoldable pub planBlock : Params → Board → ℕ → Plan → ℕ
@@ -163,19 +117,18 @@ planBst p b r (continues v f) = b .bst
 planBst p b r (opens v) = set (b .bst) (freeBlock p (b .bst) (b .wear)) 1
 planBst p b r (reclaims v) = set (set (b .bst) (freeBlock p (b .bst) (b .wear)) 1) (btAt p (b .bt) r v) 0
 
+-- "BT names the new block"; "Then CT and FST name the segment just written"
 unfoldable pub writtenBy : Params → Board → ℕ → Request → Plan → Board
 writtenBy p b r q pl =
     let vw = view p b r in
-    let ops = planOps p b r q pl in
     let sg = segmentOf p (planVBlock pl) (planFrame p vw pl) in
-    record {
-      chip = replayChip p (b .chip) ops;
+    finish p b (planOps p b r q pl)
+    (record {
       ct = set (followCt p (planVBlock pl) 0 (copies p vw pl) (b .ct)) (requestCluster p q) sg;
       bt = set (b .bt) (r * p .gamma + planVBlock pl) (planBlock p b r pl);
       fst = set (b .fst) r sg;
       bst = planBst p b r pl;
-      wear = replayWear (b .wear) ops;
-    }
+    })
 
 unfoldable pub writeOps : Params → Board → Request → List Op
 writeOps p b q =
@@ -186,8 +139,3 @@ unfoldable pub written : Params → Board → Request → Board
 written p b q =
     let r = requestRegion p q in
     writtenBy p b r q (planOf p (view p b r))
-
--- every definition of this file, for an `unfolding` line
-unfoldable pub all-write : Unit {0}
-unfolding hasRoom lowestUnassigned victim planOf planVBlock copies planFrame erasedBlock putFrames follow withRoom newSector newPage newFrame withFrame viewAfter freeBlock planBlock eraseOps roomOps planOps followCt planBst writtenBy writeOps written
-all-write = tt

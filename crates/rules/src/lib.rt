@@ -51,6 +51,13 @@ pub struct Answer {
     pub erases: u32,
 }
 
+// One write of a queue: its LBA, its count of sectors, and where its first byte stands in the data part that all items share.
+pub struct Item {
+    pub lba: u32,
+    pub count: u32,
+    pub first: u32,
+}
+
 // The number that document 01 gives a reply.
 pub fn number(r: Reply) -> u32
     ensures { λ n. ⌜ n ≡ numberOf r ⌝ }

@@ -31,8 +31,7 @@ fn say_unknown() {
     io::write_all(STDOUT_FILENO, &out[..n]);
 }
 
-// Writes sectors of one byte value, and prints the answer. Where the table of marks is the board's, the board becomes the one that the line
-// leaves, and the table stays the board's.
+// Writes sectors of one byte value, and prints the answer. The board becomes the one that the line leaves.
 fn write(
     chip: &mut [u8],
     ct: &mut [u16],
@@ -45,7 +44,7 @@ fn write(
     count: u32,
     value: u8,
 )
-    ensures { λ _. ⌜ Turned (Line.Write lba count value) (boardOf (now (chip .entry)) (now (ct .entry)) (now (bt .entry)) (now (fst .entry)) (now (bst .entry)) (now (wear .entry))) (now (marks .entry)) (boardOf (now (chip .exit)) (now (ct .exit)) (now (bt .exit)) (now (fst .exit)) (now (bst .exit)) (now (wear .exit))) (now (marks .exit)) ⌝ }
+    ensures { λ _. ⌜ Turned (Line.Write lba count value) (boardOf (now (chip .entry)) (now (ct .entry)) (now (bt .entry)) (now (fst .entry)) (now (bst .entry)) (now (wear .entry)) (now (marks .entry))) (boardOf (now (chip .exit)) (now (ct .exit)) (now (bt .exit)) (now (fst .exit)) (now (bst .exit)) (now (wear .exit)) (now (marks .exit))) ⌝ }
 {
     let bytes = boardt::filled(value);
     let n = boardt::lent(count);
@@ -124,8 +123,7 @@ fn read(
     );
 }
 
-// Does what a line asks, and prints one line. Where the table of marks is the board's, the board becomes the one that the line leaves, and
-// the table stays the board's.
+// Does what a line asks, and prints one line. The board becomes the one that the line leaves.
 pub fn answer(
     chip: &mut [u8],
     ct: &mut [u16],
@@ -136,7 +134,7 @@ pub fn answer(
     marks: &mut [u64],
     line: Line,
 )
-    ensures { λ _. ⌜ Turned line (boardOf (now (chip .entry)) (now (ct .entry)) (now (bt .entry)) (now (fst .entry)) (now (bst .entry)) (now (wear .entry))) (now (marks .entry)) (boardOf (now (chip .exit)) (now (ct .exit)) (now (bt .exit)) (now (fst .exit)) (now (bst .exit)) (now (wear .exit))) (now (marks .exit)) ⌝ }
+    ensures { λ _. ⌜ Turned line (boardOf (now (chip .entry)) (now (ct .entry)) (now (bt .entry)) (now (fst .entry)) (now (bst .entry)) (now (wear .entry)) (now (marks .entry))) (boardOf (now (chip .exit)) (now (ct .exit)) (now (bt .exit)) (now (fst .exit)) (now (bst .exit)) (now (wear .exit)) (now (marks .exit))) ⌝ }
 {
     match line {
         Line::Write(lba, count, value) => {
@@ -151,7 +149,7 @@ pub fn answer(
     }
 }
 
-// Formats the board, and prints the answer. If it is accepted, the table of marks is the board's from here on.
+// Formats the board, and prints the answer.
 pub fn start(
     chip: &mut [u8],
     ct: &mut [u16],
@@ -161,8 +159,7 @@ pub fn start(
     wear: &mut [u32],
     marks: &mut [u64],
 )
-    requires { ⌜ length (now marks) ≡ 16 ⌝ }
-    ensures { λ _. ⌜ Started (boardOf (now (chip .entry)) (now (ct .entry)) (now (bt .entry)) (now (fst .entry)) (now (bst .entry)) (now (wear .entry))) (boardOf (now (chip .exit)) (now (ct .exit)) (now (bt .exit)) (now (fst .exit)) (now (bst .exit)) (now (wear .exit))) (now (marks .exit)) ⌝ }
+    ensures { λ _. ⌜ Started (boardOf (now (chip .entry)) (now (ct .entry)) (now (bt .entry)) (now (fst .entry)) (now (bst .entry)) (now (wear .entry)) (now (marks .entry))) (boardOf (now (chip .exit)) (now (ct .exit)) (now (bt .exit)) (now (fst .exit)) (now (bst .exit)) (now (wear .exit)) (now (marks .exit))) ⌝ }
 {
     let a = layer::format(boardt::board(), chip, ct, bt, fst, bst, wear, marks);
     say_counts(b'F', a);

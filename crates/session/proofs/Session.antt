@@ -5,29 +5,17 @@ use mathlib.Core.Path.{_≡_, refl}
 use mathlib.Core.Bool.{true}
 use mathlib.Core.List.{List, [], _∷_}
 use Prim.Native.Nat.{ℕ}
-use Rattle.lists.specs.Below.{all-below}
-use Rattle.lists.specs.Parts.{sameList, all-parts}
+use Rattle.lists.specs.Parts.{sameList}
 use Rattle.lists.proofs.Joins.{sameList→eq}
-use Rattle.rules.specs.Parameters.{all-parameters}
-use Rattle.rules.specs.Tables.{all-tables}
-use Rattle.rules.specs.Pages.{all-pages}
-use Rattle.rules.specs.Regions.{all-regions}
-use Rattle.rules.specs.Orderly.{all-orderly}
-use Rattle.rules.specs.Traces.{all-traces}
-use Rattle.rules.specs.Format.{all-format}
-use Rattle.rules.specs.Write.{all-write}
-use Rattle.rules.specs.Replies.{all-replies}
-use Rattle.rules.specs.Calls.{all-calls}
-use Rattle.rules.specs.BoardT.{all-boardT}
 use Rattle.lines.specs.declared.Line.{Line}
 use Rattle.lines.specs.declared.Line.the-variants.{Write, Read, Other}
-use Rattle.lines.specs.Grammar.{lineOf, all-grammar}
-use Rattle.printing.specs.Output.{all-output}
-use Rattle.session.specs.Session.{bench, bytesOf, exampleInput, exampleOutput, linesFrom, all-session}
+use Rattle.lines.specs.Grammar.{lineOf}
+use Rattle.session.specs.Session.{bench, bytesOf, exampleInput, exampleOutput, linesFrom}
+use Rattle.session.proofs.Names.{all-session}
 use Prim.Native.String.{String}
 
 example-test : sameList (bench (bytesOf exampleInput)) (bytesOf exampleOutput) ≡ true
-unfolding all-below all-parts all-parameters all-tables all-pages all-regions all-orderly all-traces all-format all-write all-replies all-calls all-boardT all-grammar all-output all-session
+unfolding all-session
 example-test = refl
 
 -- "The whole output"
@@ -55,41 +43,41 @@ abbrev pub reads : String → Line
 reads s = lineOf (bytesOf s)
 
 pub write-read : reads "W\t0\t2\t17" ≡ Write 0 2 17
-unfolding all-below all-parts all-grammar all-session
+unfolding all-session
 write-read = refl
 
 pub leading-zeros : reads "R\t0000000004\t02" ≡ Read 4 2
-unfolding all-below all-parts all-grammar all-session
+unfolding all-session
 leading-zeros = refl
 
 pub largest : reads "W\t4294967295\t4294967295\t255" ≡ Write 4294967295 4294967295 255
-unfolding all-below all-parts all-grammar all-session
+unfolding all-session
 largest = refl
 
 pub address-too-large : reads "R\t4294967296\t1" ≡ Other
-unfolding all-below all-parts all-grammar all-session
+unfolding all-session
 address-too-large = refl
 
 pub value-too-large : reads "W\t0\t1\t256" ≡ Other
-unfolding all-below all-parts all-grammar all-session
+unfolding all-session
 value-too-large = refl
 
 pub eleven-digits : reads "R\t00000000004\t1" ≡ Other
-unfolding all-below all-parts all-grammar all-session
+unfolding all-session
 eleven-digits = refl
 
 pub empty-line : reads "" ≡ Other
-unfolding all-below all-parts all-grammar all-session
+unfolding all-session
 empty-line = refl
 
 pub carriage-return : reads "R\t4\t2\r" ≡ Other
-unfolding all-below all-parts all-grammar all-session
+unfolding all-session
 carriage-return = refl
 
 pub spaces : reads "R 4 2" ≡ Other
-unfolding all-below all-parts all-grammar all-session
+unfolding all-session
 spaces = refl
 
 pub empty-field : reads "R\t4\t\t2" ≡ Other
-unfolding all-below all-parts all-grammar all-session
+unfolding all-session
 empty-field = refl

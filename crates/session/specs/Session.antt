@@ -9,8 +9,8 @@ use mathlib.Core.List.{List, [], _∷_, _++_}
 use lib.Dec.{eqb}
 use lib.ListN.{length, replicate}
 use Rattle.rules.specs.Tables.{Board}
-use Rattle.rules.specs.Write.{Request}
-use Rattle.rules.specs.Calls.{formatCall, readCall, writeCall}
+use Rattle.rules.specs.Requests.{Request, format, read, write}
+use Rattle.rules.specs.Calls.{outcomeOf}
 use Rattle.rules.specs.BoardT.{boardT, blankT}
 use Rattle.lines.specs.declared.Line.{Line}
 use Rattle.lines.specs.declared.Line.the-variants.{Write, Read, Other}
@@ -33,10 +33,10 @@ pub record Turn : Type 0 where
 
 unfoldable pub turn : Board → Line → Turn
 turn b (Write lba count x) =
-    let o = writeCall boardT b (requested lba count x) in
+    let o = outcomeOf boardT b (write (requested lba count x)) in
     record { text = countsLine 87 (o .answer); board = o .board }
 turn b (Read lba count) =
-    let o = readCall boardT b (requested lba count 0) in
+    let o = outcomeOf boardT b (read (requested lba count 0)) in
     record { text = readLine (o .answer) count (o .bytes); board = o .board }
 turn b Other = record { text = unknownLine; board = b }
 
@@ -49,7 +49,7 @@ turns b (s ∷ ss) =
 -- "The bench program formats Board T (chip all 255, wear all 0), then reads standard input": the line of the format (`F`, 70), then one a line
 unfoldable pub bench : List ℕ → List ℕ
 bench input =
-    let o = formatCall boardT (blankT 5 0 255) in
+    let o = outcomeOf boardT (blankT 5 0 255) format in
     countsLine 70 (o .answer) ++ turns (o .board) (linesFrom [] input)
 
 -- a text's bytes
@@ -66,8 +66,3 @@ exampleInput =
 unfoldable pub exampleOutput : String
 exampleOutput =
     "F\t0\t0\t5\nW\t0\t2\t0\nW\t0\t2\t0\nW\t0\t2\t0\nW\t0\t2\t0\nW\t0\t2\t0\nW\t0\t4\t1\nW\t0\t4\t1\nR\t0\t12121212121212121212121212121212\t16161616161616161616161616161616\nR\t0\tffffffffffffffffffffffffffffffff\nW\t4\t0\t0\nR\t3\n"
-
--- every definition of this file, for an `unfolding` line
-unfoldable pub all-session : Unit {0}
-unfolding linesFrom requested turn turns bench bytesOf exampleInput exampleOutput
-all-session = tt

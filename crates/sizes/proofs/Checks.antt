@@ -1,28 +1,20 @@
--- The tests on numbers are the rules' `allowed` and `lengthsFit`; and what parameters in their ranges bound.
+-- The tests on the parameters are the rules' `allowed`; and what parameters in their ranges bound.
 -- Assumes nothing.
 use mathlib.Core.Path.{_≡_, refl}
 use mathlib.Core.Bool.{Bool, true, false, _&&_, and-assoc, and-true}
 use mathlib.Core.List.{List, [], _∷_}
 use Prim.Native.Nat.{ℕ, _+_, _*_, _≤_}
 use native.Mathlib.Nat.{mul-le-mul, one-le-mul}
-use lib.ListN.{length}
 use Rattle.lists.specs.Below.{allTrue}
 use Rattle.lists.proofs.Tests.{and-left, and-right, truths}
 use Rattle.rules.specs.declared.Params.{Params}
 use Rattle.rules.specs.Parameters.{allowed, within}
-use Rattle.rules.specs.Tables.{Board}
-use Rattle.rules.specs.Replies.{lengthsFit}
 use Rattle.rules.proofs.Sizes.{within-true}
-use Rattle.sizes.specs.Checks.{inRanges, tied, lengthsAre}
+use Rattle.sizes.specs.Checks.{inRanges, tied}
 
 pub allowed-is : (p : Params) → inRanges p && tied p ≡ allowed p
 unfolding inRanges tied allowed allTrue
 allowed-is p = simp (and-assoc, and-true)
-
-pub lengths-are : (p : Params) (b : Board)
-    → lengthsAre p (length (b .chip)) (length (b .ct)) (length (b .bt)) (length (b .fst)) (length (b .bst)) (length (b .wear)) ≡ lengthsFit p b
-unfolding lengthsAre lengthsFit allTrue
-lengths-are p b = simp (and-assoc, and-true)
 
 -- what the products of parameters in their ranges are
 pub record Ranged (p : Params) : Type 0 where

@@ -1,10 +1,10 @@
--- The tests behind replies 1 and 2, on numbers alone. `proofs/Checks.antt` shows that they are the rules' `allowed` and `lengthsFit`.
+-- The tests behind reply 1. `proofs/Checks.antt` shows that they are the rules' `allowed`.
 -- Assumes nothing.
-use Prim.Native.Nat.{ℕ, _-_, _*_}
+use Prim.Native.Nat.{_-_, _*_}
 use mathlib.Core.Bool.{Bool, _&&_}
-use lib.Dec.{leb, eqb}
+use lib.Dec.{leb}
 use Rattle.rules.specs.declared.Params.{Params}
-use Rattle.rules.specs.Parameters.{frames, pages, perRegion, within, chipBytes}
+use Rattle.rules.specs.Parameters.{frames, pages, perRegion, within}
 
 -- each parameter is in its range
 unfoldable pub inRanges : Params → Bool
@@ -21,8 +21,3 @@ inRanges p =
 -- P is at most 256, and C/μ rounded up at most γF − 1
 unfoldable pub tied : Params → Bool
 tied p = leb (pages p) 256 && leb (perRegion p) (p .gamma * frames p - 1)
-
--- the chip and the tables are as long as these numbers say
-unfoldable pub lengthsAre : Params → ℕ → ℕ → ℕ → ℕ → ℕ → ℕ → Bool
-lengthsAre p chip ct bt fst bst wear =
-    eqb chip (chipBytes p) && eqb ct (p .C) && eqb bt (p .mu * p .gamma) && eqb fst (p .mu) && eqb bst (p .N) && eqb wear (p .N)

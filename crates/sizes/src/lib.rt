@@ -2,9 +2,12 @@
 ghost use mathlib.Core.Path.{_≡_};
 ghost use mathlib.Core.Bool.{true};
 ghost use Prim.Native.Nat.{_<_};
+ghost use lib.ListN.{length};
 ghost use Rattle.rules.specs.Parameters.{allowed, frames, pages, pageBytes, frameBytes, blockBytes, within};
 ghost use Rattle.rules.specs.Numbers.{regionOf, vblockOf, placeOf};
-ghost use Rattle.sizes.specs.Checks.{inRanges, tied, lengthsAre};
+ghost use Rattle.rules.specs.Tables.{Board};
+ghost use Rattle.rules.specs.Replies.{lengthsFit};
+ghost use Rattle.sizes.specs.Checks.{inRanges, tied};
 use rules::Cluster;
 use rules::Params;
 use rules::Segment;
@@ -135,12 +138,19 @@ pub fn lengths_fit(
     fst: usize,
     bst: usize,
     wear: usize,
+    marks: usize,
 ) -> bool
     requires { ⌜ allowed p ≡ true ⌝ }
-    ensures { λ ok. ⌜ ok ≡ lengthsAre p chip ct bt fst bst wear ⌝ }
+    ensures { λ ok. ⌜ ((b : Board) → length (b .chip) ≡ chip → length (b .ct) ≡ ct → length (b .bt) ≡ bt → length (b .fst) ≡ fst → length (b .bst) ≡ bst → length (b .wear) ≡ wear → length (b .marks) ≡ marks → ok ≡ lengthsFit p b) ⌝ }
 {
     let w = block_bytes(p);
     let all = p.N * w;
     let named = p.mu * p.gamma;
-    (chip == all) & (ct == p.C) & (bt == named) & (fst == p.mu) & (bst == p.N) & (wear == p.N)
+    (chip == all)
+        & (ct == p.C)
+        & (bt == named)
+        & (fst == p.mu)
+        & (bst == p.N)
+        & (wear == p.N)
+        & (marks == 4 * named)
 }

@@ -8,7 +8,7 @@ ghost use lib.Dec.{eqb};
 ghost use Rattle.rules.specs.Parameters.{allowed, chipBytes};
 ghost use Rattle.rules.specs.Tables.{bstAt};
 ghost use Rattle.rules.specs.Pages.{block, erased};
-ghost use Rattle.rules.specs.Orderly.{freeRule, orderly};
+ghost use Rattle.rules.specs.Orderly.{freeRule};
 ghost use Rattle.agree.specs.Check.{Lent, vblockFrames, tablesOk};
 use rules::Cluster;
 use rules::PBlock;

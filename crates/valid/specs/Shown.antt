@@ -11,9 +11,9 @@ use Rattle.rules.specs.declared.Params.{Params}
 use Rattle.rules.specs.Parameters.{allowed, frames, blockBytes, chipBytes}
 use Rattle.rules.specs.Numbers.{regionOf}
 use Rattle.rules.specs.Pages.{block, frame, held, holds, programmed}
-use Rattle.rules.specs.Tables.{none, ctAt, btAt}
+use Rattle.rules.specs.Tables.{none, ctAt, btAt, markIndex, marksLength, wordAt}
 use Rattle.rules.specs.Regions.{View, viewOf}
-use Rattle.marks.specs.Marks.{markIndex, marked, marksLength, wordAt}
+use Rattle.rules.specs.Marks.{marked}
 
 -- this is so of each cluster that a programmed frame of the block holds
 abbrev pub EachHeld : Params → List ℕ → (ℕ → Type 0) → Type 0

@@ -7,7 +7,7 @@ ghost use Rattle.lists.specs.Below.{allBelow};
 ghost use Rattle.rules.specs.Parameters.{allowed};
 ghost use Rattle.rules.specs.Pages.{lastIn};
 ghost use Rattle.rules.specs.Regions.{View, valid};
-ghost use Rattle.marks.specs.Marks.{marked};
+ghost use Rattle.rules.specs.Marks.{marked};
 ghost use Rattle.marking.specs.Asked.{WordsAsked};
 ghost use Rattle.valid.specs.Shown.{CheckAsked, HoldsAt, OneBlock, OneFrame, Shows, marksValid, onlyIn, wordOnly};
 use rules::Cluster;

@@ -1,4 +1,4 @@
--- The cases of the answer, each by the reply's number; what an accepted one shows of the board and its marks; and the place that the lookup found.
+-- The cases of the answer, each by the reply's number; what an accepted one shows of the board; and the place that the lookup found.
 -- Assumes nothing.
 use mathlib.Core.Path.{_≡_, ap, refl, sym, _∙_}
 use mathlib.Core.Bool.{Bool, false, not, true}
@@ -12,97 +12,92 @@ use borrow.Author.Tests.{eq-eqb, eqb-false, le-ltb, ne-eqb, not-false, not-true}
 use Rattle.rules.specs.declared.Params.{Params}
 use Rattle.rules.specs.declared.Reply.{Reply}
 use Rattle.rules.specs.declared.Reply.the-variants.{Accepted}
+use Rattle.rules.specs.Marks.{marksOf}
 use Rattle.rules.specs.Numbers.{clusterOf, regionOf, sectorOf}
-use Rattle.rules.specs.Replies.{accessReply, badAddress, badCount, badParameter, firstRow, isAccepted, notOrderly, numberOf, whyReply, wrongData, wrongLength}
-use Rattle.rules.specs.Tables.{Board, btAt, ctAt, none}
 use Rattle.rules.specs.Regions.{view}
-use Rattle.rules.specs.Write.{Request, planOf}
-use Rattle.rules.proofs.Admitted.{Admitted, admitted}
+use Rattle.rules.specs.Replies.{accessRows, badCount, badParameter, firstRow, isAccepted, lentRows, notOrderly, numberOf, orderRow, replyOf, rowsOf, whyReply, wrongData, wrongLength}
+use Rattle.rules.specs.Requests.{Request, write}
+use Rattle.rules.specs.Tables.{Board, btAt, ctAt, none}
+use Rattle.rules.specs.Write.{planOf, planVBlock, reclaims}
+use Rattle.rules.proofs.Admitted.{Admitted, admitted, write-checks}
 use Rattle.rules.proofs.Continues.{Makes}
 use Rattle.rules.proofs.RegionFacts.{neat}
 use Rattle.rules.proofs.Sizes.{sizes}
+use Rattle.rules.proofs.TableFacts.{marks-in}
 use Rattle.rules.proofs.WritePromise.{makes}
-use Rattle.claims.specs.Conditions.{OrderlyBoard}
-use Rattle.marks.specs.Marks.{marksOf}
-use Rattle.marks.specs.MarkedCalls.{markedReply}
-use Rattle.marks.proofs.Tables.{right}
 use Rattle.agree.specs.Check.{Lengths}
 use Rattle.agree.proofs.Agree.{lengths-in}
 use Rattle.broken.specs.declared.Rule.{Rule}
 use Rattle.broken.specs.Broken.{brokenRule, ruleNumber}
 use Rattle.reading.specs.Lookup.{Lookup, Stands, Within, blockFor, lastFor}
 use Rattle.reading.proofs.Requests.{lookup-admitted}
-use Rattle.writing.proofs.Writes.{plan-asked, room-asked}
+use Rattle.writing.proofs.Writes.{plan-asked}
 use Rattle.why.specs.Asked.{ForecastAsked, PlaceAsked}
-use Rattle.why.specs.Why.{Small, forecastOf, foundOf, holderOf, markedWhy, planNumbers, whyBy}
+use Rattle.why.specs.Why.{Small, forecastOf, foundOf, holderOf, planNumbers, whyOf}
 use Rattle.why.proofs.Replies.{Answered, answered, disorder}
 use Rattle.why.proofs.Small.{found-small}
 
 -- ---- by the reply
 
-module _ (p : Params) (b : Board) (marks : List ℕ) (lba : ℕ) (r : Reply) (e : r ≡ markedReply p b marks true (whyReply p b lba)) (n : ℕ) (m : n ≡ numberOf r) where
+module _ (p : Params) (b : Board) (lba : ℕ) (r : Reply) (e : r ≡ whyReply p b lba) (n : ℕ) (m : n ≡ numberOf r) where
   -- 7: the parameters and the lengths passed
   pub lengths-at : n ≡ 7 → Lengths p (b .chip) (b .ct) (b .bt) (b .fst) (b .bst)
-  lengths-at z = let w = disorder p b marks lba (sym (ap numberOf e) ∙ sym m ∙ z) in lengths-in p b (w .fine) (w .fits)
+  lengths-at z = let w = disorder p b lba (sym (ap numberOf e) ∙ sym m ∙ z) in lengths-in p b (w .fine) (w .fits)
 
-  pub why-7 : n ≡ 7 → (k : Rule) → k ≡ brokenRule p b → 7 ∷ ruleNumber k ∷ replicate 10 0 ≡ markedWhy p b marks lba
-  unfolding markedWhy whyBy isAccepted
+  pub why-7 : n ≡ 7 → (k : Rule) → k ≡ brokenRule p b → 7 ∷ ruleNumber k ∷ replicate 10 0 ≡ whyOf p b lba
+  unfolding whyOf isAccepted
   why-7 z k is = rw (← e, ← m, z, is)
 
-  pub why-refused : (n ≡ 7 → ⊥) → (n ≡ 0 → ⊥) → numberOf r ∷ replicate 11 0 ≡ markedWhy p b marks lba
-  unfolding markedWhy whyBy isAccepted
+  pub why-refused : (n ≡ 7 → ⊥) → (n ≡ 0 → ⊥) → numberOf r ∷ replicate 11 0 ≡ whyOf p b lba
+  unfolding whyOf isAccepted
   why-refused ne some = rw (← e, ← m, ne-eqb n 0 some, ne-eqb n 7 ne)
 
   -- 0: every test passed
-  pub passed : n ≡ 0 → Answered p b marks lba
-  passed z = answered p b marks lba (sym (ap numberOf e) ∙ sym m ∙ z)
+  pub passed : n ≡ 0 → Answered p b lba
+  passed z = answered p b lba (sym (ap numberOf e) ∙ sym m ∙ z)
 
 -- the sector is one that a write of it would be accepted for, and the marks are the board's
-module _ (p : Params) (b : Board) (marks : List ℕ) (lba : ℕ) (h : Answered p b marks lba) where
-  pub why-found : (c : ℕ) → c ≡ clusterOf p lba → (ns : List ℕ) → ns ≡ foundOf p b c → ns ≡ markedWhy p b marks lba
-  unfolding markedWhy whyBy isAccepted
+module _ (p : Params) (b : Board) (lba : ℕ) (h : Answered p b lba) where
+  pub why-found : (c : ℕ) → c ≡ clusterOf p lba → (ns : List ℕ) → ns ≡ foundOf p b c → ns ≡ whyOf p b lba
+  unfolding whyOf isAccepted
   why-found c at ns is = rw (h .accepted, ← at) is
 
-  pub marks-right : marks ≡ marksOf p b
-  marks-right = right p b marks (h .long) (h .rule)
+  pub marks-right : b .marks ≡ marksOf p b
+  marks-right = marks-in p b (h .ordered .lengths) (h .ordered .tidy)
 
   request : Request
   request = record { lba = lba; count = 1; bytes = replicate (p .s) 0 }
 
-  accepted : accessReply p b request ≡ Accepted
-  unfolding accessReply firstRow badParameter wrongLength badCount badAddress wrongData notOrderly request
+  accepted : replyOf p b (write request) ≡ Accepted
+  unfolding replyOf rowsOf lentRows accessRows orderRow firstRow badParameter wrongLength badCount wrongData notOrderly request
   accepted =
-      rw (h .fine, h .fits, h .low, h .tidy, le-ltb (p .alpha) (sectorOf p lba + 1) (omega (arith, mod-lt lba ((sizes p (h .fine)) .sectors))), length-replicate, one-mul, eq-eqb (p .s) (p .s) refl)
+      rw (h .ordered .fine, h .ordered .lengths, h .low, h .ordered .tidy, le-ltb (p .alpha) (sectorOf p lba + 1) (omega (arith, mod-lt lba ((sizes p (h .ordered .fine)) .sectors))), length-replicate, one-mul, eq-eqb (p .s) (p .s) refl)
 
   adm : Admitted p b request
-  adm = admitted p b request accepted
+  adm = admitted p b request (write-checks p b request accepted)
 
   pub looked : (c : ℕ) → c ≡ clusterOf p lba → Lookup p (b .chip) (b .ct) (b .bt) c
   unfolding request
   looked c is = rw is (lookup-admitted p b request adm)
 
-  ordered : OrderlyBoard p b
-  ordered = record { fine = h .fine; lengths = h .fits; tidy = h .tidy }
+  made : (r : ℕ) → r < p .mu → Makes p b r (planOf p (view p b r))
+  made r low = makes p (adm .sized) b (adm .tables) r low (neat p r (view p b r) (adm .tidy r low))
 
   -- the numbers of what was found fit 32 bits
   pub small : (c : ℕ) → c ≡ clusterOf p lba → (ns : List ℕ) → ns ≡ foundOf p b c → Small ns
   unfolding request
   small c is ns e =
-      let at : regionOf p c < p .mu = mod-lt c (adm .sized .regions) in
-      let mk : Makes p b (regionOf p c) (planOf p (view p b (regionOf p c))) = makes p (adm .sized) b (adm .tables) (regionOf p c) at (neat p (regionOf p c) (view p b (regionOf p c)) (adm .tidy (regionOf p c) at)) in
-      rw e (found-small p (adm .sized) b ordered c (rw is (adm .asked .cluster)) (mk .base .ready .mine) (mk .base .ready .low))
+      let mk : Makes p b (regionOf p c) (planOf p (view p b (regionOf p c))) = made (regionOf p c) (mod-lt c (adm .sized .regions)) in
+      rw e (found-small p (adm .sized) b (h .ordered) c (rw is (adm .asked .cluster)) (mk .base .ready .mine) (mk .base .ready .low))
 
-  pub asked : (c : ℕ) → c ≡ clusterOf p lba → (r : ℕ) → r ≡ regionOf p c → ForecastAsked p (b .chip) (b .bt) (b .fst) marks r
-  unfolding request
+  pub asked : (c : ℕ) → c ≡ clusterOf p lba → (r : ℕ) → r ≡ regionOf p c → ForecastAsked p (b .chip) (b .bt) (b .fst) (b .marks) r
+  unfolding request planVBlock
   asked c is r e =
-      let same : r ≡ regionOf p (clusterOf p lba) = e ∙ ap (regionOf p) is in
       record {
-        plan = plan-asked p b request accepted r same;
+        plan = plan-asked p b request accepted r (e ∙ ap (regionOf p) is);
         ct = b .ct;
-        bst = b .bst;
-        wear = b .wear;
         right = marks-right;
-        victim = λ v k. (room-asked p b request accepted r same _ k marks (h .long)) .taking .low;
+        victim = λ v k. let mk : Makes p b r (reclaims v) = rw (← k) at (made r (rw e (mod-lt c (adm .sized .regions)))) in mk .base .ready .mine;
       }
 
 -- ---- the forecast, and where the cluster is

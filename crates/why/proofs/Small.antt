@@ -19,11 +19,11 @@ use Rattle.rules.specs.Replies.{numberOf}
 use Rattle.rules.specs.Tables.{Board, ctAt, none}
 use Rattle.rules.specs.Write.{Plan, continues, opens, planFrame, planOf, planVBlock, reclaims}
 use Rattle.rules.proofs.Sizes.{Sizes}
-use Rattle.claims.proofs.Outcomes.{number-low}
+use Rattle.rules.proofs.Outcomes.{number-low}
 use Rattle.broken.specs.declared.Rule.{Rule}
 use Rattle.broken.specs.declared.Rule.the-variants.{BstValues, BtRange, Ct, FreeErased, Fst, Marks, NamedTwice, TooFewLeft, UsedBlock, UsedIfNamed}
 use Rattle.broken.specs.Broken.{ruleNumber}
-use Rattle.claims.specs.Conditions.{OrderlyBoard}
+use Rattle.rules.specs.Replies.{OrderlyBoard}
 use Rattle.why.specs.Truths.{holderAt}
 use Rattle.why.specs.Why.{Small, forecastOf, foundOf, holderOf, planNumbers}
 use Rattle.why.proofs.Truths.{holder-true, segment-low, vblock-low}

@@ -1,9 +1,9 @@
--- The holder that an answer names is the cluster's valid frame, the forecast is the plan of a write with its counts, the rule that it tells is the first broken, an answer
--- is the only one, and with marks that are right it is the one without them.
+-- The holder that an answer names is the cluster's valid frame, the forecast is the plan of a write with its counts, the rule that it tells is the first broken, and
+-- an answer is the only one.
 -- Assumes nothing.
-use mathlib.Core.Path.{_≡_, ap, refl, sym, _∙_}
+use mathlib.Core.Path.{_≡_, refl, sym, _∙_}
 use mathlib.Core.Logic.{_⊎_, inl, inr}
-use mathlib.Core.Bool.{_&&_, Bool, and-false, cond, false, true}
+use mathlib.Core.Bool.{Bool, cond, false, true}
 use mathlib.Core.List.{List, _++_, _∷_}
 use Prim.Native.Nat.{_*_, _<_, ℕ}
 use native.Mathlib.Nat.{div-lt-iff-lt-mul, mod-lt}
@@ -11,36 +11,28 @@ use native.Mathlib.Decide.{ℕ-discrete}
 use lib.Dec.{eqb}
 use lib.ListN.{getD, length, length-map, replicate}
 use borrow.Author.Tests.{eq-eqb, ne-eqb}
-use Rattle.lists.proofs.Tests.{never, so}
 use Rattle.rules.specs.declared.Params.{Params}
-use Rattle.rules.specs.declared.Reply.{Reply}
-use Rattle.rules.specs.declared.Reply.the-variants.{Accepted, BadParameter}
-use Rattle.rules.specs.Calls.{accepts, answerOf, outcomeOf, write}
+use Rattle.rules.specs.declared.Reply.the-variants.{Accepted}
+use Rattle.rules.specs.Calls.{answerOf}
 use Rattle.rules.specs.Numbers.{clusterOf, regionOf, vblockOf}
-use Rattle.rules.specs.Orderly.{orderly}
 use Rattle.rules.specs.Pages.{block}
 use Rattle.rules.specs.Regions.{View, validFrames, view, viewOf}
-use Rattle.rules.specs.Replies.{accessReply, badParameter, firstRow, isAccepted, numberOf, whyReply}
+use Rattle.rules.specs.Replies.{OrderlyBoard, isAccepted, numberOf, replyOf, whyReply}
+use Rattle.rules.specs.Requests.{Request, requestRegion, write}
 use Rattle.rules.specs.Tables.{Board, btAt, ctAt, none}
-use Rattle.rules.specs.Write.{Plan, Request, continues, copies, opens, planFrame, planOf, planVBlock, reclaims, requestRegion}
+use Rattle.rules.specs.Write.{Plan, continues, copies, opens, planFrame, planOf, planVBlock, reclaims}
 use Rattle.rules.proofs.Admitted.{orderly-region}
+use Rattle.rules.proofs.Outcomes.{write-accepted}
 use Rattle.rules.proofs.RegionFacts.{Entry, neat}
 use Rattle.rules.proofs.Sizes.{Sizes, sizes}
 use Rattle.rules.proofs.TableFacts.{Tables, tables-in}
+use Rattle.rules.proofs.ValidFrames.{named-valid}
 use Rattle.rules.proofs.Views.{block-low, body-some, has-block}
 use Rattle.rules.proofs.WritePromise.{erasesOf, write-promise}
-use Rattle.claims.specs.Conditions.{OrderlyBoard}
-use Rattle.claims.proofs.Outcomes.{write-accepted, write-reply}
-use Rattle.claims.proofs.ValidFrames.{named-valid}
-use Rattle.marks.specs.Marks.{marksLength, marksRule}
-use Rattle.marks.specs.MarkedCalls.{markedReply, wrongMark, wrongMarksLength}
-use Rattle.marks.specs.MarkedConditions.{MarkedBoard, markedReplyTo}
-use Rattle.marks.proofs.MarkedReplies.{both, same-outcome}
-use Rattle.broken.specs.declared.Rule.{Rule}
-use Rattle.broken.specs.Broken.{brokenRule, firstBroken, ruleNumber}
+use Rattle.broken.specs.Broken.{brokenRule, ruleNumber}
 use Rattle.broken.proofs.First.{broken-rule}
-use Rattle.why.specs.Truths.{ForecastTrue, HolderTrue, MarkedForecastTrue, RuleTrue, forecastAt, holderAt, toldAt}
-use Rattle.why.specs.Why.{forecastOf, foundOf, holderOf, markedWhy, planNumbers, whyBy, whyOf}
+use Rattle.why.specs.Truths.{ForecastTrue, HolderTrue, RuleTrue, forecastAt, holderAt, toldAt}
+use Rattle.why.specs.Why.{forecastOf, foundOf, holderOf, planNumbers, whyOf}
 use Rattle.why.proofs.Replies.{disorder}
 
 -- ---- the holder
@@ -117,8 +109,8 @@ module _ (p : Params) (vw : View) where
   plan-erases (opens v) = refl
   plan-erases (reclaims v) = refl
 
-pub forecast-true : (p : Params) (b : Board) (q : Request) → accessReply p b q ≡ Accepted → ForecastTrue p b q
-unfolding forecastAt forecastOf outcomeOf accepts answerOf
+pub forecast-true : (p : Params) (b : Board) (q : Request) → replyOf p b (write q) ≡ Accepted → ForecastTrue p b q
+unfolding forecastAt forecastOf answerOf
 forecast-true p b q e =
     let vw : View = view p b (requestRegion p q) in
     let w = write-promise p b q e in
@@ -130,74 +122,32 @@ forecast-true p b q e =
       erases = rw o (w .erases ∙ plan-erases p vw (planOf p vw));
     }
 
--- the answer of an accepted write with the table is that of the write without it
-pub marked-forecast-true : (p : Params) (x : MarkedBoard) (q : Request) → markedReplyTo p x (write q) ≡ Accepted → MarkedForecastTrue p x q
-marked-forecast-true p x q e =
-    record {
-      told = forecast-true p (x .board) q (sym (write-reply p (x .board) q) ∙ both p x (write q) e);
-      answer = unfold outcomeOf in rw (same-outcome p x (write q) e);
-    }
+-- ---- the rule
 
--- ---- the rule, and the answer with the table of marks
-
-module _ (p : Params) (b : Board) (lba : ℕ) (r : Reply) where
+module _ (p : Params) (b : Board) (lba : ℕ) where
   -- the first number is the reply's
-  told-reply : (k : Rule) → getD (whyBy p b lba r k) 0 0 ≡ numberOf r
-  unfolding whyBy isAccepted
-  told-reply k = go (ℕ-discrete (numberOf r) 0) (ℕ-discrete (numberOf r) 7)
+  told-reply : toldAt p b lba 0 ≡ numberOf (whyReply p b lba)
+  unfolding toldAt whyOf isAccepted
+  told-reply = go (ℕ-discrete (numberOf (whyReply p b lba)) 0) (ℕ-discrete (numberOf (whyReply p b lba)) 7)
     where
-      found : (ns : List ℕ) → getD (cond (eqb (ctAt (b .ct) (clusterOf p lba)) none) (replicate 8 0) (0 ∷ 0 ∷ 1 ∷ holderOf p b (clusterOf p lba)) ++ ns) 0 0 ≡ 0
-      found ns = kept (eqb (ctAt (b .ct) (clusterOf p lba)) none)
-        where
-          kept : (t : Bool) → getD (cond t (replicate 8 0) (0 ∷ 0 ∷ 1 ∷ holderOf p b (clusterOf p lba)) ++ ns) 0 0 ≡ 0
-          kept true = refl
-          kept false = refl
+      found : (t : Bool) (ns : List ℕ) → getD (cond t (replicate 8 0) (0 ∷ 0 ∷ 1 ∷ holderOf p b (clusterOf p lba)) ++ ns) 0 0 ≡ 0
+      found true ns = refl
+      found false ns = refl
 
-      go : Dec (numberOf r ≡ 0) → Dec (numberOf r ≡ 7)
-          → getD (cond (eqb (numberOf r) 0) (foundOf p b (clusterOf p lba)) (cond (eqb (numberOf r) 7) (7 ∷ ruleNumber k ∷ replicate 10 0) (numberOf r ∷ replicate 11 0))) 0 0 ≡ numberOf r
-      go (yes e) s = rw e (unfold foundOf in found (forecastOf p b (clusterOf p lba)))
+      go : Dec (numberOf (whyReply p b lba) ≡ 0) → Dec (numberOf (whyReply p b lba) ≡ 7) → toldAt p b lba 0 ≡ numberOf (whyReply p b lba)
+      go (yes e) s = rw e (unfold foundOf in found (eqb (ctAt (b .ct) (clusterOf p lba)) none) (forecastOf p b (clusterOf p lba)))
       go (no e) (yes s) = rw s
-      go (no e) (no s) = rw (ne-eqb (numberOf r) 0 e, ne-eqb (numberOf r) 7 s)
+      go (no e) (no s) = rw (ne-eqb (numberOf (whyReply p b lba)) 0 e, ne-eqb (numberOf (whyReply p b lba)) 7 s)
 
-  -- a rule is told with 7 alone
-  told-rule : numberOf r ≡ 7 → (k : Rule) → getD (whyBy p b lba r k) 1 0 ≡ ruleNumber k
-  unfolding whyBy isAccepted
-  told-rule e k = rw e
+  -- with 7 the second is the rule's
+  told-rule : numberOf (whyReply p b lba) ≡ 7 → toldAt p b lba 1 ≡ ruleNumber (brokenRule p b)
+  unfolding toldAt whyOf isAccepted
+  told-rule e = rw e
 
-  told-same : (k k′ : Rule) → (numberOf r ≡ 7 → k ≡ k′) → whyBy p b lba r k ≡ whyBy p b lba r k′
-  unfolding whyBy
-  told-same k k′ h = go (ℕ-discrete (numberOf r) 7)
-    where
-      go : Dec (numberOf r ≡ 7) → whyBy p b lba r k ≡ whyBy p b lba r k′
-      go (yes e) = rw (h e)
-      go (no e) = rw (ne-eqb (numberOf r) 7 e)
-
-pub rule-true : (p : Params) (b : Board) (marks : List ℕ) (lba : ℕ) → RuleTrue p b marks lba
-unfolding toldAt markedWhy
-rule-true p b marks lba e =
-    let r : Reply = markedReply p b marks true (whyReply p b lba) in
-    let z : numberOf r ≡ 7 = sym (told-reply p b lba r (brokenRule p b)) ∙ e in
-    rw (told-rule p b lba r z (brokenRule p b)) (broken-rule p b marks ((disorder p b marks lba z) .broken))
-
--- with marks that are right the answer is the one without them
-pub why-as-before : (p : Params) (b : Board) (marks : List ℕ) (lba : ℕ) → length marks ≡ marksLength p → marksRule p b marks ≡ true → markedWhy p b marks lba ≡ whyOf p b lba
-unfolding markedWhy whyOf
-why-as-before p b marks lba e h =
-    told-same p b lba (markedReply p b marks true (whyReply p b lba)) (brokenRule p b) (firstBroken p b) (λ z. first (so (orderly p b)) ((disorder p b marks lba z) .broken))
-    ∙ ap (λ (r : Reply). whyBy p b lba r (firstBroken p b)) same
-  where
-    first : (orderly p b ≡ true) ⊎ (orderly p b ≡ false) → orderly p b && marksRule p b marks ≡ false → brokenRule p b ≡ firstBroken p b
-    first (inl o) k = absurd (never h (rw o at k))
-    first (inr o) k = unfold brokenRule in rw o
-
-    same : markedReply p b marks true (whyReply p b lba) ≡ whyReply p b lba
-    same = unfold markedReply wrongMarksLength wrongMark in rw (eq-eqb _ _ e, h, and-false) (unfold whyReply firstRow in go (badParameter p) _)
-      where
-        go : (x : Bool) (r : Reply) → cond x BadParameter (cond x BadParameter r) ≡ cond x BadParameter r
-        go true r = refl
-        go false r = refl
+  pub rule-true : RuleTrue p b lba
+  rule-true e = let z : numberOf (whyReply p b lba) ≡ 7 = sym told-reply ∙ e in rw (told-rule z) (broken-rule p b ((disorder p b lba z) .broken))
 
 -- ---- one answer
 
-pub why-once : (p : Params) (b : Board) (marks : List ℕ) (lba : ℕ) (ns ns′ : List ℕ) → ns ≡ markedWhy p b marks lba → ns′ ≡ markedWhy p b marks lba → ns ≡ ns′
-why-once p b marks lba ns ns′ e e′ = e ∙ sym e′
+pub why-once : (p : Params) (b : Board) (lba : ℕ) (ns ns′ : List ℕ) → ns ≡ whyOf p b lba → ns′ ≡ whyOf p b lba → ns ≡ ns′
+why-once p b lba ns ns′ e e′ = e ∙ sym e′

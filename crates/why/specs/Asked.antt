@@ -2,7 +2,7 @@
 -- Assumes nothing.
 use mathlib.Core.Path.{_≡_}
 use mathlib.Core.Bool.{true}
-use mathlib.Core.List.{List}
+use mathlib.Core.List.{List, []}
 use Prim.Native.Nat.{ℕ, _*_, _<_}
 use lib.ListN.{length}
 use Rattle.rules.specs.declared.Params.{Params}
@@ -10,16 +10,14 @@ use Rattle.rules.specs.Parameters.{allowed}
 use Rattle.rules.specs.Regions.{viewOf}
 use Rattle.rules.specs.Tables.{boardOf}
 use Rattle.rules.specs.Write.{planOf, reclaims}
-use Rattle.marks.specs.Marks.{marksOf}
+use Rattle.rules.specs.Marks.{marksOf}
 use Rattle.planning.specs.Plans.{PlanAsked}
 
--- the plan can be made; and with some CT, BST and wear, the marks are the board's, and a virtual block that a write reclaims is one of the region's
+-- the plan can be made; and with some CT the marks are the board's, and a virtual block that a write reclaims is one of the region's
 pub record ForecastAsked (p : Params) (chip bt fst marks : List ℕ) (r : ℕ) : Type 0 where
   pub plan : PlanAsked p chip bt fst r
   pub ct : List ℕ
-  pub bst : List ℕ
-  pub wear : List ℕ
-  pub right : marks ≡ marksOf p (boardOf chip ct bt fst bst wear)
+  pub right : marks ≡ marksOf p (boardOf chip ct bt fst [] [] [])
   pub victim : (v : ℕ) → reclaims v ≡ planOf p (viewOf p chip ct bt fst r) → v < p .gamma
 
 -- cluster c has an entry in CT, and virtual block v of its region one in BT

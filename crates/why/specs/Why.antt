@@ -1,22 +1,19 @@
 -- Document 02, T-05: "for one LBA, why it reads so and what a write would do". The answer is an enum; `numbersOf` lists the number of each case and its
--- values, and `whyOf` is what they have to be by the rules; `markedWhy` is the same with T-06's table of marks.
+-- values, and `whyOf` is what they have to be by the rules.
 -- Assumes nothing.
-use mathlib.Core.Bool.{cond, true}
+use mathlib.Core.Bool.{cond}
 use mathlib.Core.List.{List, [], _∷_, _++_}
 use Prim.Native.Nat.{ℕ, _<_}
 use lib.Dec.{eqb}
 use lib.ListN.{length, replicate}
 use Rattle.rules.specs.declared.Params.{Params}
-use Rattle.rules.specs.declared.Reply.{Reply}
 use Rattle.rules.specs.Numbers.{clusterOf, placeOf, regionOf, vblockOf}
 use Rattle.rules.specs.Pages.{block, lastIn}
 use Rattle.rules.specs.Regions.{View, validFrames, view}
 use Rattle.rules.specs.Replies.{isAccepted, numberOf, whyReply}
 use Rattle.rules.specs.Tables.{Board, btAt, ctAt, none}
 use Rattle.rules.specs.Write.{Plan, continues, opens, planOf, reclaims}
-use Rattle.marks.specs.MarkedCalls.{markedReply}
-use Rattle.broken.specs.declared.Rule.{Rule}
-use Rattle.broken.specs.Broken.{brokenRule, firstBroken, ruleNumber}
+use Rattle.broken.specs.Broken.{brokenRule, ruleNumber}
 use Rattle.why.specs.declared.Forecast.{Forecast}
 use Rattle.why.specs.declared.Forecast.the-variants.{Continues, Opens, Reclaims}
 use Rattle.why.specs.declared.Place.{Place}
@@ -70,14 +67,9 @@ forecastOf p b c =
 unfoldable pub foundOf : Params → Board → ℕ → List ℕ
 foundOf p b c = cond (eqb (ctAt (b .ct) c) none) (replicate 8 0) (0 ∷ 0 ∷ 1 ∷ holderOf p b c) ++ forecastOf p b c
 
--- "which reply, and with 7 the first orderly rule broken, in 01's order": the numbers by the reply, and the rule that is told with 7
-unfoldable pub whyBy : Params → Board → ℕ → Reply → Rule → List ℕ
-whyBy p b lba r k =
-    cond (isAccepted r) (foundOf p b (clusterOf p lba)) (cond (eqb (numberOf r) 7) (7 ∷ ruleNumber k ∷ replicate 10 0) (numberOf r ∷ replicate 11 0))
-
+-- "which reply, and with 7 the first orderly rule broken, in 01's order"; T-06: "7 also for a wrong mark", and then the rule of the marks is told, the tenth
 unfoldable pub whyOf : Params → Board → ℕ → List ℕ
-whyOf p b lba = whyBy p b lba (whyReply p b lba) (firstBroken p b)
-
--- T-06: "Refusals: 2 also for the new table's length, 7 also for a wrong mark", and then the rule of the marks is told, the tenth
-unfoldable pub markedWhy : Params → Board → List ℕ → ℕ → List ℕ
-markedWhy p b marks lba = whyBy p b lba (markedReply p b marks true (whyReply p b lba)) (brokenRule p b)
+whyOf p b lba =
+    let r = whyReply p b lba in
+    cond (isAccepted r) (foundOf p b (clusterOf p lba))
+    (cond (eqb (numberOf r) 7) (7 ∷ ruleNumber (brokenRule p b) ∷ replicate 10 0) (numberOf r ∷ replicate 11 0))

@@ -1,15 +1,15 @@
 // Document 02, T-05: why a sector reads so, and what a write of it would do; with T-06's table of marks.
 ghost use mathlib.Core.Path.{_≡_};
 ghost use mathlib.Core.Bool.{true};
-ghost use mathlib.Core.List.{List};
+ghost use mathlib.Core.List.{List, []};
 ghost use Prim.Native.Nat.{ℕ};
 ghost use Rattle.rules.specs.Regions.{viewOf};
 ghost use Rattle.rules.specs.Tables.{boardOf};
 ghost use Rattle.rules.specs.Write.{planOf};
-ghost use Rattle.marks.specs.Marks.{marksOf};
+ghost use Rattle.rules.specs.Marks.{marksOf};
 ghost use Rattle.reading.specs.Lookup.{Within};
 ghost use Rattle.why.specs.Asked.{ForecastAsked, PlaceAsked};
-ghost use Rattle.why.specs.Why.{Small, forecastNumbers, holderOf, markedWhy, numbersOf, placeNumbers, planNumbers};
+ghost use Rattle.why.specs.Why.{Small, forecastNumbers, holderOf, numbersOf, placeNumbers, planNumbers, whyOf};
 use broken::Rule;
 use planning::Planned;
 use reading::Found;
@@ -47,7 +47,7 @@ pub enum Why {
 // What a write to region r would do, on a state that is known to be orderly: where it reclaims, the marks of the virtual block are counted.
 fn forecast_of(p: Params, chip: &[u8], bt: &[u16], fst: &[u16], marks: &[u64], r: usize) -> Forecast
     requires { ⌜ ForecastAsked p (now chip) (now bt) (now fst) (now marks) r ⌝ }
-    ensures { λ fc. ⌜ ((ct bst wear : List ℕ) → now (marks .entry) ≡ marksOf p (boardOf (now (chip .entry)) ct (now (bt .entry)) (now (fst .entry)) bst wear)
+    ensures { λ fc. ⌜ ((ct : List ℕ) → now (marks .entry) ≡ marksOf p (boardOf (now (chip .entry)) ct (now (bt .entry)) (now (fst .entry)) [] [] [])
         → forecastNumbers fc ≡ planNumbers p (viewOf p (now (chip .entry)) ct (now (bt .entry)) (now (fst .entry)) r) (planOf p (viewOf p (now (chip .entry)) ct (now (bt .entry)) (now (fst .entry)) r))) ⌝ }
 {
     match planning::plan_of(p, chip, bt, fst, marks, r) {
@@ -60,8 +60,8 @@ fn forecast_of(p: Params, chip: &[u8], bt: &[u16], fst: &[u16], marks: &[u64], r
 // The place of cluster c, which the lookup found there.
 fn place_at(p: Params, ct: &[u16], bt: &[u16], c: Cluster, at: Found) -> Place
     requires { ⌜ PlaceAsked p (now ct) (now bt) (c .0) (at .vblock .0) ⌝ }
-    ensures { λ pl. ⌜ ((chip fst bst wear : List ℕ) → at .kept ≡ true → Within p chip (now (ct .entry)) (now (bt .entry)) (c .0) (at .kept) (at .vblock .0) (at .inner)
-        → placeNumbers pl ≡ holderOf p (boardOf chip (now (ct .entry)) (now (bt .entry)) fst bst wear) (c .0)) ⌝ }
+    ensures { λ pl. ⌜ ((chip fst bst wear marks : List ℕ) → at .kept ≡ true → Within p chip (now (ct .entry)) (now (bt .entry)) (c .0) (at .kept) (at .vblock .0) (at .inner)
+        → placeNumbers pl ≡ holderOf p (boardOf chip (now (ct .entry)) (now (bt .entry)) fst bst wear marks) (c .0)) ⌝ }
 {
     let r = rules::region_of(p, c);
     let v = at.vblock;
@@ -86,7 +86,7 @@ pub fn explain(
     marks: &[u64],
     lba: u32,
 ) -> Why
-    ensures { λ w. ⌜ numbersOf w ≡ markedWhy p (boardOf (now (chip .entry)) (now (ct .entry)) (now (bt .entry)) (now (fst .entry)) (now (bst .entry)) (now (wear .entry))) (now (marks .entry)) lba ⌝ }
+    ensures { λ w. ⌜ numbersOf w ≡ whyOf p (boardOf (now (chip .entry)) (now (ct .entry)) (now (bt .entry)) (now (fst .entry)) (now (bst .entry)) (now (wear .entry)) (now (marks .entry))) lba ⌝ }
     ensures { λ w. ⌜ Small (numbersOf w) ⌝ }
 {
     let reply = replies::why_reply(p, chip, ct, bt, fst, bst, wear, marks, lba);

@@ -1,8 +1,9 @@
 // Document 01, "Write", on the lent chip and tables, with T-06's table of marks. No `requires`: the contract says that the whole outcome is the rules', for every input.
 ghost use mathlib.Core.Path.{_≡_};
+ghost use mathlib.Core.List.{[]};
 ghost use Rattle.rules.specs.Tables.{boardOf};
-ghost use Rattle.rules.specs.Calls.{write};
-ghost use Rattle.marks.specs.MarkedCalls.{markedCall, markedOutcome};
+ghost use Rattle.rules.specs.Requests.{write};
+ghost use Rattle.rules.specs.Calls.{outcomeOf};
 ghost use Rattle.reading.specs.Sectors.{requestOf};
 ghost use Rattle.ends.specs.Claims.{outcome};
 use rules::Answer;
@@ -22,7 +23,7 @@ pub fn write(
     count: u32,
     bytes: &[u8],
 ) -> Answer
-    ensures { λ a. ⌜ markedOutcome (outcome a (now (bytes .entry)) (boardOf (now (chip .exit)) (now (ct .exit)) (now (bt .exit)) (now (fst .exit)) (now (bst .exit)) (now (wear .exit)))) (now (marks .exit)) ≡ markedCall p (boardOf (now (chip .entry)) (now (ct .entry)) (now (bt .entry)) (now (fst .entry)) (now (bst .entry)) (now (wear .entry))) (now (marks .entry)) (write (requestOf lba count (now (bytes .entry)))) ⌝ }
+    ensures { λ a. ⌜ outcome a (now (bytes .entry)) [] (boardOf (now (chip .exit)) (now (ct .exit)) (now (bt .exit)) (now (fst .exit)) (now (bst .exit)) (now (wear .exit)) (now (marks .exit))) ≡ outcomeOf p (boardOf (now (chip .entry)) (now (ct .entry)) (now (bt .entry)) (now (fst .entry)) (now (bst .entry)) (now (wear .entry)) (now (marks .entry))) (write (requestOf lba count (now (bytes .entry)))) ⌝ }
 {
     let reply = replies::access_reply(
         p,

@@ -3,7 +3,7 @@
 use mathlib.Core.Path.{_≡_, refl, sym, _∙_}
 use mathlib.Core.Logic.{_⊎_, inr}
 use mathlib.Core.List.{List, []}
-use Prim.Native.Nat.{ℕ, _+_, _*_, _-_, _≤_, _<_}
+use Prim.Native.Nat.{ℕ, _+_, _*_, _≤_, _<_}
 use native.Mathlib.Omega.{arith}
 use native.Mathlib.Decide.{ℕ-discrete}
 use native.Mathlib.Nat.{mod-lt}
@@ -12,11 +12,13 @@ use lib.Seq.{getD-set-same, getD-set-other}
 use Rattle.placing.specs.Clusters.{Standing, ClusterPut}
 use Rattle.rules.specs.declared.Params.{Params}
 use Rattle.rules.specs.Parameters.{frames, frameBytes, blockBytes}
-use Rattle.rules.specs.Write.{requestCluster, Request, Plan, continues, opens, reclaims, planVBlock, planFrame, planBlock, planBst, planOps, roomOps, copies, followCt, withRoom, newFrame, newPage, newSector, writtenBy, requestRegion}
+use Rattle.rules.specs.Write.{Plan, continues, opens, reclaims, planVBlock, planFrame, planBlock, planBst, planOps, roomOps, copies, followCt, newFrame, newPage, newSector, writtenBy}
 use Rattle.rules.specs.Tables.{Board, boardOf, none, ctAt, btAt, fstAt, btEntry}
 use Rattle.rules.specs.Regions.{View, view, viewOf}
 use Rattle.lists.specs.Parts.{putPart}
 use Rattle.rules.specs.Traces.{replayChip, replayWear}
+use Rattle.rules.specs.Requests.{requestCluster, Request, requestRegion}
+use Rattle.rules.specs.Machine.{withRoom}
 use Rattle.lists.proofs.Parts.{next}
 use Rattle.lists.proofs.Joins.{join-cong}
 use Rattle.rules.proofs.Chip.{replay-append, frame-put}
@@ -51,9 +53,9 @@ module _ (p : Params) (b : Board) (q : Request) (acc : Admitted p b q) (pl : Pla
   abbrev n : ℕ
   n = planBlock p b r pl
 
-  -- the board with room, but for BST and wear
+  -- the board with room, but for BST, wear and marks
   abbrev pub ready : Board
-  ready = boardOf (replayChip p (b .chip) (roomOps p b r pl)) (followCt p v 0 (copies p vw pl) (b .ct)) (set (b .bt) (r * p .gamma + v) n) (b .fst) [] []
+  ready = boardOf (replayChip p (b .chip) (roomOps p b r pl)) (followCt p v 0 (copies p vw pl) (b .ct)) (set (b .bt) (r * p .gamma + v) n) (b .fst) [] [] []
 
   region-in : r < p .mu
   region-in = mod-lt (requestCluster p q) (acc .sized .regions)
@@ -137,10 +139,10 @@ module _ (p : Params) (b : Board) (q : Request) (acc : Admitted p b q) (pl : Pla
   wear-is = wear-append (b .wear) (roomOps p b r pl) _ ∙ frame-wear p n f (newFrame p vw q) _ (p .alpha)
 
   -- the board after the write
-  pub done : (chip ct fst bst wear : List ℕ) → ClusterPut p ready q v f chip ct fst → bst ≡ planBst p b r pl → wear ≡ replayWear (b .wear) (roomOps p b r pl)
-      → boardOf chip ct (ready .bt) fst bst wear ≡ writtenBy p b r q pl
+  pub done : (chip ct fst bst wear marks : List ℕ) → ClusterPut p ready q v f chip ct fst → bst ≡ planBst p b r pl → wear ≡ replayWear (b .wear) (roomOps p b r pl)
+      → marks ≡ (writtenBy p b r q pl) .marks → boardOf chip ct (ready .bt) fst bst wear marks ≡ writtenBy p b r q pl
   unfolding writtenBy
-  done chip ct fst bst wear h eb ew =
+  done chip ct fst bst wear marks h eb ew em =
       let ec : chip ≡ (writtenBy p b r q pl) .chip = h .chip ∙ rw (block-is, frame-same) (sym chip-is) in
       let et : wear ≡ (writtenBy p b r q pl) .wear = ew ∙ sym wear-is in
-      rw (ec, et, h .ct, h .fst, eb)
+      rw (em, ec, et, h .ct, h .fst, eb)

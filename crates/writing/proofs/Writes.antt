@@ -18,24 +18,29 @@ use Rattle.rules.specs.declared.Answer.{Answer}
 use Rattle.rules.specs.declared.Reply.the-variants.{Accepted}
 use Rattle.rules.specs.Parameters.{frames}
 use Rattle.rules.specs.Numbers.{placeOf, segmentOf, vblockOf}
-use Rattle.rules.specs.Tables.{Board, boardOf, none, btAt, fstAt}
+use Rattle.rules.specs.Tables.{Board, boardOf, none, btAt, fstAt, marksLength}
 use Rattle.rules.specs.Pages.{block, filled, frame, programmed}
 use Rattle.rules.specs.Regions.{View, view, viewOf, assigned}
 use Rattle.rules.specs.Traces.{programsIn, erasesIn}
-use Rattle.rules.specs.Write.{Request, requestCluster, requestRegion, Plan, continues, opens, reclaims, hasRoom, lowestUnassigned, planOf, planVBlock, planFrame, freeBlock, planOps, withRoom, writeOps, written, writtenBy}
-use Rattle.rules.specs.Replies.{isAccepted, accessReply}
-use Rattle.rules.specs.Calls.{answerOf, accepts, writeCall}
+use Rattle.rules.specs.Write.{Plan, continues, opens, reclaims, hasRoom, lowestUnassigned, planOf, planVBlock, planFrame, freeBlock, planOps, writeOps, written, writtenBy}
+use Rattle.rules.specs.Replies.{replyOf}
+use Rattle.rules.specs.Calls.{Outcome, answerOf, outcomeOf}
 use Rattle.rules.proofs.Sizes.{Sizes}
 use Rattle.rules.proofs.Isolation.{index-low}
 use Rattle.rules.proofs.Views.{body-some, has-block, block-low, free-block, free-unnamed}
 use Rattle.rules.proofs.Frames.{erased-not, marked-programmed, seg-place}
 use Rattle.rules.proofs.RegionFacts.{GoodFrame, Open, Neat, filled-le, neat}
 use Rattle.marks.specs.Kept.{putMark, roomMarks, writtenMarks}
-use Rattle.marks.specs.Marks.{Marks, marksLength, marksOf, marksOn, tableOf}
-use Rattle.marks.proofs.Tables.{table-length}
+use Rattle.rules.specs.Requests.{Request, write, requestCluster, requestRegion}
+use Rattle.rules.specs.Machine.{withRoom}
+use Rattle.rules.specs.Marks.{Marks, marksOf, marksOn, tableOf}
+use Rattle.rules.proofs.MarkFacts.{marks-long}
+use Rattle.rules.proofs.TableFacts.{marks-in}
+use Rattle.rules.proofs.Writes.{written-marks as made-marks}
+use Rattle.rules.proofs.Outcomes.{write-accepted}
 use Rattle.marks.proofs.WrittenMarks.{written-marks}
 use Rattle.marking.specs.Asked.{MarkAsked}
-use Rattle.rules.proofs.Admitted.{Admitted, admitted}
+use Rattle.rules.proofs.Admitted.{Admitted, Checks, admitted, write-checks}
 use Rattle.rules.proofs.Continues.{Makes}
 use Rattle.rules.proofs.Opens.{free-fresh, fresh-frame}
 use Rattle.rules.proofs.Victims.{good-at}
@@ -46,7 +51,7 @@ use Rattle.reading.specs.Lookup.{Lookup, Stands, Within}
 use Rattle.planning.specs.Plans.{OpenFrames, PlanAsked}
 use Rattle.rooms.specs.Rooms.{OpenAsked, RoomAsked, RoomMade}
 use Rattle.placing.specs.Clusters.{Standing, ClusterPut}
-use Rattle.writing.specs.Gives.{Gives}
+use Rattle.ends.specs.Claims.{outcome}
 use Rattle.keeping.specs.Keeping.{UnmarkAsked, keptMarks, acceptedAnswer}
 use Rattle.keeping.proofs.Keeping.{old-is, room-is, unmark-asked}
 use Rattle.writing.proofs.Made as made
@@ -71,9 +76,12 @@ reclaiming p vw v e = go (so (hasRoom p vw)) (so (eqb (lowestUnassigned p vw) no
     go (inr h) (inr s) = absurd (omega (arith, ap kind (rw (h, s) at e)))
     go (inr h) (inl s) = record { noRoom = h; full = eqb-true _ _ s }
 
-module _ (p : Params) (b : Board) (q : Request) (e : accessReply p b q ≡ Accepted) where
+module _ (p : Params) (b : Board) (q : Request) (e : replyOf p b (write q) ≡ Accepted) where
+  checks : Checks p b q
+  checks = write-checks p b q e
+
   acc : Admitted p b q
-  acc = admitted p b q e
+  acc = admitted p b q checks
 
   z : Sizes p
   z = acc .sized
@@ -87,9 +95,11 @@ module _ (p : Params) (b : Board) (q : Request) (e : accessReply p b q ≡ Accep
   pub alpha-few : p .alpha ≤ 16
   alpha-few = z .alphaHigh
 
-  pub marks-long : (marks : List ℕ) → marks ≡ marksOf p b → length marks ≡ marksLength p
-  unfolding marksOf
-  marks-long marks em = rw em (table-length p (marksOn p b))
+  marks-are : b .marks ≡ marksOf p b
+  marks-are = marks-in p b (checks .lengths) (checks .tidy)
+
+  pub marks-full : length (b .marks) ≡ marksLength p
+  marks-full = marks-long p b marks-are
 
   abbrev r : ℕ
   r = requestRegion p q
@@ -195,11 +205,17 @@ module _ (p : Params) (b : Board) (q : Request) (e : accessReply p b q ≡ Accep
           good = λ f m. rw (acc .tables .ctLength) ((good f m) .low);
         }
 
-  pub room-asked : (r′ : ℕ) → r′ ≡ r → (pl : Plan) → pl ≡ planOf p (viewOf p (b .chip) (b .ct) (b .bt) (b .fst) r′) → (marks : List ℕ) → length marks ≡ marksLength p
-      → RoomAsked p (b .chip) (b .ct) (b .bt) (b .bst) (b .wear) marks r′ pl
-  room-asked r′ er pl ep marks long = rw er (go pl (rw er at ep))
+  -- the plan that was found by the marks, which are the board's
+  abbrev Found : ℕ → Plan → Type 0
+  Found r′ pl = (ct : List ℕ) → b .marks ≡ marksOf p (boardOf (b .chip) ct (b .bt) (b .fst) [] [] []) → pl ≡ planOf p (viewOf p (b .chip) ct (b .bt) (b .fst) r′)
+
+  plan-is : (r′ : ℕ) → r′ ≡ r → (pl : Plan) → Found r′ pl → pl ≡ planOf p vw
+  plan-is r′ er pl found = rw er at (found (b .ct) marks-are)
+
+  pub room-asked : (r′ : ℕ) → r′ ≡ r → (pl : Plan) → Found r′ pl → RoomAsked p (b .chip) (b .ct) (b .bt) (b .bst) (b .wear) (b .marks) r′ pl
+  room-asked r′ er pl found = rw er (go pl (plan-is r′ er pl found))
     where
-      go : (pl : Plan) → pl ≡ planOf p vw → RoomAsked p (b .chip) (b .ct) (b .bt) (b .bst) (b .wear) marks r pl
+      go : (pl : Plan) → pl ≡ planOf p vw → RoomAsked p (b .chip) (b .ct) (b .bt) (b .bst) (b .wear) (b .marks) r pl
       go (continues v f) k = tt
       go (opens v) k =
           let mk : Makes p b r (opens v) = rw (← k) at all-make in
@@ -207,35 +223,37 @@ module _ (p : Params) (b : Board) (q : Request) (e : accessReply p b q ≡ Accep
       go (reclaims v) k =
           let mk : Makes p b r (reclaims v) = rw (← k) at all-make in
           let h : v < p .gamma = unfold planVBlock in mk .base .ready .mine in
-          record { taking = open-asked v h; words = record { fine = acc .fine; long = long; region = region-in; vblock = h }; blocks = from-to v h (reclaiming p vw v (sym k)) }
+          record { taking = open-asked v h; words = record { fine = acc .fine; long = marks-full; region = region-in; vblock = h }; blocks = from-to v h (reclaiming p vw v (sym k)) }
 
   -- ---- what the write leaves
 
-  module _ (r′ : ℕ) (er : r′ ≡ r) (pl : Plan) (ep : pl ≡ planOf p (viewOf p (b .chip) (b .ct) (b .bt) (b .fst) r′)) (v f copied erases : ℕ) (chip₁ ct₁ bt₁ bst₁ wear₁ : List ℕ)
-      (m : RoomMade p b r′ pl v f copied erases chip₁ ct₁ bt₁ bst₁ wear₁) where
+  module _ (r′ : ℕ) (er : r′ ≡ r) (pl : Plan) (found : Found r′ pl) (v f copied erases : ℕ) (chip₁ ct₁ bt₁ bst₁ wear₁ : List ℕ)
+      (m : (fst : List ℕ) → b .marks ≡ marksOf p (boardOf (b .chip) (b .ct) (b .bt) fst (b .bst) (b .wear) (b .marks))
+      → RoomMade p (boardOf (b .chip) (b .ct) (b .bt) fst (b .bst) (b .wear) (b .marks)) r′ pl v f copied erases chip₁ ct₁ bt₁ bst₁ wear₁) where
     ep-r : pl ≡ planOf p vw
-    ep-r = rw er at ep
+    ep-r = plan-is r′ er pl found
 
     mk : Makes p b r pl
     mk = rw ep-r all-make
 
     m-r : RoomMade p b r pl v f copied erases chip₁ ct₁ bt₁ bst₁ wear₁
-    m-r = rw er at m
+    m-r = rw er at (m (b .fst) marks-are)
 
-    pub standing : Standing p (boardOf chip₁ ct₁ bt₁ (b .fst) [] []) q v f
+    pub standing : Standing p (boardOf chip₁ ct₁ bt₁ (b .fst) [] [] []) q v f
     standing = rw (m-r .chipIs, m-r .ctIs, m-r .btIs, m-r .vblock, m-r .frame) (made.standing p b q acc pl mk)
 
     -- the old cluster is looked up on the board with room
     pub lookup-made : (c : ℕ) → c ≡ requestCluster p q → Lookup p chip₁ ct₁ bt₁ c
-    lookup-made c ec = rw ec (lookup p (boardOf chip₁ ct₁ bt₁ (b .fst) [] []) q v f standing)
+    lookup-made c ec = rw ec (lookup p (boardOf chip₁ ct₁ bt₁ (b .fst) [] [] []) q v f standing)
 
     pub copied-few : copied < 256
     copied-few = rw (m-r .count) (omega (arith, copies-few p vw pl, mk .base .ready .low, z .short))
 
-    board-is : (chip ct fst : List ℕ) → ClusterPut p (boardOf chip₁ ct₁ bt₁ (b .fst) [] []) q v f chip ct fst → boardOf chip ct bt₁ fst bst₁ wear₁ ≡ written p b q
+    board-is : (chip ct fst marks : List ℕ) → ClusterPut p (boardOf chip₁ ct₁ bt₁ (b .fst) [] [] []) q v f chip ct fst → marks ≡ (written p b q) .marks
+        → boardOf chip ct bt₁ fst bst₁ wear₁ marks ≡ written p b q
     unfolding written
-    board-is chip ct fst x =
-        let y = made.done p b q acc pl mk chip ct fst bst₁ wear₁ (rw (m-r .chipIs, m-r .ctIs, m-r .btIs, m-r .vblock, m-r .frame) at x) (m-r .bstIs) (m-r .wearIs) in
+    board-is chip ct fst marks x em =
+        let y = made.done p b q acc pl mk chip ct fst bst₁ wear₁ marks (rw (m-r .chipIs, m-r .ctIs, m-r .btIs, m-r .vblock, m-r .frame) at x) (m-r .bstIs) (m-r .wearIs) (em ∙ sym (ap (λ (l : Plan). (writtenBy p b r q l) .marks) ep-r)) in
         rw (m-r .btIs) (y ∙ ap (writtenBy p b r q) ep-r)
 
     answer-is : acceptedAnswer p copied erases ≡ answerOf Accepted (writeOps p b q)
@@ -246,21 +264,16 @@ module _ (p : Params) (b : Board) (q : Request) (e : accessReply p b q ≡ Accep
         let y : erases ≡ erasesIn (planOps p b r q (planOf p vw)) = m-r .erases ∙ (erase-counts p b r pl) .1 ∙ sym (k .1) ∙ ap (λ (l : Plan). erasesIn (planOps p b r q l)) ep-r in
         ap₂ {C = Answer} (λ (i j : ℕ). record { reply = Accepted; programs = i; erases = j }) x y
 
-    pub gives : (chip ct fst : List ℕ) (a : Answer) → ClusterPut p (boardOf chip₁ ct₁ bt₁ (b .fst) [] []) q v f chip ct fst → a ≡ acceptedAnswer p copied erases
-        → Gives (writeCall p b q) a (boardOf chip ct bt₁ fst bst₁ wear₁)
-    unfolding writeCall accepts isAccepted
-    gives chip ct fst a x y = record { answer = y ∙ answer-is ∙ rw e; board = board-is chip ct fst x ∙ rw e }
-
     -- ---- and the marks
 
-    pub mark-asked : (marks : List ℕ) → length marks ≡ marksLength p → MarkAsked p marks r′ v f
-    mark-asked marks long =
+    pub mark-asked : MarkAsked p (b .marks) r′ v f
+    mark-asked =
         rw (er, m-r .vblock, m-r .frame)
-        (record { words = record { fine = acc .fine; long = long; region = region-in; vblock = mk .base .ready .mine }; frame = omega (arith, mk .base .ready .low, z .short) })
+        (record { words = record { fine = acc .fine; long = marks-full; region = region-in; vblock = mk .base .ready .mine }; frame = omega (arith, mk .base .ready .low, z .short) })
 
     module _ (c kept-fr : ℕ) (ec : c ≡ requestCluster p q) (kept : Bool) (u g : ℕ) (s : Stands p chip₁ ct₁ bt₁ c kept kept-fr) (w : Within p chip₁ ct₁ bt₁ c kept u g) where
-      pub old-asked : (marks : List ℕ) → length marks ≡ marksLength p → UnmarkAsked p marks r′ kept u g
-      old-asked marks long = unmark-asked p chip₁ ct₁ bt₁ c (lookup-made c ec) kept kept-fr u g s w marks long r′ (er ∙ rw ec)
+      pub old-asked : UnmarkAsked p (b .marks) r′ kept u g
+      old-asked = unmark-asked p chip₁ ct₁ bt₁ c (lookup-made c ec) kept kept-fr u g s w (b .marks) marks-full r′ (er ∙ rw ec)
 
       -- the view with room is the one that the lookup went by
       view-made : viewOf p chip₁ ct₁ bt₁ (b .fst) r ≡ withRoom p vw pl
@@ -272,6 +285,16 @@ module _ (p : Params) (b : Board) (q : Request) (e : accessReply p b q ≡ Accep
           let old = old-is p chip₁ ct₁ bt₁ c (lookup-made c ec) kept kept-fr u g s w (b .fst) (roomMarks p vw r pl m) in
           rw (er, room-is p b r pl v copied erases (m-r .vblock) (m-r .count) (m-r .erases) m, ← ep-r, ← view-made, m-r .vblock, m-r .frame) (ap (λ (k : Marks). putMark k r (planVBlock pl) (planFrame p vw pl) true) (rw ec at old))
 
-      pub marks-kept : (marks marks′ : List ℕ) → marks ≡ marksOf p b → ((m : Marks) → marks ≡ tableOf p m → marks′ ≡ tableOf p (keptMarks m r′ v f copied erases kept u g)) → marks′ ≡ marksOf p (written p b q)
-      unfolding marksOf
-      marks-kept marks marks′ em h = h (marksOn p b) em ∙ ap (tableOf p) (kept-are (marksOn p b)) ∙ sym (written-marks p b q e)
+      -- the marks that are kept are those of the board that is left
+      marks-kept : (marks : List ℕ) → ((m : Marks) → b .marks ≡ tableOf p m → marks ≡ tableOf p (keptMarks m r′ v f copied erases kept u g)) → marks ≡ (written p b q) .marks
+      marks-kept marks h =
+          h (marksOn p b) marks-are
+          ∙ ap (tableOf p) (kept-are (marksOn p b))
+          ∙ sym (written-marks p b q e)
+          ∙ unfold written in sym (made-marks p b r q (planOf p vw))
+
+      pub gives : (chip ct fst marks : List ℕ) (a : Answer) → ClusterPut p (boardOf chip₁ ct₁ bt₁ (b .fst) [] [] []) q v f chip ct fst
+          → ((m : Marks) → b .marks ≡ tableOf p m → marks ≡ tableOf p (keptMarks m r′ v f copied erases kept u g)) → a ≡ acceptedAnswer p copied erases
+          → outcome a (q .bytes) [] (boardOf chip ct bt₁ fst bst₁ wear₁ marks) ≡ outcomeOf p b (write q)
+      gives chip ct fst marks a x h y =
+          ap₂ {C = Outcome} (λ (i : Answer) (j : Board). outcome i (q .bytes) [] j) (y ∙ answer-is) (board-is chip ct fst marks x (marks-kept marks h)) ∙ sym (write-accepted p b q e)

@@ -1,12 +1,12 @@
 // Document 01, "Write", on a state that is known to be orderly: the plan, the room that it makes, and the cluster put there.
 ghost use mathlib.Core.Path.{_≡_};
+ghost use mathlib.Core.List.{[]};
 ghost use Rattle.rules.specs.Tables.{boardOf};
-ghost use Rattle.rules.specs.Write.{written};
-ghost use Rattle.rules.specs.Replies.{accessReply};
-ghost use Rattle.rules.specs.Calls.{writeCall};
-ghost use Rattle.marks.specs.Marks.{marksOf};
+ghost use Rattle.rules.specs.Requests.{write};
+ghost use Rattle.rules.specs.Replies.{replyOf};
+ghost use Rattle.rules.specs.Calls.{outcomeOf};
 ghost use Rattle.reading.specs.Sectors.{requestOf};
-ghost use Rattle.writing.specs.Gives.{Gives};
+ghost use Rattle.ends.specs.Claims.{outcome};
 use reading::Found;
 use rules::Answer;
 use rules::Params;
@@ -27,10 +27,8 @@ pub fn write_orderly(
     count: usize,
     bytes: &[u8],
 ) -> Answer
-    requires { ⌜ now marks ≡ marksOf p (boardOf (now chip) (now ct) (now bt) (now fst) (now bst) (now wear)) ⌝ }
-    requires { ⌜ accessReply p (boardOf (now chip) (now ct) (now bt) (now fst) (now bst) (now wear)) (requestOf lba count (now bytes)) ≡ Reply.Accepted ⌝ }
-    ensures { λ a. ⌜ Gives (writeCall p (boardOf (now (chip .entry)) (now (ct .entry)) (now (bt .entry)) (now (fst .entry)) (now (bst .entry)) (now (wear .entry))) (requestOf lba count (now (bytes .entry)))) a (boardOf (now (chip .exit)) (now (ct .exit)) (now (bt .exit)) (now (fst .exit)) (now (bst .exit)) (now (wear .exit))) ⌝ }
-    ensures { λ a. ⌜ now (marks .exit) ≡ marksOf p (written p (boardOf (now (chip .entry)) (now (ct .entry)) (now (bt .entry)) (now (fst .entry)) (now (bst .entry)) (now (wear .entry))) (requestOf lba count (now (bytes .entry)))) ⌝ }
+    requires { ⌜ replyOf p (boardOf (now chip) (now ct) (now bt) (now fst) (now bst) (now wear) (now marks)) (write (requestOf lba count (now bytes))) ≡ Reply.Accepted ⌝ }
+    ensures { λ a. ⌜ outcome a (now (bytes .entry)) [] (boardOf (now (chip .exit)) (now (ct .exit)) (now (bt .exit)) (now (fst .exit)) (now (bst .exit)) (now (wear .exit)) (now (marks .exit))) ≡ outcomeOf p (boardOf (now (chip .entry)) (now (ct .entry)) (now (bt .entry)) (now (fst .entry)) (now (bst .entry)) (now (wear .entry)) (now (marks .entry))) (write (requestOf lba count (now (bytes .entry)))) ⌝ }
 {
     let c = rules::cluster_of(p, lba);
     let r = rules::region_of(p, c);

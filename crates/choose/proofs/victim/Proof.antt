@@ -6,7 +6,7 @@ use native.Mathlib.Omega.{arith}
 use borrow.Author.Needs.{needs}
 use Rattle.lists.specs.Below.{countBelow}
 use Rattle.rules.proofs.Sizes.{sizes}
-use Rattle.marks.specs.Marks.{Marks, tableOf}
+use Rattle.rules.specs.Marks.{Marks, tableOf}
 use Rattle.choose.specs.Search.{leastMarked}
 use Rattle.choose.proofs.Fewest.{Best, best-none, best-more}
 use Rattle.choose.proofs.victim.Statement.{statement}

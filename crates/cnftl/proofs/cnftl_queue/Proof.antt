@@ -3,14 +3,13 @@
 use mathlib.Core.Path.{ap, _∙_}
 use borrow.Author.Needs.{needs}
 use Rattle.rules.specs.declared.Params.{Params}
-use Rattle.marks.specs.MarkedConditions.{MarkedBoard}
-use Rattle.heads.specs.Heads.{lentBoard}
+use Rattle.rules.specs.Tables.{Board, boardOf}
 use Rattle.flat.specs.Flat.{flatCall}
 use Rattle.cnftl.proofs.cnftl_queue.Statement.{statement}
 use Rattle.cnftl.proofs.cnftl_queue.Tie as tie
 
-abbrev board : tie.Start → MarkedBoard
-board a = lentBoard (a .args .chip .now) (a .args .ct .now) (a .args .bt .now) (a .args .fst .now) (a .args .bst .now) (a .args .wear .now) (a .args .marks .now)
+abbrev board : tie.Start → Board
+board a = boardOf (a .args .chip .now) (a .args .ct .now) (a .args .bt .now) (a .args .fst .now) (a .args .bst .now) (a .args .wear .now) (a .args .marks .now)
 
 params-requires : tie.Need-params-requires
 params-requires c κs = search needs

@@ -7,7 +7,7 @@ use Rattle.cnftl.proofs.cnftl_read.Statement.{statement}
 use Rattle.cnftl.proofs.cnftl_read.Tie as tie
 
 abbrev board : tie.Start → Board
-board a = boardOf (a .args .chip .now) (a .args .ct .now) (a .args .bt .now) (a .args .fst .now) (a .args .bst .now) (a .args .wear .now)
+board a = boardOf (a .args .chip .now) (a .args .ct .now) (a .args .bt .now) (a .args .fst .now) (a .args .bst .now) (a .args .wear .now) (a .args .marks .now)
 
 params-requires : tie.Need-params-requires
 params-requires c κs = search needs
@@ -16,13 +16,13 @@ read-requires : tie.Need-read-requires
 read-requires c κs = search needs
 
 pack-requires : tie.Need-pack-requires
-pack-requires c κs = few _ _ (c .before .before .before .before .params .ensures) _ _ (board (c .before .before .before .before .before .before .before .before .before .before .before .before .before)) _ _ _ _ (c .before .before .read .ensures)
+pack-requires c κs = few _ _ (c .before .before .before .before .params .ensures) _ _ (board (c .before .before .before .before .before .before .before .before .before .before .before .before .before)) _ _ (c .before .before .read .ensures)
 
 same-length : tie.Need-same-length
 same-length c = search needs
 
 returns : tie.Need-returns
-returns c = given _ _ (c .before .before .before .before .before .params .ensures) _ _ (board (c .before .before .before .before .before .before .before .before .before .before .before .before .before .before)) _ _ _ _ (c .before .before .before .read .ensures) _ (c .pack .ensures)
+returns c = given _ _ (c .before .before .before .before .before .params .ensures) _ _ (board (c .before .before .before .before .before .before .before .before .before .before .before .before .before .before)) _ _ (c .before .before .before .read .ensures) _ (c .pack .ensures)
 
 pub cnftl-read-spec : {M : Type 1} → statement M
 cnftl-read-spec = tie.close (tie.spec params-requires read-requires pack-requires same-length returns)

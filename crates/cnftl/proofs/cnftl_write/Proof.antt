@@ -7,7 +7,7 @@ use Rattle.cnftl.proofs.cnftl_write.Statement.{statement}
 use Rattle.cnftl.proofs.cnftl_write.Tie as tie
 
 abbrev board : tie.Start → Board
-board a = boardOf (a .args .chip .now) (a .args .ct .now) (a .args .bt .now) (a .args .fst .now) (a .args .bst .now) (a .args .wear .now)
+board a = boardOf (a .args .chip .now) (a .args .ct .now) (a .args .bt .now) (a .args .fst .now) (a .args .bst .now) (a .args .wear .now) (a .args .marks .now)
 
 params-requires : tie.Need-params-requires
 params-requires c κs = search needs
@@ -16,7 +16,7 @@ write-requires : tie.Need-write-requires
 write-requires c κs = search needs
 
 pack-requires : tie.Need-pack-requires
-pack-requires c κs = few _ _ (c .before .before .before .before .before .before .before .before .before .before .before .before .before .before .before .before .before .before .before .before .before .before .params .ensures) _ _ (board (c .before .before .before .before .before .before .before .before .before .before .before .before .before .before .before .before .before .before .before .before .before .before .before .before .before .before .before .before .before .before .before)) _ _ _ _ (c .before .before .before .before .before .before .before .before .before .before .before .before .before .before .write .ensures)
+pack-requires c κs = few _ _ (c .before .before .before .before .before .before .before .before .before .before .before .before .before .before .before .before .before .before .before .before .before .before .params .ensures) _ _ (board (c .before .before .before .before .before .before .before .before .before .before .before .before .before .before .before .before .before .before .before .before .before .before .before .before .before .before .before .before .before .before .before)) _ _ (c .before .before .before .before .before .before .before .before .before .before .before .before .before .before .write .ensures)
 
 same-length : tie.Need-same-length
 same-length c = c .before .before .before .before .before .before .before .before .before .before .before .before .before .before .chip .given
@@ -40,7 +40,7 @@ same-length-7 : tie.Need-same-length-7
 same-length-7 c = c .before .before .marks .given
 
 returns : tie.Need-returns
-returns c = given _ _ (c .before .before .before .before .before .before .before .before .before .before .before .before .before .before .before .before .before .before .before .before .before .before .before .params .ensures) _ _ (board (c .before .before .before .before .before .before .before .before .before .before .before .before .before .before .before .before .before .before .before .before .before .before .before .before .before .before .before .before .before .before .before .before)) _ _ _ _ (c .before .before .before .before .before .before .before .before .before .before .before .before .before .before .before .write .ensures) _ (c .pack .ensures)
+returns c = given _ _ (c .before .before .before .before .before .before .before .before .before .before .before .before .before .before .before .before .before .before .before .before .before .before .before .params .ensures) _ _ (board (c .before .before .before .before .before .before .before .before .before .before .before .before .before .before .before .before .before .before .before .before .before .before .before .before .before .before .before .before .before .before .before .before)) _ _ (c .before .before .before .before .before .before .before .before .before .before .before .before .before .before .before .write .ensures) _ (c .pack .ensures)
 
 pub cnftl-write-spec : {M : Type 1} → statement M
 cnftl-write-spec = tie.close (tie.spec params-requires write-requires pack-requires same-length same-length-2 same-length-3 same-length-4 same-length-5 same-length-6 same-length-7 returns)

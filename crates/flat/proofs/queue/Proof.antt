@@ -1,14 +1,13 @@
 -- `flat::queue`: the head, and then as many turns as it says.
 -- Assumes nothing.
 use borrow.Author.Needs.{needs}
-use Rattle.marks.specs.MarkedConditions.{MarkedBoard}
-use Rattle.heads.specs.Heads.{lentBoard}
+use Rattle.rules.specs.Tables.{Board, boardOf}
 use Rattle.flat.proofs.Taking.{all-done, turns-asked}
 use Rattle.flat.proofs.queue.Statement.{statement}
 use Rattle.flat.proofs.queue.Tie as tie
 
-abbrev board : tie.Start → MarkedBoard
-board a = lentBoard (a .args .chip .now) (a .args .ct .now) (a .args .bt .now) (a .args .fst .now) (a .args .bst .now) (a .args .wear .now) (a .args .marks .now)
+abbrev board : tie.Start → Board
+board a = boardOf (a .args .chip .now) (a .args .ct .now) (a .args .bt .now) (a .args .fst .now) (a .args .bst .now) (a .args .wear .now) (a .args .marks .now)
 
 head-flat-requires : tie.Need-head-flat-requires
 head-flat-requires c κs = search needs

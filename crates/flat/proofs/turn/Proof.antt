@@ -1,14 +1,13 @@
 -- `flat::turn`: one item, its answer packed into its place.
 -- Assumes nothing.
 use borrow.Author.Needs.{needs}
-use Rattle.marks.specs.MarkedConditions.{MarkedBoard}
-use Rattle.heads.specs.Heads.{lentBoard}
+use Rattle.rules.specs.Tables.{Board, boardOf}
 use Rattle.flat.proofs.Taking.{few-item, turn-done}
 use Rattle.flat.proofs.turn.Statement.{statement}
 use Rattle.flat.proofs.turn.Tie as tie
 
-abbrev board : tie.Start → MarkedBoard
-board a = lentBoard (a .args .chip .now) (a .args .ct .now) (a .args .bt .now) (a .args .fst .now) (a .args .bst .now) (a .args .wear .now) (a .args .marks .now)
+abbrev board : tie.Start → Board
+board a = boardOf (a .args .chip .now) (a .args .ct .now) (a .args .bt .now) (a .args .fst .now) (a .args .bst .now) (a .args .wear .now) (a .args .marks .now)
 
 mul-item : tie.Need-mul-item
 mul-item c = search needs

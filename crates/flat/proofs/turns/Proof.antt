@@ -3,8 +3,7 @@
 use mathlib.Core.Path.{refl, _∙_}
 use Prim.Native.Nat.{_-_, _≤_}
 use native.Mathlib.Omega.{arith}
-use Rattle.marks.specs.MarkedConditions.{MarkedBoard}
-use Rattle.heads.specs.Heads.{lentBoard}
+use Rattle.rules.specs.Tables.{Board, boardOf}
 use Rattle.flat.specs.Flat.{TurnsAsked}
 use Rattle.flat.proofs.Taking.{Long, So, asked, done, next, start}
 use Rattle.flat.proofs.turns.Statement.{statement}
@@ -13,14 +12,14 @@ use Rattle.flat.proofs.turns.Tie as tie
 abbrev Inv-loop : tie.InvT-loop
 Inv-loop p chip₀ ct₀ bt₀ fst₀ bst₀ wear₀ marks₀ ordered requests bytes answers₀ n i₀ chip ct bt fst bst wear marks answers i =
     (i ≤ n)
-    × Long (lentBoard chip₀ ct₀ bt₀ fst₀ bst₀ wear₀ marks₀) answers₀ (lentBoard chip ct bt fst bst wear marks) answers
-    × (TurnsAsked p ordered (lentBoard chip₀ ct₀ bt₀ fst₀ bst₀ wear₀ marks₀) requests answers₀ n → So p ordered requests bytes n (lentBoard chip₀ ct₀ bt₀ fst₀ bst₀ wear₀ marks₀) answers₀ i (lentBoard chip ct bt fst bst wear marks) answers)
+    × Long (boardOf chip₀ ct₀ bt₀ fst₀ bst₀ wear₀ marks₀) answers₀ (boardOf chip ct bt fst bst wear marks) answers
+    × (TurnsAsked p ordered (boardOf chip₀ ct₀ bt₀ fst₀ bst₀ wear₀ marks₀) requests answers₀ n → So p ordered requests bytes n (boardOf chip₀ ct₀ bt₀ fst₀ bst₀ wear₀ marks₀) answers₀ i (boardOf chip ct bt fst bst wear marks) answers)
 
 abbrev μ-loop : tie.MeasureT-loop
 μ-loop p chip₀ ct₀ bt₀ fst₀ bst₀ wear₀ marks₀ ordered requests bytes answers₀ n i₀ chip ct bt fst bst wear marks answers i = n - i
 
-abbrev board : tie.Start Inv-loop μ-loop → MarkedBoard
-board a = lentBoard (a .args .chip .now) (a .args .ct .now) (a .args .bt .now) (a .args .fst .now) (a .args .bst .now) (a .args .wear .now) (a .args .marks .now)
+abbrev board : tie.Start Inv-loop μ-loop → Board
+board a = boardOf (a .args .chip .now) (a .args .ct .now) (a .args .bt .now) (a .args .fst .now) (a .args .bst .now) (a .args .wear .now) (a .args .marks .now)
 
 loop-holds : tie.Need-loop-holds Inv-loop μ-loop
 loop-holds c =

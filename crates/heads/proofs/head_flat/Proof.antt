@@ -1,14 +1,13 @@
 -- `heads::head_flat`: the head of the queue where the numbers are three to a request, else 1 or 2.
 -- Assumes nothing.
 use borrow.Author.Needs.{needs}
-use Rattle.marks.specs.MarkedConditions.{MarkedBoard}
-use Rattle.heads.specs.Heads.{lentBoard}
+use Rattle.rules.specs.Tables.{Board, boardOf}
 use Rattle.heads.proofs.Flat.{cut, whole}
 use Rattle.heads.proofs.head_flat.Statement.{statement}
 use Rattle.heads.proofs.head_flat.Tie as tie
 
-abbrev board : tie.Start → MarkedBoard
-board a = lentBoard (a .args .chip .now) (a .args .ct .now) (a .args .bt .now) (a .args .fst .now) (a .args .bst .now) (a .args .wear .now) (a .args .marks .now)
+abbrev board : tie.Start → Board
+board a = boardOf (a .args .chip .now) (a .args .ct .now) (a .args .bt .now) (a .args .fst .now) (a .args .bst .now) (a .args .wear .now) (a .args .marks .now)
 
 head-of-requires : tie.Need-head-of-requires
 head-of-requires c κs = search needs

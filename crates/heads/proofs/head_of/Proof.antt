@@ -1,15 +1,14 @@
 -- `heads::head_of`: refused by the first rows or by the answer list, or accepted with one look at the state.
 -- Assumes nothing.
 use borrow.Author.Needs.{needs}
-use Rattle.marks.specs.MarkedConditions.{MarkedBoard}
-use Rattle.agree.proofs.Agree.{lengths-in}
-use Rattle.heads.specs.Heads.{lentBoard}
+use Rattle.rules.specs.Tables.{Board, boardOf}
+use Rattle.agree.proofs.Agree.{lengths-in, marks-fit}
 use Rattle.heads.proofs.Heads.{head-done, head-passed, head-refused, too-few}
 use Rattle.heads.proofs.head_of.Statement.{statement}
 use Rattle.heads.proofs.head_of.Tie as tie
 
-abbrev board : tie.Start → MarkedBoard
-board a = lentBoard (a .args .chip .now) (a .args .ct .now) (a .args .bt .now) (a .args .fst .now) (a .args .bst .now) (a .args .wear .now) (a .args .marks .now)
+abbrev board : tie.Start → Board
+board a = boardOf (a .args .chip .now) (a .args .ct .now) (a .args .bt .now) (a .args .fst .now) (a .args .bst .now) (a .args .wear .now) (a .args .marks .now)
 
 board-reply-requires : tie.Need-board-reply-requires
 board-reply-requires c κs = search needs
@@ -27,7 +26,7 @@ state-reply-requires : tie.Need-state-reply-requires
 state-reply-requires c κs =
     let a = c .before .before .before .before .before .before .before .before .before .before .before in
     let h = head-passed _ (board a) (a .args .items) (a .args .answers) _ (c .before .before .before .board-reply .ensures) _ (c .before .before .number .ensures) (c .before .if1 .left) in
-    (lengths-in _ (board a .board) (h .fine) (h .fits), h .long)
+    (lengths-in _ (board a) (h .fine) (h .fits), marks-fit _ (board a) (h .fits))
 
 number-requires-2 : tie.Need-number-requires-2
 number-requires-2 c κs = search needs

@@ -1,7 +1,7 @@
 -- `items::has_bytes`: the product and the sum fit.
 -- Assumes nothing.
 use native.Mathlib.Omega.{arith}
-use Rattle.queued.specs.Queue.{lies}
+use Rattle.rules.specs.Requests.{lies}
 use Rattle.refusals.proofs.Rows.{bytes-low}
 use Rattle.items.proofs.has_bytes.Statement.{statement}
 use Rattle.items.proofs.has_bytes.Tie as tie

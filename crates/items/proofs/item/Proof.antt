@@ -3,17 +3,16 @@
 use mathlib.Core.Path.{refl}
 use native.Mathlib.Omega.{arith}
 use borrow.Author.Needs.{needs}
-use Rattle.marks.specs.MarkedConditions.{MarkedBoard}
-use Rattle.queued.specs.declared.Item.{Item}
+use Rattle.rules.specs.declared.Item.{Item}
 use Rattle.refusals.proofs.Rows.{bytes-low}
-use Rattle.heads.specs.Heads.{lentBoard}
-use Rattle.items.specs.Items.{itemOf}
-use Rattle.items.proofs.Parts.{asked-accepted, inside, item-done, item-refused, marks-are}
+use Rattle.rules.specs.Tables.{Board, boardOf}
+use Rattle.rules.specs.Requests.{itemOf}
+use Rattle.items.proofs.Parts.{asked-accepted, inside, item-done, item-refused}
 use Rattle.items.proofs.item.Statement.{statement}
 use Rattle.items.proofs.item.Tie as tie
 
-abbrev board : tie.Start → MarkedBoard
-board a = lentBoard (a .args .chip .now) (a .args .ct .now) (a .args .bt .now) (a .args .fst .now) (a .args .bst .now) (a .args .wear .now) (a .args .marks .now)
+abbrev board : tie.Start → Board
+board a = boardOf (a .args .chip .now) (a .args .ct .now) (a .args .bt .now) (a .args .fst .now) (a .args .bst .now) (a .args .wear .now) (a .args .marks .now)
 
 abbrev asked : tie.Start → Item
 asked a = itemOf (a .args .lba) (a .args .count) (a .args .first)
@@ -54,10 +53,8 @@ part-write-orderly-end c =
 
 write-orderly-requires : tie.Need-write-orderly-requires
 write-orderly-requires c κs =
-    let a = c .before .before .before .before .before .before .before .before .before .before .before .before .before .before .before .before .before .before .before .before .before in (
-      marks-are _ _ (board a) (a .pre) _ (asked a) _ (c .before .before .before .before .before .before .before .before .before .before .before .before .has-bytes .ensures (a .args .bytes .now) (a .args .lba) refl) _ (c .before .before .before .before .before .before .before .before .before .before .before .item-reply .ensures) _ (c .before .before .before .before .before .before .before .before .before .before .number .ensures) (c .before .before .before .before .before .before .before .before .before .if1 .left),
-      asked-accepted _ _ (board a) (a .pre) _ (asked a) _ (c .before .before .before .before .before .before .before .before .before .before .before .before .has-bytes .ensures (a .args .bytes .now) (a .args .lba) refl) _ (c .before .before .before .before .before .before .before .before .before .before .before .item-reply .ensures) _ (c .before .before .before .before .before .before .before .before .before .before .number .ensures) (c .before .before .before .before .before .before .before .before .before .if1 .left),
-    )
+    let a = c .before .before .before .before .before .before .before .before .before .before .before .before .before .before .before .before .before .before .before .before .before in
+    asked-accepted _ _ (board a) (a .pre) _ (asked a) _ (c .before .before .before .before .before .before .before .before .before .before .before .before .has-bytes .ensures (a .args .bytes .now) (a .args .lba) refl) _ (c .before .before .before .before .before .before .before .before .before .before .before .item-reply .ensures) _ (c .before .before .before .before .before .before .before .before .before .before .number .ensures) (c .before .before .before .before .before .before .before .before .before .if1 .left)
 
 same-length : tie.Need-same-length
 same-length c = search needs
@@ -81,7 +78,7 @@ same-length-7 : tie.Need-same-length-7
 same-length-7 c = search needs
 
 returns-2 : tie.Need-returns-2
-returns-2 c = item-done _ _ (board (c .before .before .before .before .before .before .before .before .before .before .before .before .before .before .before .before .before .before .before .before .before .before .before .before .before .before .before .before .before .before .before .before .before .before .before .before)) (c .before .before .before .before .before .before .before .before .before .before .before .before .before .before .before .before .before .before .before .before .before .before .before .before .before .before .before .before .before .before .before .before .before .before .before .before .pre) _ (asked (c .before .before .before .before .before .before .before .before .before .before .before .before .before .before .before .before .before .before .before .before .before .before .before .before .before .before .before .before .before .before .before .before .before .before .before .before)) _ (c .before .before .before .before .before .before .before .before .before .before .before .before .before .before .before .before .before .before .before .before .before .before .before .before .before .before .before .has-bytes .ensures (c .before .before .before .before .before .before .before .before .before .before .before .before .before .before .before .before .before .before .before .before .before .before .before .before .before .before .before .before .before .before .before .before .before .before .before .before .args .bytes .now) (c .before .before .before .before .before .before .before .before .before .before .before .before .before .before .before .before .before .before .before .before .before .before .before .before .before .before .before .before .before .before .before .before .before .before .before .before .args .lba) refl) _ (c .before .before .before .before .before .before .before .before .before .before .before .before .before .before .before .before .before .before .before .before .before .before .before .before .before .before .item-reply .ensures) _ (c .before .before .before .before .before .before .before .before .before .before .before .before .before .before .before .before .before .before .before .before .before .before .before .before .before .number .ensures) (c .before .before .before .before .before .before .before .before .before .before .before .before .before .before .before .before .before .before .before .before .before .before .before .before .if1 .left) _ _ _ (c .before .before .before .before .before .before .before .before .before .before .before .before .before .before .write-orderly .ensures .0) (c .before .before .before .before .before .before .before .before .before .before .before .before .before .before .write-orderly .ensures .1)
+returns-2 c = item-done _ _ (board (c .before .before .before .before .before .before .before .before .before .before .before .before .before .before .before .before .before .before .before .before .before .before .before .before .before .before .before .before .before .before .before .before .before .before .before .before)) (c .before .before .before .before .before .before .before .before .before .before .before .before .before .before .before .before .before .before .before .before .before .before .before .before .before .before .before .before .before .before .before .before .before .before .before .before .pre) _ (asked (c .before .before .before .before .before .before .before .before .before .before .before .before .before .before .before .before .before .before .before .before .before .before .before .before .before .before .before .before .before .before .before .before .before .before .before .before)) _ (c .before .before .before .before .before .before .before .before .before .before .before .before .before .before .before .before .before .before .before .before .before .before .before .before .before .before .before .has-bytes .ensures (c .before .before .before .before .before .before .before .before .before .before .before .before .before .before .before .before .before .before .before .before .before .before .before .before .before .before .before .before .before .before .before .before .before .before .before .before .args .bytes .now) (c .before .before .before .before .before .before .before .before .before .before .before .before .before .before .before .before .before .before .before .before .before .before .before .before .before .before .before .before .before .before .before .before .before .before .before .before .args .lba) refl) _ (c .before .before .before .before .before .before .before .before .before .before .before .before .before .before .before .before .before .before .before .before .before .before .before .before .before .before .item-reply .ensures) _ (c .before .before .before .before .before .before .before .before .before .before .before .before .before .before .before .before .before .before .before .before .before .before .before .before .before .number .ensures) (c .before .before .before .before .before .before .before .before .before .before .before .before .before .before .before .before .before .before .before .before .before .before .before .before .if1 .left) _ _ (c .before .before .before .before .before .before .before .before .before .before .before .before .before .before .write-orderly .ensures)
 
 pub item-spec : {M : Type 1} → statement M
 item-spec =

@@ -5,7 +5,7 @@ use Prim.Native.Nat.{_*_, _+_, _-_, _≤_, ℕ}
 use native.Mathlib.Omega.{arith}
 use borrow.Author.Needs.{needs}
 use Rattle.lists.specs.Below.{countBelow}
-use Rattle.marks.specs.Marks.{Marks, tableOf}
+use Rattle.rules.specs.Marks.{Marks, tableOf}
 use Rattle.marking.proofs.Turns.{count-start, count-word, word-read}
 use Rattle.marking.proofs.count_marks.Statement.{statement}
 use Rattle.marking.proofs.count_marks.Tie as tie

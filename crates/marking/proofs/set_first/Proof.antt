@@ -5,7 +5,7 @@ use Prim.Native.Nat.{_-_, _≤_}
 use native.Mathlib.Omega.{arith}
 use lib.ListN.{length, length-set}
 use borrow.Author.Needs.{needs}
-use Rattle.marks.specs.Marks.{Marks, tableOf}
+use Rattle.rules.specs.Marks.{Marks, tableOf}
 use Rattle.marks.proofs.Tables.{first-end, first-start, firstWords}
 use Rattle.marking.proofs.Turns.{first-stored}
 use Rattle.marking.proofs.set_first.Statement.{statement}

@@ -1,7 +1,7 @@
 -- `marking::word_at`: the entry at the word's place.
 -- Assumes nothing.
 use borrow.Author.Needs.{needs}
-use Rattle.marks.specs.Marks.{wordAt}
+use Rattle.rules.specs.Tables.{wordAt}
 use Rattle.marking.proofs.word_at.Statement.{statement}
 use Rattle.marking.proofs.word_at.Tie as tie
 

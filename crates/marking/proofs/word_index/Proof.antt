@@ -4,7 +4,7 @@ use mathlib.Core.Path.{refl}
 use Prim.Native.Nat.{_<_}
 use native.Mathlib.Omega.{arith}
 use Rattle.rules.proofs.Sizes.{sizes}
-use Rattle.marks.specs.Marks.{markIndex, marksLength}
+use Rattle.rules.specs.Tables.{markIndex, marksLength}
 use Rattle.marks.proofs.Tables.{index-in}
 use Rattle.marking.proofs.word_index.Statement.{statement}
 use Rattle.marking.proofs.word_index.Tie as tie

@@ -9,7 +9,7 @@ use borrow.Author.Needs.{needs}
 use Rattle.lists.specs.Below.{countBelow}
 use Rattle.lists.proofs.Tests.{count-cong}
 use Rattle.bits.proofs.Words.{bits-of}
-use Rattle.marks.specs.Marks.{wordAt}
+use Rattle.rules.specs.Tables.{wordAt}
 use Rattle.marking.proofs.Turns.{count-start, count-word}
 use Rattle.valid.specs.Shown.{bitIn}
 use Rattle.order.specs.Order.{bitAt}

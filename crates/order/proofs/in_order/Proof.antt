@@ -1,11 +1,11 @@
--- `order::in_order`: the tables, the free blocks, the regions, the counts; the theorem says that this is the rules' test and that of the marks.
+-- `order::in_order`: the tables, the free blocks, the regions, the counts; the theorem says that this is the rules' test.
 -- Assumes nothing.
 use mathlib.Core.Path.{sym, _∙_}
 use native.Mathlib.Omega.{arith}
 use borrow.Author.Needs.{needs}
 use borrow.Author.Tests.{not-false, not-true}
 use Rattle.rules.proofs.Sizes.{sizes}
-use Rattle.marks.specs.Marks.{wordAt}
+use Rattle.rules.specs.Tables.{wordAt}
 use Rattle.order.specs.Order.{orderOk}
 use Rattle.order.proofs.Counted.{lent-in, order-agrees}
 use Rattle.order.proofs.in_order.Statement.{statement}

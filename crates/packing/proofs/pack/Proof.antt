@@ -3,7 +3,7 @@
 use native.Mathlib.Omega.{arith}
 use borrow.Author.Needs.{needs}
 use Rattle.packing.specs.Packed.{packed}
-use Rattle.claims.proofs.Outcomes.{number-low}
+use Rattle.rules.proofs.Outcomes.{number-low}
 use Rattle.packing.proofs.pack.Statement.{statement}
 use Rattle.packing.proofs.pack.Tie as tie
 

@@ -3,15 +3,14 @@
 use mathlib.Core.Path.{ap₂, _∙_}
 use Prim.Native.Nat.{ℕ}
 use borrow.Author.Needs.{needs}
-use Rattle.marks.specs.MarkedConditions.{MarkedBoard}
-use Rattle.heads.specs.Heads.{lentBoard}
+use Rattle.rules.specs.Tables.{Board, boardOf}
 use Rattle.pair.specs.Two.{placed}
 use Rattle.pair.proofs.Few.{few-two}
 use Rattle.pair.proofs.cnftl_queue_two.Statement.{statement}
 use Rattle.pair.proofs.cnftl_queue_two.Tie as tie
 
-abbrev board : tie.Start → MarkedBoard
-board a = lentBoard (a .args .chip .now) (a .args .ct .now) (a .args .bt .now) (a .args .fst .now) (a .args .bst .now) (a .args .wear .now) (a .args .marks .now)
+abbrev board : tie.Start → Board
+board a = boardOf (a .args .chip .now) (a .args .ct .now) (a .args .bt .now) (a .args .fst .now) (a .args .bst .now) (a .args .wear .now) (a .args .marks .now)
 
 queue-two-requires : tie.Need-queue-two-requires
 queue-two-requires c κs = search needs
@@ -58,7 +57,7 @@ returns c =
       own = c .before .before .before .before .before .before .before .before .before .before .before .before .before .before .before .before .before .before .before .before .before .before .before .before .queue-two .result .own;
       first = c .before .before .before .before .before .before .before .before .before .before .before .before .before .before .before .before .before .before .before .before .before .before .before .before .queue-two .result .first;
       second = c .before .before .before .before .before .before .before .before .before .before .before .before .before .before .before .before .before .before .before .before .before .before .before .before .queue-two .result .second;
-      outcome = c .before .before .before .before .before .before .before .before .before .before .before .before .before .before .before .before .before .before .before .before .before .before .before .before .queue-two .ensures;
+      whole = c .before .before .before .before .before .before .before .before .before .before .before .before .before .before .before .before .before .before .before .before .before .before .before .before .queue-two .ensures;
       result = c .pack3 .ensures;
       list = c .before .before .before .put-two .ensures ∙ ap₂ (λ (first second : ℕ). placed first second (c .before .before .before .before .before .before .before .before .before .before .before .before .before .before .before .before .before .before .before .before .before .before .before .before .before .before .before .before .before .before .before .before .before .before .before .before .before .before .before .before .before .args .answers .now)) (c .before .before .before .before .before .pack .ensures) (c .before .before .before .before .pack2 .ensures);
     }

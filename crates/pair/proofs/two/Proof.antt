@@ -47,18 +47,19 @@ use denote.Triple.Walked.{says, Stays, stay-dropped, gave-slice, walkOf, Walks, 
 use denote.Exit.{yes}
 use Rattle.rules.specs.declared.Params.{Params}
 use Rattle.rules.specs.declared.Answer.{Answer}
-use Rattle.marks.specs.MarkedConditions.{MarkedBoard}
-use Rattle.queued.specs.declared.Item.{Item}
-use Rattle.queued.specs.Queue.{queueCall, queueOutcome}
-use Rattle.heads.specs.Heads.{lentBoard}
+use Rattle.rules.specs.Tables.{Board, boardOf}
+use Rattle.rules.specs.declared.Item.{Item}
+use Rattle.rules.specs.Requests.{queue, queueOf}
+use Rattle.rules.specs.Calls.{outcomeOf}
+use Rattle.ends.specs.Claims.{outcome}
 use Rattle.pair.specs.declared.Pair.{Pair}
 use Rattle.pair.proofs.Local.{chain, unchain, rechain, Elems, as-elems, as-room, as-cells, from-lies}
 use Rattle.rules.proofs.Params as Par
 use Rattle.rules.proofs.Params.Laws as Par′
 use Rattle.rules.proofs.Answer as Ans
 use Rattle.rules.proofs.Answer.Laws as Ans′
-use Rattle.queued.proofs.Item as It
-use Rattle.queued.proofs.Item.Laws as It′
+use Rattle.rules.proofs.Item as It
+use Rattle.rules.proofs.Item.Laws as It′
 use Rattle.pair.proofs.Pair as Pr
 use Rattle.pair.proofs.Pair.Laws as Pr′
 use Rattle.queue.proofs.queue as queue
@@ -113,8 +114,8 @@ module _ {M : Type 1} (𝓤 : URA M) (H : Heap 𝓤) (A : Atoms 𝓤) (W : Given
   abbrev ls₀ : Lists
   ls₀ = (x₁ .now, (x₂ .now, (x₃ .now, (x₄ .now, (x₅ .now, (x₆ .now, (x₇ .now, tt)))))))
 
-  abbrev S : Lists → MarkedBoard
-  S ls = lentBoard (ls .0) (ls .1 .0) (ls .1 .1 .0) (ls .1 .1 .1 .0) (ls .1 .1 .1 .1 .0) (ls .1 .1 .1 .1 .1 .0) (ls .1 .1 .1 .1 .1 .1 .0)
+  abbrev S : Lists → Board
+  S ls = boardOf (ls .0) (ls .1 .0) (ls .1 .1 .0) (ls .1 .1 .1 .0) (ls .1 .1 .1 .1 .0) (ls .1 .1 .1 .1 .1 .0) (ls .1 .1 .1 .1 .1 .1 .0)
 
   -- the machine values
   abbrev vp : Val
@@ -213,7 +214,7 @@ module _ {M : Type 1} (𝓤 : URA M) (H : Heap 𝓤) (A : Atoms 𝓤) (W : Given
 
   -- the end: the contract holds
   exits : (ls : Lists) → Long ls → (r : Pair) → Is Pr.the-row r (LL.vals Pr.the-type Pr′.the-laws r) →
-      queueOutcome (r .own) (r .first ∷ r .second ∷ []) (S ls) ≡ queueCall p (S ls₀) requests bs blanks
+      outcome (r .own) bs (r .first ∷ r .second ∷ []) (S ls) ≡ outcomeOf p (S ls₀) (queue (queueOf requests bs blanks))
       → ent 𝓤 (⋆ 𝓤 H A (‵ (chain toks ftrue) ∷ ‵ BytesTok ∷ ‵ (chain (fins ls) ftrue) ∷ [])) (Post (LL.val Pr.the-type Pr′.the-laws r))
   exits ls l r is e =
       qed W (‵ (chain toks ftrue) ∷ ‵ BytesTok ∷ ‵ (chain (fins ls) ftrue) ∷ []) ∵
@@ -276,7 +277,7 @@ module _ {M : Type 1} (𝓤 : URA M) (H : Heap 𝓤) (A : Atoms 𝓤) (W : Given
       (fsep ftrue (fsep ftrue (fsep (fsep (finally Ans.the-row δ′ (answers zs)) (feq ℕ (length (answers zs)) 2)) ftrue))))))))))
 
   abbrev Done : Answer → Lasts → Type 0
-  Done r zs = queueOutcome r (answers zs) (S (lists zs)) ≡ queueCall p (S ls₀) requests bs blanks
+  Done r zs = outcome r bs (answers zs) (S (lists zs)) ≡ outcomeOf p (S ls₀) (queue (queueOf requests bs blanks))
 
   -- what is returned
   abbrev gave : Answer → Lasts → Pair
@@ -508,7 +509,7 @@ module _ {M : Type 1} (𝓤 : URA M) (H : Heap 𝓤) (A : Atoms 𝓤) (W : Given
         move ! (10 ∷ 11 ∷ []) $ free1 ! $ move ! (8 ∷ 9 ∷ []) $ free1 ! $ move ! (6 ∷ 7 ∷ []) $ free1 ! $ move ! (4 ∷ 5 ∷ []) $ free1 ! $ free0 ! $
         nothing ! $ move ! (2 ∷ 0 ∷ []) $ fjoin ! $ keep ! (2 ∷ 0 ∷ 3 ∷ []) $
         by ! (exits (lists zs) (e₁, (e₂, (e₃, (e₄, (e₅, (e₆, (e₇, tt))))))) (gave r zs) (is-gave r zs is g₁ g₂)
-        (ap (λ (os : List Answer). queueOutcome r os (S (lists zs))) (two-of blank (answers zs) eo) ∙
+        (ap (λ (os : List Answer). outcome r bs os (S (lists zs))) (two-of blank (answers zs) eo) ∙
         e)))))))))))))))))))))))))))))))))))))))))))))))))))))))))))))
 
 -- ---- from the walk to the theorem

@@ -57,15 +57,18 @@ use Rattle.rules.specs.declared.Params.{Params}
 use Rattle.rules.specs.declared.Answer.{Answer}
 use Rattle.rules.specs.declared.Reply.the-variants.{Accepted}
 use Rattle.rules.specs.Calls.{answerOf}
-use Rattle.marks.specs.MarkedConditions.{MarkedBoard}
-use Rattle.queued.specs.declared.Item.{Item}
-use Rattle.queued.specs.Queue.{answerIn, queueCall, queueOutcome}
+use Rattle.rules.specs.Tables.{Board, boardOf}
+use Rattle.rules.specs.declared.Item.{Item}
+use Rattle.rules.specs.Requests.{itemOf, queueOf}
+use Rattle.rules.specs.Requests as Calls
+use Rattle.rules.specs.Calls.{outcomeOf}
+use Rattle.ends.specs.Claims.{outcome}
 use Rattle.heads.specs.declared.Head.{Head}
-use Rattle.heads.specs.Heads.{HeadIs, Ready, lentBoard}
-use Rattle.items.specs.Items.{ItemIs, itemOf}
+use Rattle.heads.specs.Heads.{HeadIs, Ready}
+use Rattle.items.specs.Items.{ItemIs}
 use Rattle.queued.specs.Served.{servedFrom}
 use Rattle.queued.proofs.Served.{none-left}
-use Rattle.queue.proofs.Folded.{one-answered, fold-is}
+use Rattle.queue.proofs.Folded.{one-answered, fold-is, itself}
 use Rattle.queue.proofs.Lent.{Slice, at-name, val, Lists, Long, Rooms, Picks, Bundle, Tokens, Owns, Kept, Shared, Held, Said, Toks, Has, lends-all, backs-all, shows-all, hides-all, bundles, unbundles}
 use Rattle.rules.proofs.Params as Par
 use Rattle.rules.proofs.Params.Laws as Par′
@@ -73,8 +76,8 @@ use Rattle.rules.proofs.Reply as Rep
 use Rattle.rules.proofs.Reply.Laws as Rep′
 use Rattle.rules.proofs.Answer as Ans
 use Rattle.rules.proofs.Answer.Laws as Ans′
-use Rattle.queued.proofs.Item as It
-use Rattle.queued.proofs.Item.Laws as It′
+use Rattle.rules.proofs.Item as It
+use Rattle.rules.proofs.Item.Laws as It′
 use Rattle.heads.proofs.Head as Hd
 use Rattle.heads.proofs.Head.Laws as Hd′
 use Rattle.heads.proofs.head_of as head-of
@@ -203,8 +206,8 @@ module _ {M : Type 1} (𝓤 : URA M) (H : Heap 𝓤) (A : Atoms 𝓤) (W : Given
   abbrev ls₀ : Lists ds
   ls₀ = (x₁ .now, (x₂ .now, (x₃ .now, (x₄ .now, (x₅ .now, (x₆ .now, (x₇ .now, tt)))))))
 
-  abbrev S : Lists ds → MarkedBoard
-  S ls = lentBoard (ls .0) (ls .1 .0) (ls .1 .1 .0) (ls .1 .1 .1 .0) (ls .1 .1 .1 .1 .0) (ls .1 .1 .1 .1 .1 .0) (ls .1 .1 .1 .1 .1 .1 .0)
+  abbrev S : Lists ds → Board
+  S ls = boardOf (ls .0) (ls .1 .0) (ls .1 .1 .0) (ls .1 .1 .1 .0) (ls .1 .1 .1 .1 .0) (ls .1 .1 .1 .1 .1 .0) (ls .1 .1 .1 .1 .1 .1 .0)
 
   abbrev xo : List Answer → RefT (List Answer)
   xo l = record { ptr = (bo, oo); name = x₀ .name; now = l }
@@ -274,7 +277,7 @@ module _ {M : Type 1} (𝓤 : URA M) (H : Heap 𝓤) (A : Atoms 𝓤) (W : Given
 
   -- the end: every parameter is owned again, and the contract holds
   exits : (gp : Is Par.the-row p (vp ∷ [])) (ls : Lists ds) (os : List Answer) → Long ds ls → length os ≡ no → (r : Answer) (v : Val) →
-      queueOutcome r os (S ls) ≡ queueCall p (S ls₀) ys bs (x₀ .now)
+      outcome r bs os (S ls) ≡ outcomeOf p (S ls₀) (Calls.queue (queueOf ys bs (x₀ .now)))
       → ent 𝓤 (⋆ 𝓤 H A (‵ (Bundle ds ls) ∷ ‵ (Own os) ∷ ‵ (flft κo qo) ∷ ‵ Shr ∷ ‵ (flft κr qr) ∷ ‵ Bytes ∷ ‵ (flft κb qb) ∷
       ‵ (Ans.the-row .own r (v ∷ [])) ∷ ‵ Res ∷ ‵ Fact ∷ [])) (Post v)
   exits gp ls os l lo r v e =
@@ -398,7 +401,7 @@ module _ {M : Type 1} (𝓤 : URA M) (H : Heap 𝓤) (A : Atoms 𝓤) (W : Given
         long : Long ds ls
         long-o : length os ≡ no
         ready : 0 < k → Ready p (h .ordered) (S ls)
-        same : servedFrom answerIn p bs (dropN i (take k ys)) i (S ls) os ≡ servedFrom answerIn p bs (take k ys) 0 (S ls₀) (x₀ .now)
+        same : servedFrom itself p bs (dropN i (take k ys)) i (S ls) os ≡ servedFrom itself p bs (take k ys) 0 (S ls₀) (x₀ .now)
 
       -- the state before the first turn
       abbrev start : State
@@ -422,7 +425,7 @@ module _ {M : Type 1} (𝓤 : URA M) (H : Heap 𝓤) (A : Atoms 𝓤) (W : Given
         long-o = length-set (s .os) (s .i) r ∙ s .long-o;
         ready = λ _. e .ready;
         same =
-            (λ j. servedFrom answerIn p bs (dropN (s .i + 1) (take k ys)) (s .i + 1) (e .left j) (set (s .os) (s .i) (e .answered j)))
+            (λ j. servedFrom itself p bs (dropN (s .i + 1) (take k ys)) (s .i + 1) (e .left j) (set (s .os) (s .i) (e .answered j)))
             ∙ sym (one-answered p bs ys k (s .i) none (S (s .ls)) (s .os) lt (head .fits)) ∙ s .same;
       }
 
@@ -714,7 +717,7 @@ module _ {M : Type 1} (𝓤 : URA M) (H : Heap 𝓤) (A : Atoms 𝓤) (W : Given
             move ! (10 ∷ 13 ∷ []) $ free1 ! $ move ! (9 ∷ 11 ∷ []) $ free1 ! $ move ! (8 ∷ 9 ∷ []) $ free1 ! $ free0 ! $
             move ! (1 ∷ 2 ∷ 3 ∷ 4 ∷ 5 ∷ 6 ∷ 7 ∷ 0 ∷ 8 ∷ 9 ∷ []) $
             by ! (exits gp (s .ls) (s .os) (s .long) (s .long-o) r v (fold-is p bs (S ls₀) ys (x₀ .now) h head r e (S (s .ls)) (s .os)
-            (none-left answerIn p bs ys k (s .i) (S (s .ls)) (s .os) over ∙ s .same))))))))
+            (none-left itself p bs ys k (s .i) (S (s .ls)) (s .os) over ∙ s .same))))))))
 
         turn-by : (s : State) (t : Bool) → ltb (s .i) k ≡ t → Sq W (Inv s) (runs C Λ E mir.turn-1 (anyQ (Then s)))
         turn-by s true e = more s (ltb→lt (s .i) k (subst Holds (sym e) tt))

@@ -23,7 +23,7 @@ same-length : tie.Need-same-length
 same-length c = search needs
 
 returns : tie.Need-returns
-returns c = λ fst bst wear. c .before .before .read-run .ensures ∙ read-is _ _ _ _ _ _ _ (c .before .before .before .before .before .before .before .before .before .before .before .pre) _ _ (rw (c .before .before .before .before .before .before .cluster-of .ensures) at (c .before .before .before .before .find-frame .ensures .0)) _ (c .before .before .before .before .before .sector-of .ensures) fst bst wear
+returns c = λ fst bst wear marks. c .before .before .read-run .ensures ∙ read-is _ _ _ _ _ _ _ (c .before .before .before .before .before .before .before .before .before .before .before .pre) _ _ (rw (c .before .before .before .before .before .before .cluster-of .ensures) at (c .before .before .before .before .find-frame .ensures .0)) _ (c .before .before .before .before .before .sector-of .ensures) fst bst wear marks
 
 pub read-sectors-spec : {M : Type 1} → statement M
 read-sectors-spec = tie.close (tie.spec cluster-of-requires sector-of-requires find-frame-requires read-run-requires same-length returns)

@@ -3,13 +3,18 @@
 use mathlib.Core.Path.{refl}
 use borrow.Author.Needs.{needs}
 use Rattle.rules.specs.Tables.{Board, boardOf}
+use Rattle.rules.specs.Requests.{Request, lent, lentAnswers, read}
 use Rattle.reading.specs.Sectors.{requestOf}
-use Rattle.reads.proofs.Call.{asked, read-refused, read-done}
+use Rattle.ends.proofs.Ends.{refused-by, reply-zero}
+use Rattle.reads.proofs.Call.{asked, read-done}
 use Rattle.reads.proofs.read.Statement.{statement}
 use Rattle.reads.proofs.read.Tie as tie
 
 abbrev board : tie.Start → Board
-board a = boardOf (a .args .chip .now) (a .args .ct .now) (a .args .bt .now) (a .args .fst .now) (a .args .bst .now) (a .args .wear .now)
+board a = boardOf (a .args .chip .now) (a .args .ct .now) (a .args .bt .now) (a .args .fst .now) (a .args .bst .now) (a .args .wear .now) (a .args .marks .now)
+
+abbrev request : tie.Start → Request
+request a = requestOf (a .args .lba) (a .args .count) (a .args .bytes .now)
 
 access-reply-requires : tie.Need-access-reply-requires
 access-reply-requires c κs = search needs
@@ -21,10 +26,15 @@ idle-requires : tie.Need-idle-requires
 idle-requires c κs = search needs
 
 returns : tie.Need-returns
-returns c = read-refused _ (board (c .before .before .before .before .before .before .before .before .before .before .before .before)) _ (requestOf (c .before .before .before .before .before .before .before .before .before .before .before .before .args .lba) (c .before .before .before .before .before .before .before .before .before .before .before .before .args .count) (c .before .before .before .before .before .before .before .before .before .before .before .before .args .bytes .now)) _ (c .before .before .before .access-reply .ensures (requestOf (c .before .before .before .before .before .before .before .before .before .before .before .before .args .lba) (c .before .before .before .before .before .before .before .before .before .before .before .before .args .count) (c .before .before .before .before .before .before .before .before .before .before .before .before .args .bytes .now)) refl refl refl) _ (c .before .before .number .ensures) (c .before .if1 .taken) _ (c .idle .ensures)
+unfolding lent lentAnswers
+returns c =
+    let a = c .before .before .before .before .before .before .before .before .before .before .before .before in
+    refused-by _ (board a) (read (request a)) _ (c .before .before .before .access-reply .ensures .0 (request a) refl refl refl) _ (c .before .before .number .ensures) (c .before .if1 .taken) _ (c .idle .ensures)
 
 read-sectors-requires : tie.Need-read-sectors-requires
-read-sectors-requires c κs = asked _ (board (c .before .before .before .before .before .before .before .before .before .before .before .before)) _ (requestOf (c .before .before .before .before .before .before .before .before .before .before .before .before .args .lba) (c .before .before .before .before .before .before .before .before .before .before .before .before .args .count) (c .before .before .before .before .before .before .before .before .before .before .before .before .args .bytes .now)) _ (c .before .before .before .access-reply .ensures (requestOf (c .before .before .before .before .before .before .before .before .before .before .before .before .args .lba) (c .before .before .before .before .before .before .before .before .before .before .before .before .args .count) (c .before .before .before .before .before .before .before .before .before .before .before .before .args .bytes .now)) refl refl refl) _ (c .before .before .number .ensures) (c .before .if1 .left)
+read-sectors-requires c κs =
+    let a = c .before .before .before .before .before .before .before .before .before .before .before .before in
+    asked _ (board a) (request a) (reply-zero _ (board a) (read (request a)) _ (c .before .before .before .access-reply .ensures .0 (request a) refl refl refl) _ (c .before .before .number .ensures) (c .before .if1 .left))
 
 idle-requires-2 : tie.Need-idle-requires-2
 idle-requires-2 c κs = search needs
@@ -33,7 +43,10 @@ same-length : tie.Need-same-length
 same-length c = search needs
 
 returns-2 : tie.Need-returns-2
-returns-2 c = read-done _ (board (c .before .before .before .before .before .before .before .before .before .before .before .before .before .before .before .before)) _ (requestOf (c .before .before .before .before .before .before .before .before .before .before .before .before .before .before .before .before .args .lba) (c .before .before .before .before .before .before .before .before .before .before .before .before .before .before .before .before .args .count) (c .before .before .before .before .before .before .before .before .before .before .before .before .before .before .before .before .args .bytes .now)) _ (c .before .before .before .before .before .before .before .access-reply .ensures (requestOf (c .before .before .before .before .before .before .before .before .before .before .before .before .before .before .before .before .args .lba) (c .before .before .before .before .before .before .before .before .before .before .before .before .before .before .before .before .args .count) (c .before .before .before .before .before .before .before .before .before .before .before .before .before .before .before .before .args .bytes .now)) refl refl refl) _ (c .before .before .before .before .before .before .number .ensures) (c .before .before .before .before .before .if1 .left) _ (c .before .before .before .read-sectors .ensures _ _ _) _ (c .idle2 .ensures)
+returns-2 c =
+    let a = c .before .before .before .before .before .before .before .before .before .before .before .before .before .before .before .before in
+    let e = c .before .before .before .before .before .before .before .access-reply .ensures .0 (request a) refl refl refl in
+    read-done _ (board a) (request a) (reply-zero _ (board a) (read (request a)) _ e _ (c .before .before .before .before .before .before .number .ensures) (c .before .before .before .before .before .if1 .left)) _ (c .before .before .before .read-sectors .ensures _ _ _ _) _ e _ (c .idle2 .ensures)
 
 pub read-spec : {M : Type 1} → statement M
 read-spec = tie.close (tie.spec access-reply-requires number-requires idle-requires returns read-sectors-requires idle-requires-2 same-length returns-2)

@@ -5,7 +5,7 @@ use Prim.Native.Nat.{_-_, _≤_, _<_}
 use native.Mathlib.Omega.{arith}
 use Rattle.rules.specs.Parameters.{frames}
 use Rattle.rules.proofs.Sizes.{sizes}
-use Rattle.marks.specs.Marks.{Marks, tableOf}
+use Rattle.rules.specs.Marks.{Marks, tableOf}
 use Rattle.reclaim.specs.Moves.{FromTo}
 use Rattle.reclaim.proofs.Copies.{So, start, ct-length, chip-length, move-asked, turn, turn-few, done, holds}
 use Rattle.reclaim.proofs.copy_marked.Statement.{statement}

@@ -1,5 +1,6 @@
 -- `refusals::bad_address`: the number of all sectors fits.
 -- Assumes nothing.
+use mathlib.Core.Path.{refl}
 use native.Mathlib.Omega.{arith}
 use Rattle.rules.specs.Replies.{badAddress}
 use Rattle.refusals.proofs.Rows.{sectors-low}
@@ -11,7 +12,7 @@ mul-result c = omega (arith, sectors-low _ (c .before .pre))
 
 returns : tie.Need-returns
 unfolding badAddress
-returns c = λ q l. rw l
+returns c = refl
 
 pub bad-address-spec : {M : Type 1} → statement M
 bad-address-spec = tie.close (tie.spec mul-result returns)

@@ -4,17 +4,17 @@ use mathlib.Core.Path.{_∙_}
 use native.Mathlib.Omega.{arith}
 use borrow.Author.Needs.{needs}
 use borrow.Author.Tests.{le-ltb, lt-ltb}
-use Rattle.rules.specs.Replies.{formatReply}
+use Rattle.rules.specs.Replies.{replyOf, rowsOf}
 use Rattle.rules.specs.Tables.{Board, boardOf}
 use Rattle.rules.proofs.Sizes.{sizes}
 use Rattle.rules.proofs.TableFacts.{chip-size}
 use Rattle.agree.proofs.Agree.{lengths-in}
-use Rattle.refusals.proofs.Rows.{asks-nothing, few-is, head-passes, head-refuses, here, otherwise, row-refuses, skip}
+use Rattle.refusals.proofs.Rows.{after-lent, few-is, here, lent-passes, otherwise, refuses, skip}
 use Rattle.replies.proofs.format_reply.Statement.{statement}
 use Rattle.replies.proofs.format_reply.Tie as tie
 
 abbrev board : tie.Start → Board
-board a = boardOf (a .args .chip .now) (a .args .ct .now) (a .args .bt .now) (a .args .fst .now) (a .args .bst .now) (a .args .wear .now)
+board a = boardOf (a .args .chip .now) (a .args .ct .now) (a .args .bt .now) (a .args .fst .now) (a .args .bst .now) (a .args .wear .now) (a .args .marks .now)
 
 board-reply-requires : tie.Need-board-reply-requires
 board-reply-requires c κs = search needs
@@ -23,40 +23,40 @@ number-requires : tie.Need-number-requires
 number-requires c κs = search needs
 
 returns : tie.Need-returns
-unfolding formatReply
-returns c = head-refuses _ (board (c .before .before .before .before .before .before .before .before .before .before)) _ _ (c .before .before .board-reply .ensures) _ (c .before .number .ensures) (c .if1 .taken) _ _
+unfolding replyOf rowsOf
+returns c = refuses _ _ _ (c .before .before .board-reply .ensures) (c .before .number .ensures) (c .if1 .taken) _
 
 count-good-requires : tie.Need-count-good-requires
 count-good-requires c κs =
     let a = c .before .before .before .before .before .before .before .before .before .before in
-    let h = head-passes _ (board a) _ _ (c .before .before .board-reply .ensures) _ (c .before .number .ensures) (c .if1 .left) in
+    let h = lent-passes _ (board a) _ _ (c .before .before .board-reply .ensures) (c .before .number .ensures) (c .if1 .left) in
     (h .fine, (lengths-in _ (board a) (h .fine) (h .fits)) .chipLength ∙ chip-size _)
 
 mul-if2 : tie.Need-mul-if2
 mul-if2 c =
     let a = c .before .before .before .before .before .before .before .before .before .before .before .before in
-    let h = head-passes _ (board a) _ _ (c .before .before .before .before .board-reply .ensures) _ (c .before .before .before .number .ensures) (c .before .before .if1 .left) in
+    let h = lent-passes _ (board a) _ _ (c .before .before .before .before .board-reply .ensures) (c .before .before .before .number .ensures) (c .before .before .if1 .left) in
     omega (arith, (sizes _ (h .fine)) .tableHigh)
 
 add-if2 : tie.Need-add-if2
 add-if2 c =
     let a = c .before .before .before .before .before .before .before .before .before .before .before .before in
-    let h = head-passes _ (board a) _ _ (c .before .before .before .before .board-reply .ensures) _ (c .before .before .before .number .ensures) (c .before .before .if1 .left) in
+    let h = lent-passes _ (board a) _ _ (c .before .before .before .before .board-reply .ensures) (c .before .before .before .number .ensures) (c .before .before .if1 .left) in
     omega (arith, (sizes _ (h .fine)) .tableHigh)
 
 returns-2 : tie.Need-returns-2
-unfolding formatReply
+unfolding replyOf rowsOf
 returns-2 c =
     let a = c .before .before .before .before .before .before .before .before .before .before .before .before .before in
-    let h = head-passes _ (board a) _ _ (c .before .before .before .before .before .board-reply .ensures) _ (c .before .before .before .before .number .ensures) (c .before .before .before .if1 .left) in
-    row-refuses _ (board a) _ h _ _ _ (λ x. omega arith) (here _ _ _ _ (few-is _ (board a) _ (c .before .before .count-good .ensures)) (lt-ltb _ _ (c .if2 .taken)))
+    let h = lent-passes _ (board a) _ _ (c .before .before .before .before .before .board-reply .ensures) (c .before .before .before .before .number .ensures) (c .before .before .before .if1 .left) in
+    after-lent _ (board a) h _ _ (here _ _ _ _ (few-is _ (board a) _ (c .before .before .count-good .ensures)) (lt-ltb _ _ (c .if2 .taken)))
 
 returns-3 : tie.Need-returns-3
-unfolding formatReply
+unfolding replyOf rowsOf
 returns-3 c =
     let a = c .before .before .before .before .before .before .before .before .before .before .before .before .before in
-    let h = head-passes _ (board a) _ _ (c .before .before .before .before .before .board-reply .ensures) _ (c .before .before .before .before .number .ensures) (c .before .before .before .if1 .left) in
-    asks-nothing _ (board a) _ h _ _ (skip _ _ _ _ _ (few-is _ (board a) _ (c .before .before .count-good .ensures)) (le-ltb _ _ (c .if2 .left)) otherwise)
+    let h = lent-passes _ (board a) _ _ (c .before .before .before .before .before .board-reply .ensures) (c .before .before .before .before .number .ensures) (c .before .before .before .if1 .left) in
+    after-lent _ (board a) h _ _ (skip _ _ _ _ _ (few-is _ (board a) _ (c .before .before .count-good .ensures)) (le-ltb _ _ (c .if2 .left)) otherwise)
 
 pub format-reply-spec : {M : Type 1} → statement M
 format-reply-spec = tie.close (tie.spec board-reply-requires number-requires returns count-good-requires mul-if2 add-if2 returns-2 returns-3)

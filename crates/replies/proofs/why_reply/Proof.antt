@@ -1,17 +1,15 @@
 -- `replies::why_reply`: each return is the reply of the first row that applies.
 -- Assumes nothing.
-use mathlib.Core.Path.{refl}
-use native.Mathlib.Omega.{arith}
 use borrow.Author.Needs.{needs}
 use Rattle.rules.specs.Replies.{whyReply}
 use Rattle.rules.specs.Tables.{Board, boardOf}
-use Rattle.agree.proofs.Agree.{lengths-in}
-use Rattle.refusals.proofs.Rows.{address-is, head-passes, head-refuses, here, row-refuses, skip, state-last}
+use Rattle.agree.proofs.Agree.{lengths-in, marks-fit}
+use Rattle.refusals.proofs.Rows.{after-lent, here, lent-passes, refuses, skip}
 use Rattle.replies.proofs.why_reply.Statement.{statement}
 use Rattle.replies.proofs.why_reply.Tie as tie
 
 abbrev board : tie.Start → Board
-board a = boardOf (a .args .chip .now) (a .args .ct .now) (a .args .bt .now) (a .args .fst .now) (a .args .bst .now) (a .args .wear .now)
+board a = boardOf (a .args .chip .now) (a .args .ct .now) (a .args .bt .now) (a .args .fst .now) (a .args .bst .now) (a .args .wear .now) (a .args .marks .now)
 
 board-reply-requires : tie.Need-board-reply-requires
 board-reply-requires c κs = search needs
@@ -21,33 +19,33 @@ number-requires c κs = search needs
 
 returns : tie.Need-returns
 unfolding whyReply
-returns c = head-refuses _ (board (c .before .before .before .before .before .before .before .before .before .before)) _ _ (c .before .before .board-reply .ensures) _ (c .before .number .ensures) (c .if1 .taken) _ _
+returns c = refuses _ _ _ (c .before .before .board-reply .ensures) (c .before .number .ensures) (c .if1 .taken) _
 
 bad-address-requires : tie.Need-bad-address-requires
 bad-address-requires c κs =
     let a = c .before .before .before .before .before .before .before .before .before .before in
-    let h = head-passes _ (board a) _ _ (c .before .before .board-reply .ensures) _ (c .before .number .ensures) (c .if1 .left) in
+    let h = lent-passes _ (board a) _ _ (c .before .before .board-reply .ensures) (c .before .number .ensures) (c .if1 .left) in
     h .fine
 
 returns-2 : tie.Need-returns-2
 unfolding whyReply
 returns-2 c =
     let a = c .before .before .before .before .before .before .before .before .before .before .before .before in
-    let h = head-passes _ (board a) _ _ (c .before .before .before .before .board-reply .ensures) _ (c .before .before .before .number .ensures) (c .before .before .if1 .left) in
-    row-refuses _ (board a) _ h _ _ _ (λ x. omega arith) (here _ _ _ _ (address-is _ _ _ (c .before .bad-address .ensures)) (c .if2 .taken))
+    let h = lent-passes _ (board a) _ _ (c .before .before .before .before .board-reply .ensures) (c .before .before .before .number .ensures) (c .before .before .if1 .left) in
+    after-lent _ (board a) h _ _ (here _ _ _ _ (c .before .bad-address .ensures) (c .if2 .taken))
 
 state-reply-requires : tie.Need-state-reply-requires
 state-reply-requires c κs =
     let a = c .before .before .before .before .before .before .before .before .before .before .before .before in
-    let h = head-passes _ (board a) _ _ (c .before .before .before .before .board-reply .ensures) _ (c .before .before .before .number .ensures) (c .before .before .if1 .left) in
-    (lengths-in _ (board a) (h .fine) (h .fits), h .long)
+    let h = lent-passes _ (board a) _ _ (c .before .before .before .before .board-reply .ensures) (c .before .before .before .number .ensures) (c .before .before .if1 .left) in
+    (lengths-in _ (board a) (h .fine) (h .fits), marks-fit _ (board a) (h .fits))
 
 returns-3 : tie.Need-returns-3
 unfolding whyReply
 returns-3 c =
     let a = c .before .before .before .before .before .before .before .before .before .before .before .before .before in
-    let h = head-passes _ (board a) _ _ (c .before .before .before .before .before .board-reply .ensures) _ (c .before .before .before .before .number .ensures) (c .before .before .before .if1 .left) in
-    state-last _ (board a) _ h _ _ (skip _ _ _ _ _ (address-is _ _ _ (c .before .before .bad-address .ensures)) (c .before .if2 .left) refl) (c .state-reply .ensures _)
+    let h = lent-passes _ (board a) _ _ (c .before .before .before .before .before .board-reply .ensures) (c .before .before .before .before .number .ensures) (c .before .before .before .if1 .left) in
+    after-lent _ (board a) h _ _ (skip _ _ _ _ _ (c .before .before .bad-address .ensures) (c .before .if2 .left) (c .state-reply .ensures _))
 
 pub why-reply-spec : {M : Type 1} → statement M
 why-reply-spec = tie.close (tie.spec board-reply-requires number-requires returns bad-address-requires returns-2 state-reply-requires returns-3)

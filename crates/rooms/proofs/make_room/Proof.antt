@@ -21,7 +21,7 @@ reclaim-block-requires : tie.Need-reclaim-block-requires
 reclaim-block-requires c κs = rw (c .before .before .before .before .before .before .pl3 .given .1) at (c .before .before .before .before .before .before .before .before .before .before .before .before .before .before .pre)
 
 returns : tie.Need-returns
-returns c = λ fst e. rw (c .before .pl .given .1) (made-continues _ _ _ _ fst _ _ _ _ _)
+returns c = λ fst e. rw (c .before .pl .given .1) (made-continues _ _ _ _ fst _ _ _ _ _ _)
 
 same-length : tie.Need-same-length
 same-length c = search needs
@@ -33,7 +33,7 @@ same-length-3 : tie.Need-same-length-3
 same-length-3 c = search needs
 
 returns-2 : tie.Need-returns-2
-returns-2 c = λ fst e. rw (c .before .before .before .before .before .before .before .before .before .pl2 .given .1) (made-opens _ _ _ _ fst _ _ _ _ _ _ (c .before .before .before .before .open-block .ensures))
+returns-2 c = λ fst e. rw (c .before .before .before .before .before .before .before .before .before .pl2 .given .1) (made-opens _ _ _ _ fst _ _ _ _ _ _ _ (c .before .before .before .before .open-block .ensures))
 
 same-length-4 : tie.Need-same-length-4
 same-length-4 c = search needs

@@ -69,10 +69,10 @@ same-length-14 : tie.Need-same-length-14
 same-length-14 c = search needs
 
 returns-2 : tie.Need-returns-2
-returns-2 c = rw (c .before .before .before .before .before .before .before .before .before .line2 .given .1) (read-turned _ _ _ _)
+returns-2 c = rw (c .before .before .before .before .before .before .before .before .before .line2 .given .1) (read-turned _ _ _)
 
 returns-3 : tie.Need-returns-3
-returns-3 c = rw (c .before .enum-told .given .1) (other-turned _ _)
+returns-3 c = rw (c .before .enum-told .given .1) (other-turned _)
 
 pub answer-spec : {M : Type 1} → statement M
 answer-spec =

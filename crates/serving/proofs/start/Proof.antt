@@ -36,7 +36,7 @@ same-length-7 : tie.Need-same-length-7
 same-length-7 c = search needs
 
 returns : tie.Need-returns
-returns c = started _ _ _ _ (c .before .before .before .before .before .before .before .before .before .before .before .before .before .before .before .before .before .before .before .before .before .before .before .before .before .before .before .before .before .before .before .pre) (rw (c .before .before .before .before .before .before .before .before .before .before .before .before .before .before .before .before .before .before .before .before .before .before .before .board .ensures) at (c .before .before .before .before .before .before .before .before .before .before .before .before .before .before .before .format .ensures))
+returns c = started _ _ (rw (c .before .before .before .before .before .before .before .before .before .before .before .before .before .before .before .before .before .before .before .before .before .before .before .board .ensures) at (c .before .before .before .before .before .before .before .before .before .before .before .before .before .before .before .format .ensures))
 
 pub start-spec : {M : Type 1} → statement M
 start-spec =

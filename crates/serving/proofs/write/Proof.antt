@@ -55,7 +55,7 @@ same-length-7 c = search needs
 returns : tie.Need-returns
 unfolding requested
 returns c =
-    write-turned _ _ _ _ _ _ _
+    write-turned _ _ _ _ _
     (rw (c .before .before .before .before .before .before .before .before .before .before .before .before .before .before .before .before .before .before .before .before .before .before .before .before .board .ensures, sent _ _ _ _ (c .before .before .before .before .before .before .before .before .before .before .before .before .before .before .before .before .before .before .before .before .before .before .before .before .before .lent .ensures) (c .before .before .before .before .before .before .before .before .before .before .before .before .before .before .before .before .before .before .before .before .before .before .before .before .before .before .filled .ensures)) at (c .before .before .before .before .before .before .before .before .before .before .before .before .before .before .before .write .ensures))
 
 pub write-spec : {M : Type 1} → statement M

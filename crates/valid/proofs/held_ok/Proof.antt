@@ -8,7 +8,7 @@ use borrow.Author.Tests.{not-false, not-true}
 use Rattle.lists.specs.Below.{allBelow}
 use Rattle.loops.proofs.Below.{all-end, all-fails, all-more, all-start}
 use Rattle.rules.specs.Regions.{View}
-use Rattle.marks.specs.Marks.{marked}
+use Rattle.rules.specs.Marks.{marked}
 use Rattle.valid.specs.Shown.{Shows, onlyIn, wordOnly}
 use Rattle.valid.proofs.held_ok.Statement.{statement}
 use Rattle.valid.proofs.held_ok.Tie as tie

@@ -6,7 +6,7 @@ use Prim.Native.Nat.{_-_, _≤_}
 use native.Mathlib.Omega.{arith}
 use Rattle.lists.specs.Below.{allBelow}
 use Rattle.loops.proofs.Below.{all-end, all-fails, all-more, all-start}
-use Rattle.marks.specs.Marks.{markIndex, wordAt}
+use Rattle.rules.specs.Tables.{markIndex, wordAt}
 use Rattle.valid.specs.Shown.{wordOnly}
 use Rattle.valid.proofs.Words.{none-only, zero-only}
 use Rattle.valid.proofs.none_ok.Statement.{statement}

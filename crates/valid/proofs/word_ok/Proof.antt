@@ -10,7 +10,7 @@ use borrow.Author.Tests.{not-false, not-true}
 use Rattle.lists.specs.Below.{allBelow}
 use Rattle.loops.proofs.Below.{all-more, all-start}
 use Rattle.rules.specs.Regions.{View}
-use Rattle.marks.specs.Marks.{marked}
+use Rattle.rules.specs.Marks.{marked}
 use Rattle.valid.specs.Shown.{Shows}
 use Rattle.valid.proofs.Words.{half, only, only-done, only-fails, turns, zero-only}
 use Rattle.valid.proofs.word_ok.Statement.{statement}

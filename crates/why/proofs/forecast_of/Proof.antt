@@ -1,5 +1,6 @@
 -- `why::forecast_of`: the plan's numbers, and where it reclaims the count of the victim's marks.
 -- Assumes nothing.
+use mathlib.Core.List.{[]}
 use borrow.Author.Needs.{needs}
 use Rattle.rules.specs.Tables.{boardOf}
 use Rattle.why.specs.Why.{forecastNumbers, planNumbers}
@@ -22,22 +23,22 @@ enum-known-v-3 c = search needs
 count-marks-requires : tie.Need-count-marks-requires
 count-marks-requires c κs =
     let a = c .before .before .before .before .before .before .before .before in
-    victim-words _ (a .args .chip .now) (a .args .bt .now) (a .args .fst .now) (a .args .marks .now) _ (a .pre) _ (λ ct bst wear right. rw (c .before .v3 .given .1) at (c .before .before .before .plan-of .ensures ct bst wear right))
+    victim-words _ (a .args .chip .now) (a .args .bt .now) (a .args .fst .now) (a .args .marks .now) _ (a .pre) _ (λ ct right. rw (c .before .v3 .given .1) at (c .before .before .before .plan-of .ensures ct right))
 
 returns : tie.Need-returns
 unfolding forecastNumbers planNumbers
-returns c ct bst wear right = plan-is _ _ _ (rw (c .before .v .given .1) at (c .before .before .before .plan-of .ensures ct bst wear right))
+returns c ct right = plan-is _ _ _ (rw (c .before .v .given .1) at (c .before .before .before .plan-of .ensures ct right))
 
 returns-2 : tie.Need-returns-2
 unfolding forecastNumbers planNumbers
-returns-2 c ct bst wear right = plan-is _ _ _ (rw (c .before .v2 .given .1) at (c .before .before .before .plan-of .ensures ct bst wear right))
+returns-2 c ct right = plan-is _ _ _ (rw (c .before .v2 .given .1) at (c .before .before .before .plan-of .ensures ct right))
 
 returns-3 : tie.Need-returns-3
 unfolding forecastNumbers planNumbers
-returns-3 c ct bst wear right =
+returns-3 c ct right =
     let a = c .before .before .before .before .before .before .before .before .before in
-    let e = rw (c .before .before .v3 .given .1) at (c .before .before .before .before .plan-of .ensures ct bst wear right) in
-    rw (counted _ (a .pre .plan .fine) (boardOf (a .args .chip .now) ct (a .args .bt .now) (a .args .fst .now) bst wear) _ right _ _ _ (c .count-marks .ensures)) (plan-is _ _ _ e)
+    let e = rw (c .before .before .v3 .given .1) at (c .before .before .before .before .plan-of .ensures ct right) in
+    rw (counted _ (a .pre .plan .fine) (boardOf (a .args .chip .now) ct (a .args .bt .now) (a .args .fst .now) [] [] (a .args .marks .now)) right _ _ _ (c .count-marks .ensures)) (plan-is _ _ _ e)
 
 pub forecast-of-spec : {M : Type 1} → statement M
 forecast-of-spec =

@@ -22,9 +22,9 @@ bt-at-requires c κs =
 
 returns : tie.Need-returns
 unfolding placeNumbers
-returns c chip fst bst wear k w =
+returns c chip fst bst wear marks k w =
     let a = c .before .before .before .before .before .before in
-    rw (c .bt-at .ensures .0, c .before .ct-at .ensures .0, c .before .before .before .region-of .ensures) (holder-is _ (boardOf chip (a .args .ct .now) (a .args .bt .now) fst bst wear) _ _ _ _ k w)
+    rw (c .bt-at .ensures .0, c .before .ct-at .ensures .0, c .before .before .before .region-of .ensures) (holder-is _ (boardOf chip (a .args .ct .now) (a .args .bt .now) fst bst wear marks) _ _ _ _ k w)
 
 pub place-at-spec : {M : Type 1} → statement M
 place-at-spec = tie.close (tie.spec region-of-requires ct-at-requires bt-at-requires returns)

@@ -1,38 +1,38 @@
 -- `writing::write_orderly`: the plan of the state at entry, its room, the old frame found there, the cluster put there, and the marks that follow.
 -- Assumes nothing.
-use mathlib.Core.Path.{_≡_, ap, _∙_}
+use mathlib.Core.Path.{ap, _∙_}
 use Rattle.rules.specs.Numbers.{regionOf}
-use Rattle.writing.proofs.Writes.{sectors, regions, alpha-few, marks-long, plan-asked, room-asked, lookup-made, standing, copied-few, gives, mark-asked, old-asked, marks-kept}
+use Rattle.writing.proofs.Writes.{sectors, regions, alpha-few, marks-full, plan-asked, room-asked, lookup-made, standing, copied-few, gives, mark-asked, old-asked}
 use Rattle.writing.proofs.write_orderly.Statement.{statement}
 use Rattle.writing.proofs.write_orderly.Tie as tie
 
 cluster-of-requires : tie.Need-cluster-of-requires
-cluster-of-requires c κs = sectors _ _ _ (c .before .before .before .before .before .before .before .before .pre .1)
+cluster-of-requires c κs = sectors _ _ _ (c .before .before .before .before .before .before .before .before .pre)
 
 region-of-requires : tie.Need-region-of-requires
-region-of-requires c κs = regions _ _ _ (c .before .before .before .before .before .before .before .before .before .pre .1)
+region-of-requires c κs = regions _ _ _ (c .before .before .before .before .before .before .before .before .before .pre)
 
 plan-of-requires : tie.Need-plan-of-requires
 plan-of-requires c κs =
-    (plan-asked _ _ _ (c .before .before .before .before .before .before .before .before .before .before .before .before .before .before .pre .1) _ (c .before .before .before .before .region-of .ensures ∙ ap (regionOf (c .before .before .before .before .before .before .before .before .before .before .before .before .before .before .args .p)) (c .before .before .before .before .before .cluster-of .ensures)), marks-long _ _ _ (c .before .before .before .before .before .before .before .before .before .before .before .before .before .before .pre .1) _ (c .before .before .before .before .before .before .before .before .before .before .before .before .before .before .pre .0))
+    (plan-asked _ _ _ (c .before .before .before .before .before .before .before .before .before .before .before .before .before .before .pre) _ (c .before .before .before .before .region-of .ensures ∙ ap (regionOf (c .before .before .before .before .before .before .before .before .before .before .before .before .before .before .args .p)) (c .before .before .before .before .before .cluster-of .ensures)), marks-full _ _ _ (c .before .before .before .before .before .before .before .before .before .before .before .before .before .before .pre))
 
 -- ---- from here on d is the place after the plan
 
 make-room-requires : tie.Need-make-room-requires
 make-room-requires c κs =
     let d = c .before .before .before .before .before .before in
-    room-asked _ _ _ (d .before .before .before .before .before .before .before .before .before .before .before .before .before .before .before .pre .1) _ (d .before .before .before .before .before .region-of .ensures ∙ ap (regionOf (d .before .before .before .before .before .before .before .before .before .before .before .before .before .before .before .args .p)) (d .before .before .before .before .before .before .cluster-of .ensures)) _ (d .plan-of .ensures _ _ _ (d .before .before .before .before .before .before .before .before .before .before .before .before .before .before .before .pre .0)) _ (marks-long _ _ _ (d .before .before .before .before .before .before .before .before .before .before .before .before .before .before .before .pre .1) _ (d .before .before .before .before .before .before .before .before .before .before .before .before .before .before .before .pre .0))
+    room-asked _ _ _ (d .before .before .before .before .before .before .before .before .before .before .before .before .before .before .before .pre) _ (d .before .before .before .before .before .region-of .ensures ∙ ap (regionOf (d .before .before .before .before .before .before .before .before .before .before .before .before .before .before .before .args .p)) (d .before .before .before .before .before .before .cluster-of .ensures)) _ (d .plan-of .ensures)
 
 find-frame-requires : tie.Need-find-frame-requires
 find-frame-requires c κs =
     let d = c .before .before .before .before .before .before .before .before .before .before .before .before .before .before .before .before .before .before .before .before in
-    lookup-made _ _ _ (d .before .before .before .before .before .before .before .before .before .before .before .before .before .before .before .pre .1) _ (d .before .before .before .before .before .region-of .ensures ∙ ap (regionOf (d .before .before .before .before .before .before .before .before .before .before .before .before .before .before .before .args .p)) (d .before .before .before .before .before .before .cluster-of .ensures)) _ (d .plan-of .ensures _ _ _ (d .before .before .before .before .before .before .before .before .before .before .before .before .before .before .before .pre .0)) _ _ _ _ _ _ _ _ _ (c .before .before .before .before .before .before .before .before .before .before .before .before .before .make-room .ensures _ (d .before .before .before .before .before .before .before .before .before .before .before .before .before .before .before .pre .0))
+    lookup-made _ _ _ (d .before .before .before .before .before .before .before .before .before .before .before .before .before .before .before .pre) _ (d .before .before .before .before .before .region-of .ensures ∙ ap (regionOf (d .before .before .before .before .before .before .before .before .before .before .before .before .before .before .before .args .p)) (d .before .before .before .before .before .before .cluster-of .ensures)) _ (d .plan-of .ensures) _ _ _ _ _ _ _ _ _ (c .before .before .before .before .before .before .before .before .before .before .before .before .before .make-room .ensures)
     _ (d .before .before .before .before .before .before .cluster-of .ensures)
 
 put-cluster-requires : tie.Need-put-cluster-requires
 put-cluster-requires c κs =
     let d = c .before .before .before .before .before .before .before .before .before .before .before .before .before .before .before .before .before .before .before .before .before .before .before .before .before in (
-      standing _ _ _ (d .before .before .before .before .before .before .before .before .before .before .before .before .before .before .before .pre .1) _ (d .before .before .before .before .before .region-of .ensures ∙ ap (regionOf (d .before .before .before .before .before .before .before .before .before .before .before .before .before .before .before .args .p)) (d .before .before .before .before .before .before .cluster-of .ensures)) _ (d .plan-of .ensures _ _ _ (d .before .before .before .before .before .before .before .before .before .before .before .before .before .before .before .pre .0)) _ _ _ _ _ _ _ _ _ (c .before .before .before .before .before .before .before .before .before .before .before .before .before .before .before .before .before .before .make-room .ensures _ (d .before .before .before .before .before .before .before .before .before .before .before .before .before .before .before .pre .0)),
+      standing _ _ _ (d .before .before .before .before .before .before .before .before .before .before .before .before .before .before .before .pre) _ (d .before .before .before .before .before .region-of .ensures ∙ ap (regionOf (d .before .before .before .before .before .before .before .before .before .before .before .before .before .before .before .args .p)) (d .before .before .before .before .before .before .cluster-of .ensures)) _ (d .plan-of .ensures) _ _ _ _ _ _ _ _ _ (c .before .before .before .before .before .before .before .before .before .before .before .before .before .before .before .before .before .before .make-room .ensures),
       rw (d .before .before .before .before .before .before .cluster-of .ensures) at (c .before .before .before .before .find-frame .ensures .0),
     )
 
@@ -40,15 +40,15 @@ keep-marks-requires : tie.Need-keep-marks-requires
 keep-marks-requires c κs =
     let d = c .before .before .before .before .before .before .before .before .before .before .before .before .before .before .before .before .before .before .before .before .before .before .before .before .before .before .before .before .before .before .before .before .before in
     let found = c .before .before .before .before .before .before .before .before .before .before .before .before .find-frame .ensures in (
-      mark-asked _ _ _ (d .before .before .before .before .before .before .before .before .before .before .before .before .before .before .before .pre .1) _ (d .before .before .before .before .before .region-of .ensures ∙ ap (regionOf (d .before .before .before .before .before .before .before .before .before .before .before .before .before .before .before .args .p)) (d .before .before .before .before .before .before .cluster-of .ensures)) _ (d .plan-of .ensures _ _ _ (d .before .before .before .before .before .before .before .before .before .before .before .before .before .before .before .pre .0)) _ _ _ _ _ _ _ _ _ (c .before .before .before .before .before .before .before .before .before .before .before .before .before .before .before .before .before .before .before .before .before .before .before .before .before .before .make-room .ensures _ (d .before .before .before .before .before .before .before .before .before .before .before .before .before .before .before .pre .0)) _ (marks-long _ _ _ (d .before .before .before .before .before .before .before .before .before .before .before .before .before .before .before .pre .1) _ (d .before .before .before .before .before .before .before .before .before .before .before .before .before .before .before .pre .0)),
-      old-asked _ _ _ (d .before .before .before .before .before .before .before .before .before .before .before .before .before .before .before .pre .1) _ (d .before .before .before .before .before .region-of .ensures ∙ ap (regionOf (d .before .before .before .before .before .before .before .before .before .before .before .before .before .before .before .args .p)) (d .before .before .before .before .before .before .cluster-of .ensures)) _ (d .plan-of .ensures _ _ _ (d .before .before .before .before .before .before .before .before .before .before .before .before .before .before .before .pre .0)) _ _ _ _ _ _ _ _ _ (c .before .before .before .before .before .before .before .before .before .before .before .before .before .before .before .before .before .before .before .before .before .before .before .before .before .before .make-room .ensures _ (d .before .before .before .before .before .before .before .before .before .before .before .before .before .before .before .pre .0)) _ _ (d .before .before .before .before .before .before .cluster-of .ensures) _ _ _ (found .0) (found .1) _ (marks-long _ _ _ (d .before .before .before .before .before .before .before .before .before .before .before .before .before .before .before .pre .1) _ (d .before .before .before .before .before .before .before .before .before .before .before .before .before .before .before .pre .0)),
+      mark-asked _ _ _ (d .before .before .before .before .before .before .before .before .before .before .before .before .before .before .before .pre) _ (d .before .before .before .before .before .region-of .ensures ∙ ap (regionOf (d .before .before .before .before .before .before .before .before .before .before .before .before .before .before .before .args .p)) (d .before .before .before .before .before .before .cluster-of .ensures)) _ (d .plan-of .ensures) _ _ _ _ _ _ _ _ _ (c .before .before .before .before .before .before .before .before .before .before .before .before .before .before .before .before .before .before .before .before .before .before .before .before .before .before .make-room .ensures),
+      old-asked _ _ _ (d .before .before .before .before .before .before .before .before .before .before .before .before .before .before .before .pre) _ (d .before .before .before .before .before .region-of .ensures ∙ ap (regionOf (d .before .before .before .before .before .before .before .before .before .before .before .before .before .before .before .args .p)) (d .before .before .before .before .before .before .cluster-of .ensures)) _ (d .plan-of .ensures) _ _ _ _ _ _ _ _ _ (c .before .before .before .before .before .before .before .before .before .before .before .before .before .before .before .before .before .before .before .before .before .before .before .before .before .before .make-room .ensures) _ _ (d .before .before .before .before .before .before .cluster-of .ensures) _ _ _ (found .0) (found .1),
     )
 
 answered-requires : tie.Need-answered-requires
 answered-requires c κs =
     let d = c .before .before .before .before .before .before .before .before .before .before .before .before .before .before .before .before .before .before .before .before .before .before .before .before .before .before .before .before .before .before .before .before .before .before .before .before in (
-      alpha-few _ _ _ (d .before .before .before .before .before .before .before .before .before .before .before .before .before .before .before .pre .1),
-      copied-few _ _ _ (d .before .before .before .before .before .before .before .before .before .before .before .before .before .before .before .pre .1) _ (d .before .before .before .before .before .region-of .ensures ∙ ap (regionOf (d .before .before .before .before .before .before .before .before .before .before .before .before .before .before .before .args .p)) (d .before .before .before .before .before .before .cluster-of .ensures)) _ (d .plan-of .ensures _ _ _ (d .before .before .before .before .before .before .before .before .before .before .before .before .before .before .before .pre .0)) _ _ _ _ _ _ _ _ _ (c .before .before .before .before .before .before .before .before .before .before .before .before .before .before .before .before .before .before .before .before .before .before .before .before .before .before .before .before .before .make-room .ensures _ (d .before .before .before .before .before .before .before .before .before .before .before .before .before .before .before .pre .0)),
+      alpha-few _ _ _ (d .before .before .before .before .before .before .before .before .before .before .before .before .before .before .before .pre),
+      copied-few _ _ _ (d .before .before .before .before .before .before .before .before .before .before .before .before .before .before .before .pre) _ (d .before .before .before .before .before .region-of .ensures ∙ ap (regionOf (d .before .before .before .before .before .before .before .before .before .before .before .before .before .before .before .args .p)) (d .before .before .before .before .before .before .cluster-of .ensures)) _ (d .plan-of .ensures) _ _ _ _ _ _ _ _ _ (c .before .before .before .before .before .before .before .before .before .before .before .before .before .before .before .before .before .before .before .before .before .before .before .before .before .before .before .before .before .make-room .ensures),
     )
 
 -- each lent slice comes back as long as it was
@@ -77,11 +77,9 @@ same-length-7 c = c .before .before .marks .given
 returns : tie.Need-returns
 returns c =
     let d = c .before .before .before .before .before .before .before .before .before .before .before .before .before .before .before .before .before .before .before .before .before .before .before .before .before .before .before .before .before .before .before .before .before .before .before .before .before in
-    let found = c .before .before .before .before .before .before .before .before .before .before .before .before .before .before .before .before .find-frame .ensures in (
-      gives _ _ _ (d .before .before .before .before .before .before .before .before .before .before .before .before .before .before .before .pre .1) _ (d .before .before .before .before .before .region-of .ensures ∙ ap (regionOf (d .before .before .before .before .before .before .before .before .before .before .before .before .before .before .before .args .p)) (d .before .before .before .before .before .before .cluster-of .ensures)) _ (d .plan-of .ensures _ _ _ (d .before .before .before .before .before .before .before .before .before .before .before .before .before .before .before .pre .0)) _ _ _ _ _ _ _ _ _ (c .before .before .before .before .before .before .before .before .before .before .before .before .before .before .before .before .before .before .before .before .before .before .before .before .before .before .before .before .before .before .make-room .ensures _ (d .before .before .before .before .before .before .before .before .before .before .before .before .before .before .before .pre .0))
-          _ _ _ _ (c .before .before .before .before .before .before .before .before .before .before .before .put-cluster .ensures) (c .answered .ensures),
-      marks-kept _ _ _ (d .before .before .before .before .before .before .before .before .before .before .before .before .before .before .before .pre .1) _ (d .before .before .before .before .before .region-of .ensures ∙ ap (regionOf (d .before .before .before .before .before .before .before .before .before .before .before .before .before .before .before .args .p)) (d .before .before .before .before .before .before .cluster-of .ensures)) _ (d .plan-of .ensures _ _ _ (d .before .before .before .before .before .before .before .before .before .before .before .before .before .before .before .pre .0)) _ _ _ _ _ _ _ _ _ (c .before .before .before .before .before .before .before .before .before .before .before .before .before .before .before .before .before .before .before .before .before .before .before .before .before .before .before .before .before .before .make-room .ensures _ (d .before .before .before .before .before .before .before .before .before .before .before .before .before .before .before .pre .0)) _ _ (d .before .before .before .before .before .before .cluster-of .ensures) _ _ _ (found .0) (found .1) _ _ (d .before .before .before .before .before .before .before .before .before .before .before .before .before .before .before .pre .0) (c .before .before .before .keep-marks .ensures),
-    )
+    let found = c .before .before .before .before .before .before .before .before .before .before .before .before .before .before .before .before .find-frame .ensures in
+    gives _ _ _ (d .before .before .before .before .before .before .before .before .before .before .before .before .before .before .before .pre) _ (d .before .before .before .before .before .region-of .ensures ∙ ap (regionOf (d .before .before .before .before .before .before .before .before .before .before .before .before .before .before .before .args .p)) (d .before .before .before .before .before .before .cluster-of .ensures)) _ (d .plan-of .ensures) _ _ _ _ _ _ _ _ _ (c .before .before .before .before .before .before .before .before .before .before .before .before .before .before .before .before .before .before .before .before .before .before .before .before .before .before .before .before .before .before .make-room .ensures)
+    _ _ (d .before .before .before .before .before .before .cluster-of .ensures) _ _ _ (found .0) (found .1) _ _ _ _ _ (c .before .before .before .before .before .before .before .before .before .before .before .put-cluster .ensures) (c .before .before .before .keep-marks .ensures) (c .answered .ensures)
 
 pub write-orderly-spec : {M : Type 1} → statement M
 write-orderly-spec =

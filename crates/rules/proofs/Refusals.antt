@@ -1,0 +1,14 @@
+-- The rows of each call give the numbers that the documents list, in their order.
+-- Assumes nothing.
+use mathlib.Core.Path.{refl}
+use Rattle.rules.specs.Requests.{format, queue, read, release, write}
+use Rattle.rules.specs.Replies.{accessRows, lentRows, orderRow, queueRows, rowsOf}
+use Rattle.rules.specs.Refusals.{RowsAsSaid, refusalsOf}
+
+pub rows-as-said : RowsAsSaid
+unfolding rowsOf lentRows accessRows orderRow queueRows refusalsOf
+rows-as-said p b format = refl
+rows-as-said p b (read q) = refl
+rows-as-said p b (write q) = refl
+rows-as-said p b (release c) = refl
+rows-as-said p b (queue l) = refl
