@@ -149,7 +149,7 @@ pub fn answer(
     }
 }
 
-// Formats the board, and prints the answer.
+// Formats the board, lent with its sixteen words of marks, and prints the answer.
 pub fn start(
     chip: &mut [u8],
     ct: &mut [u16],
@@ -159,6 +159,7 @@ pub fn start(
     wear: &mut [u32],
     marks: &mut [u64],
 )
+    requires { ⌜ length (now marks) ≡ 16 ⌝ }
     ensures { λ _. ⌜ Started (boardOf (now (chip .entry)) (now (ct .entry)) (now (bt .entry)) (now (fst .entry)) (now (bst .entry)) (now (wear .entry)) (now (marks .entry))) (boardOf (now (chip .exit)) (now (ct .exit)) (now (bt .exit)) (now (fst .exit)) (now (bst .exit)) (now (wear .exit)) (now (marks .exit))) ⌝ }
 {
     let a = layer::format(boardt::board(), chip, ct, bt, fst, bst, wear, marks);
