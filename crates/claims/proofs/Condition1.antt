@@ -28,9 +28,9 @@ use Rattle.rules.proofs.Sizes.{Sizes, sizes}
 use Rattle.rules.proofs.TableFacts.{Tables, tables-in}
 use Rattle.rules.proofs.Totals.{blocks-total, used-total}
 use Rattle.rules.proofs.Views.{free-block}
-use Rattle.rules.proofs.WritePromise.{erasesOf, makes, write-promise}
+use Rattle.rules.proofs.WritePromise.{makes, write-promise}
 use Rattle.claims.specs.Runs.{boardAfter, leaves, sectorAt}
-use Rattle.claims.specs.Conditions.{Condition1, Formats, Frees, InOrder, Reads, Serves, Unchanged, Writes, assignedBlocks, blocksOf, planErases, takesBlock}
+use Rattle.claims.specs.Conditions.{Condition1, Formats, Frees, InOrder, Reads, Serves, Unchanged, Writes, assignedBlocks, blocksOf, takesBlock}
 use Rattle.claims.proofs.Kept.{accepted-orderly, after-orderly}
 use Rattle.claims.proofs.Memory.{freed, read-agrees, stored}
 use Rattle.claims.proofs.Freed.{none-copied}
@@ -74,12 +74,6 @@ takes-free p b z t r (continues v f) e = absurd (false≢true e)
 takes-free p b z t r (opens v) e = free-block p z b t
 takes-free p b z t r (reclaims v) e = free-block p z b t
 
-erases-same : (pl : Plan) → erasesOf pl ≡ planErases pl
-unfolding erasesOf planErases
-erases-same (continues v f) = refl
-erases-same (opens v) = refl
-erases-same (reclaims v) = refl
-
 write-writes : (p : Params) (b : Board) (q : Request) → replyOf p b (write q) ≡ Accepted
     → Writes p b q (requestRegion p q) (planOf p (view p b (requestRegion p q))) (outcomeOf p b (write q))
 unfolding answerOf
@@ -96,7 +90,7 @@ write-writes p b q e =
       stores = stored p b q e;
       programs = w .programs;
       most = w .bounded .0;
-      erases = w .erases ∙ erases-same _;
+      erases = w .erases;
     })
 
 -- ---- the others

@@ -27,7 +27,7 @@ use Rattle.rules.specs.Pages.{bytes32, filled, frame, held, page, programmed, s
 use Rattle.rules.specs.Regions.{assigned, valid, validFrames, view}
 use Rattle.rules.specs.Traces.{erase, frameOps, framesOps, program}
 use Rattle.rules.specs.Format.{bad, formatOps}
-use Rattle.rules.specs.Write.{Plan, continues, copies, eraseOps, hasRoom, lowestUnassigned, newFrame, opens, planBlock, planFrame, planOf, planOps, planVBlock, reclaims, roomOps, writeOps}
+use Rattle.rules.specs.Write.{planErases, Plan, continues, copies, eraseOps, hasRoom, lowestUnassigned, newFrame, opens, planBlock, planFrame, planOf, planOps, planVBlock, reclaims, roomOps, writeOps}
 use Rattle.rules.specs.Replies.{replyOf}
 use Rattle.rules.specs.Requests.{Request, write, requestCluster, requestRegion}
 use Rattle.rules.proofs.Admitted.{admitted, write-checks}
@@ -41,7 +41,7 @@ use Rattle.rules.proofs.Sizes.{Sizes}
 use Rattle.rules.proofs.TableFacts.{Tables}
 use Rattle.rules.proofs.Victims.{Valid, valid-in}
 use Rattle.rules.proofs.Views.{block-low, body-size, has-block}
-use Rattle.rules.proofs.WritePromise.{erasesOf, makes}
+use Rattle.rules.proofs.WritePromise.{makes}
 use Rattle.claims.proofs.Once.{AllFit, Fits, fit-append, fit-join}
 
 -- ---- a format erases blocks of the chip
@@ -126,8 +126,8 @@ module _ (p : Params) (z : Sizes p) (b : Board) (t : Tables p b) (r : ℕ) (regi
   unfolding planOf lowestUnassigned
   all-assigned v e u h = go (so (hasRoom p (view p b r))) (so (eqb (lowestUnassigned p (view p b r)) none)) e
     where
-      other : (pl : Plan) → pl ≡ reclaims v → erasesOf pl ≡ 0 → ⊥
-      other pl i k = let one : erasesOf (reclaims v) ≡ 1 = unfold erasesOf in refl in omega (arith, sym (ap erasesOf i) ∙ k)
+      other : (pl : Plan) → pl ≡ reclaims v → planErases pl ≡ 0 → ⊥
+      other pl i k = let one : planErases (reclaims v) ≡ 1 = unfold planErases in refl in omega (arith, sym (ap planErases i) ∙ k)
 
       found : ((lowestUnassigned p (view p b r) ≡ none) × ((i : ℕ) → i < p .gamma → not (assigned (view p b r) i) ≡ false))
           ⊎ ((lowestUnassigned p (view p b r) < p .gamma) × (not (assigned (view p b r) (lowestUnassigned p (view p b r))) ≡ true)) → lowestUnassigned p (view p b r) ≡ none → assigned (view p b r) u ≡ true
@@ -136,8 +136,8 @@ module _ (p : Params) (z : Sizes p) (b : Board) (t : Tables p b) (r : ℕ) (regi
 
       go : (hasRoom p (view p b r) ≡ true) ⊎ (hasRoom p (view p b r) ≡ false) → (eqb (lowestUnassigned p (view p b r)) none ≡ true) ⊎ (eqb (lowestUnassigned p (view p b r)) none ≡ false)
           → planOf p (view p b r) ≡ reclaims v → assigned (view p b r) u ≡ true
-      go (inl a) s k = absurd (other _ (rw a at k) (unfold erasesOf in refl))
-      go (inr a) (inr s) k = absurd (other _ (rw (a, s) at k) (unfold erasesOf in refl))
+      go (inl a) s k = absurd (other _ (rw a at k) (unfold planErases in refl))
+      go (inr a) (inr s) k = absurd (other _ (rw (a, s) at k) (unfold planErases in refl))
       go (inr a) (inl s) k = found (first-spec none (p .gamma) (λ v. not (assigned (view p b r) v)) (omega (arith, z .gammaHigh))) (eqb-true _ _ s)
 
   room-fits : (pl : Plan) → planOf p (view p b r) ≡ pl → Makes p b r pl → AllFit p (roomOps p b r pl)

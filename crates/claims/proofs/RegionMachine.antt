@@ -19,13 +19,13 @@ use Rattle.rules.specs.Tables.{Board}
 use Rattle.rules.specs.Regions.{View, sector, sectorIn, view}
 use Rattle.rules.specs.Traces.{erasesIn, programsIn}
 use Rattle.rules.specs.Requests.{Call, Request, format, lent, queue, read, release, requestCluster, requestRegion, write}
-use Rattle.rules.specs.Write.{copies, planOf}
+use Rattle.rules.specs.Write.{planErases, copies, planOf}
 use Rattle.rules.specs.Machine.{viewAfter, without}
 use Rattle.rules.specs.Replies.{OrderlyBoard, isAccepted, replyOf}
 use Rattle.rules.specs.Calls.{Outcome, Part, answerOf, outcomeOf, readBytes}
 use Rattle.rules.proofs.Outcomes.{call-refused, read-accepted, release-accepted, reply-cases, write-accepted}
 use Rattle.rules.proofs.Releases.{released-else, released-view}
-use Rattle.rules.proofs.WritePromise.{erasesOf, write-promise}
+use Rattle.rules.proofs.WritePromise.{write-promise}
 use Rattle.claims.specs.Runs.{Told, boardAfter, isFormat, leaves, noFormat, partsOf, partsTo, requestsTo, toRegion, toldTo}
 use Rattle.claims.proofs.Kept.{clusterReply, orderly-kept, orderly-read, orderly-release, orderly-write, requestReply}
 use Rattle.claims.proofs.Singles.{AllSingle, Single, refused-leaves}
@@ -49,7 +49,7 @@ answerBy p vw (read q) =
     (tells (requestReply p q) 0 0 (q .bytes))
 answerBy p vw (write q) =
     cond (isAccepted (requestReply p q))
-    (tells Accepted (p .alpha * (length (copies p vw (planOf p vw)) + 1)) (erasesOf (planOf p vw)) (q .bytes))
+    (tells Accepted (p .alpha * (length (copies p vw (planOf p vw)) + 1)) (planErases (planOf p vw)) (q .bytes))
     (tells (requestReply p q) 0 0 (q .bytes))
 answerBy p vw (release c) = tells (clusterReply p c) 0 0 []
 answerBy p vw (queue l) = tells Accepted 0 0 []
@@ -90,7 +90,7 @@ module _ (p : Params) (b : Board) (ordered : OrderlyBoard p b) where
       go (inr e) = rw e (refused-told (read q) (requestReply p q) e reply ∙ unfold lent in refl)
 
   written-told : (q : Request) → replyOf p b (write q) ≡ Accepted
-      → told (outcomeOf p b (write q)) ≡ tells Accepted (p .alpha * (length (copies p (view p b (requestRegion p q)) (planOf p (view p b (requestRegion p q)))) + 1)) (erasesOf (planOf p (view p b (requestRegion p q)))) (q .bytes)
+      → told (outcomeOf p b (write q)) ≡ tells Accepted (p .alpha * (length (copies p (view p b (requestRegion p q)) (planOf p (view p b (requestRegion p q)))) + 1)) (planErases (planOf p (view p b (requestRegion p q)))) (q .bytes)
   unfolding told answerOf tells
   written-told q e =
       let w = write-promise p b q e in

@@ -20,7 +20,7 @@ use Rattle.rules.specs.Regions.{view}
 use Rattle.rules.specs.Traces.{replayChip, replayWear, clean}
 use Rattle.rules.specs.Requests.{Request, requestRegion, Queue, Call, format, read, write, release, queue, lent, lentAnswers}
 use Rattle.rules.specs.Format.{goodBlocks}
-use Rattle.rules.specs.Write.{Plan, continues, opens, reclaims, planOf, planFrame, planBlock, copies}
+use Rattle.rules.specs.Write.{Plan, continues, opens, reclaims, planOf, planErases, planFrame, planBlock, copies}
 use Rattle.rules.specs.Replies.{OrderlyBoard, Row, replyOf, rowsOf}
 use Rattle.rules.specs.Calls.{Outcome, outcomeOf}
 use Rattle.claims.specs.Runs.{Memory, boardAfter, cleared, given, leaves, memoryAfter, noFormat, noPageTwice, partsOf, requestsTo, sectorAt, toldTo, traceOf}
@@ -74,16 +74,11 @@ pub record Reads (p : Params) (b : Board) (q : Request) (o : Outcome) : Type 0 w
   pub bytes : o .bytes ≡ joinBelow (q .count) (λ i. sectorAt p b (q .lba + i))
   pub counts : Idle (o .answer)
 
--- the plan takes a free block; 1 if it reclaims, else 0
+-- the plan takes a free block
 unfoldable pub takesBlock : Plan → Bool
 takesBlock (continues v f) = false
 takesBlock (opens v) = true
 takesBlock (reclaims v) = true
-
-unfoldable pub planErases : Plan → ℕ
-planErases (continues v f) = 0
-planErases (opens v) = 0
-planErases (reclaims v) = 1
 
 -- a write of this request by its plan for region r. "never refused for want of room": a block that it takes is there and free, and the frame that it
 -- writes is one of the block's, also after the copies of a reclaim; it does store: each LBA of the request then reads as given, and every other of the
@@ -108,7 +103,7 @@ pub record Frees (p : Params) (b : Board) (c : ℕ) (o : Outcome) : Type 0 where
   pub room : (v : ℕ) → v < p .gamma → noneHolds p c (copies p (view p (o .board) (regionOf p c)) (reclaims v)) ≡ true
   pub counts : Idle (o .answer)
 
--- T-01: "the call itself answers 0 with counts 0"; its data is as lent, the list keeps its length, and "Answers past the last item stay as lent"
+-- T-01: the call's own counts are 0, refused or not; its data is as lent, the list keeps its length, and "Answers past the last item stay as lent"
 pub record Serves (l : Queue) (o : Outcome) : Type 0 where
   pub counts : Idle (o .answer)
   pub bytes : o .bytes ≡ l .bytes

@@ -14,7 +14,7 @@ use Rattle.rules.specs.declared.Answer.{Answer}
 use Rattle.rules.specs.declared.Item.{Item}
 use Rattle.rules.specs.Tables.{Board}
 use Rattle.rules.specs.Orderly.{orderly}
-use Rattle.rules.specs.Requests.{Request, itemRequest, lies, write}
+use Rattle.rules.specs.Requests.{Request, itemRequest, lies, write, requestOf}
 use Rattle.rules.specs.Replies.{badCount, isAccepted, lengthsFit, numberOf, replyOf, wrongData}
 use Rattle.rules.specs.Calls.{Outcome, answerOf, outcomeOf}
 use Rattle.rules.proofs.Admitted.{Checks, write-checks}
@@ -22,7 +22,6 @@ use Rattle.rules.proofs.ItemData.{item-data}
 use Rattle.rules.proofs.Outcomes.{accepted-by, call-refused, is-refused, write-accepted}
 use Rattle.rules.proofs.WritePromise.{write-promise}
 use Rattle.queued.specs.Served.{itemOutcome}
-use Rattle.reading.specs.Sectors.{requestOf}
 use Rattle.ends.specs.Claims.{outcome}
 use Rattle.heads.specs.Heads.{Ready}
 use Rattle.items.specs.Items.{ItemIs}

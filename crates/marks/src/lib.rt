@@ -1,1 +1,1 @@
-// Document 02, T-06: the table of marks and the calls that keep it (specs/), and what each step makes of the marks (proofs/); no code.
+// Document 02, T-06: what the marks say (specs/), and what each step makes of the table of marks (specs/Kept, proofs/); no code.

@@ -3,7 +3,7 @@ ghost use mathlib.Core.List.{[]};
 ghost use Rattle.rules.specs.Numbers.{clusterOf};
 ghost use Rattle.rules.specs.Tables.{boardOf};
 ghost use Rattle.reading.specs.Lookup.{Stands};
-ghost use Rattle.reading.specs.Sectors.{requestOf};
+ghost use Rattle.rules.specs.Requests.{requestOf};
 ghost use Rattle.placing.specs.Clusters.{Standing, ClusterPut};
 use reading::Found;
 use rules::Params;

@@ -1,6 +1,6 @@
 -- From the queue as its loop goes, `servedFrom`, to the queue as the rules say it, `outcomeOf`.
 --     one-answered   the first of the items that are left is served, its answer in its place
---     fold-is        with the head's reply and its count of items, the itself call
+--     fold-is        with the head's reply and its count of items, the whole call
 -- Assumes nothing.
 use mathlib.Core.Path.{_≡_, refl, sym, _∙_, ap, subst}
 use mathlib.Core.Logic.{_⊎_, inl, inr}

@@ -12,12 +12,12 @@ use Rattle.rules.specs.Numbers.{clusterOf, sectorOf, regionOf}
 use Rattle.rules.specs.Tables.{Board, boardOf}
 use Rattle.rules.specs.Regions.{view, sector}
 use Rattle.rules.specs.Calls.{readBytes}
-use Rattle.rules.specs.Requests.{Request, requestCluster}
+use Rattle.rules.specs.Requests.{Request, requestCluster, requestOf}
 use Rattle.rules.proofs.RegionFacts.{neat}
 use Rattle.rules.proofs.Admitted.{Admitted}
 use Rattle.lists.proofs.Joins.{join-cong}
 use Rattle.reading.specs.Lookup.{Lookup, Stands}
-use Rattle.reading.specs.Sectors.{sectorFrom, RunAsked, ReadAsked, requestOf}
+use Rattle.reading.specs.Sectors.{sectorFrom, RunAsked, ReadAsked}
 use Rattle.reading.proofs.Views.{lookup-of, source, sector-same}
 
 -- ---- an accepted read

@@ -39,10 +39,6 @@ pub record RunAsked (p : Params) (chip : List ℕ) (kept : Bool) (frame j count 
   pub inside : j + count ≤ p .alpha
   pub size : length bytes ≡ count * p .s
 
--- a request, with the lent data as it is at entry
-abbrev pub requestOf : ℕ → ℕ → List ℕ → Request
-requestOf lba count bytes = record { lba = lba; count = count; bytes = bytes }
-
 -- what a read asks: its sectors lie in one cluster, which can be looked up, and have their place in the lent data
 pub record ReadAsked (p : Params) (chip ct bt : List ℕ) (lba count : ℕ) (bytes : List ℕ) : Type 0 where
   pub lookup : Lookup p chip ct bt (clusterOf p lba)

@@ -24,7 +24,7 @@ use Rattle.rules.specs.Pages.{filled, frame, page}
 use Rattle.rules.specs.Regions.{View, assigned, sector, validFrames, view}
 use Rattle.rules.specs.Orderly.{orderly}
 use Rattle.rules.specs.Traces.{Op, clean, erasesIn, frameOps, framesOps, isErase, program, programsIn}
-use Rattle.rules.specs.Write.{Plan, continues, copies, eraseOps, hasRoom, lowestUnassigned, newFrame, opens, planBlock, planFrame, planOf, planOps, reclaims, roomOps, victim, writeOps, written, writtenBy}
+use Rattle.rules.specs.Write.{Plan, planErases, continues, copies, eraseOps, hasRoom, lowestUnassigned, newFrame, opens, planBlock, planFrame, planOf, planOps, reclaims, roomOps, victim, writeOps, written, writtenBy}
 use Rattle.rules.specs.Replies.{lengthsFit, replyOf}
 use Rattle.rules.specs.Requests.{Request, write, requestCluster, requestRegion}
 use Rattle.rules.specs.Machine.{viewAfter}
@@ -37,7 +37,7 @@ use Rattle.rules.proofs.RegionFacts.{Neat, neat}
 use Rattle.rules.proofs.TableFacts.{Tables, lengths-out}
 use Rattle.rules.proofs.Victims.{victim-room}
 use Rattle.rules.proofs.Views.{body-size}
-use Rattle.rules.proofs.Writes.{others-same, own-is, reads-else, reads-given, reads-rest, tables-after, write-clean, write-orderly, written-marks}
+use Rattle.rules.proofs.Writes.{others-same, own-is, reads-else, reads-given, reads-rest, tables-after, write-clean, write-orderly, write-marks}
 
 -- ---- every plan makes room
 
@@ -119,20 +119,14 @@ frames-programs p n to (x ∷ xs) =
     let a = frame-programs p n to x (p .alpha) in
     (programs-append (frameOps p n to x (p .alpha)) _ ∙ rw (a .0, w .0) (omega arith), erases-append (frameOps p n to x (p .alpha)) _ ∙ rw (a .1, w .1))
 
--- 1 if the plan reclaims
-unfoldable pub erasesOf : Plan → ℕ
-erasesOf (continues v f) = 0
-erasesOf (opens v) = 0
-erasesOf (reclaims v) = 1
-
-pub erase-counts : (p : Params) (b : Board) (r : ℕ) (pl : Plan) → (programsIn (eraseOps p b r pl) ≡ 0) × (erasesIn (eraseOps p b r pl) ≡ erasesOf pl)
-unfolding eraseOps programsIn erasesIn isErase erasesOf
+pub erase-counts : (p : Params) (b : Board) (r : ℕ) (pl : Plan) → (programsIn (eraseOps p b r pl) ≡ 0) × (erasesIn (eraseOps p b r pl) ≡ planErases pl)
+unfolding eraseOps programsIn erasesIn isErase planErases
 erase-counts p b r (continues v f) = (refl, refl)
 erase-counts p b r (opens v) = (refl, refl)
 erase-counts p b r (reclaims v) = (refl, refl)
 
 pub counts : (p : Params) (b : Board) (r : ℕ) (q : Request) (pl : Plan)
-    → (programsIn (planOps p b r q pl) ≡ p .alpha * (length (copies p (view p b r) pl) + 1)) × (erasesIn (planOps p b r q pl) ≡ erasesOf pl)
+    → (programsIn (planOps p b r q pl) ≡ p .alpha * (length (copies p (view p b r) pl) + 1)) × (erasesIn (planOps p b r q pl) ≡ planErases pl)
 unfolding planOps roomOps
 counts p b r q pl =
     let a = frames-programs p (planBlock p b r pl) 0 (copies p (view p b r) pl) in
@@ -152,8 +146,8 @@ bound p vw pl h =
     let k : length (copies p vw pl) + 1 ≤ frames p = omega (arith, copies-few p vw pl) in
     mul-le-mul (le-refl (p .alpha)) k
 
-one-erase : (pl : Plan) → erasesOf pl ≤ 1
-unfolding erasesOf
+one-erase : (pl : Plan) → planErases pl ≤ 1
+unfolding planErases
 one-erase (continues v f) = omega arith
 one-erase (opens v) = omega arith
 one-erase (reclaims v) = omega arith
@@ -175,7 +169,7 @@ pub record Promise (p : Params) (b : Board) (q : Request) (b′ : Board) : Type 
   pub own : view p b′ (requestRegion p q) ≡ viewAfter p (view p b (requestRegion p q)) q
   pub programs : programsIn (writeOps p b q) ≡ p .alpha * (length (copies p (view p b (requestRegion p q)) (planOf p (view p b (requestRegion p q)))) + 1)
   pub bounded : (programsIn (writeOps p b q) ≤ pages p) × (erasesIn (writeOps p b q) ≤ 1)
-  pub erases : erasesIn (writeOps p b q) ≡ erasesOf (planOf p (view p b (requestRegion p q)))
+  pub erases : erasesIn (writeOps p b q) ≡ planErases (planOf p (view p b (requestRegion p q)))
 
 pub write-promise : (p : Params) (b : Board) (q : Request) → replyOf p b (write q) ≡ Accepted → Promise p b q (written p b q)
 unfolding written writeOps viewAfter
@@ -187,7 +181,7 @@ write-promise p b q e =
     let m : Makes p b r pl = makes p (acc .sized) b (acc .tables) r low (neat p r (view p b r) (acc .tidy r low)) in
     record {
       orderlyLeft = write-orderly p b q acc r refl pl m;
-      lengths = lengths-out p (writtenBy p b r q pl) (tables-after p b q acc r refl pl m) (written-marks p b r q pl);
+      lengths = lengths-out p (writtenBy p b r q pl) (tables-after p b q acc r refl pl m) (write-marks p b r q pl);
       given = reads-given p b q acc r refl pl m;
       rest = reads-rest p b q acc r refl pl m;
       others = reads-else p b q acc r refl pl m;

@@ -44,9 +44,9 @@ wear-length wear (program n q x ∷ os) = wear-length wear os
 wear-length wear (erase n ∷ os) = wear-length (set wear n _) os ∙ length-set wear n _
 
 -- the marks that a write leaves are those of the board that it leaves
-pub written-marks : (p : Params) (b : Board) (r : ℕ) (q : Request) (pl : Plan) → (writtenBy p b r q pl) .marks ≡ marksOf p (writtenBy p b r q pl)
+pub write-marks : (p : Params) (b : Board) (r : ℕ) (q : Request) (pl : Plan) → (writtenBy p b r q pl) .marks ≡ marksOf p (writtenBy p b r q pl)
 unfolding writtenBy
-written-marks p b r q pl = refl
+write-marks p b r q pl = refl
 
 -- ---- a write by a plan that makes room
 
@@ -175,7 +175,7 @@ module _ (p : Params) (b : Board) (q : Request) (acc : Admitted p b q) (r : ℕ)
   tables-after = tables-kept p (acc .sized) b (writtenBy p b r q pl) (acc .tables) _ _ change
 
   pub write-orderly : orderly p (writtenBy p b r q pl) ≡ true
-  write-orderly = orderly-all p (writtenBy p b r q pl) (acc .sized) tables-after (λ r′ h. go r′ h (ℕ-discrete r′ r)) (written-marks p b r q pl)
+  write-orderly = orderly-all p (writtenBy p b r q pl) (acc .sized) tables-after (λ r′ h. go r′ h (ℕ-discrete r′ r)) (write-marks p b r q pl)
     where
       go : (r′ : ℕ) → r′ < p .mu → Dec (r′ ≡ r) → regionOrderly p r′ (view p (writtenBy p b r q pl) r′) ≡ true
       go r′ h (yes e) = rw (e, own-is) (put-orderly p (acc .sized) r (withRoom p (view p b r) pl) (planVBlock pl) (planFrame p (view p b r) pl) (requestCluster p q) (newFrame p (view p b r) q) (makes .base) sheet (acc .asked .cluster) is)

@@ -104,10 +104,10 @@ unfoldable pub after : ℕ → Board
 after k = boardFrom (blankT 5 0 255) (take (k + 1) (format ∷ inputT))
 
 -- 0, 1 or 2 for a plan that continues, opens or reclaims, and its virtual block
-unfoldable pub planNumbers : Plan → List ℕ
-planNumbers (continues v f) = 0 ∷ v ∷ []
-planNumbers (opens v) = 1 ∷ v ∷ []
-planNumbers (reclaims v) = 2 ∷ v ∷ []
+unfoldable pub plannedT : Plan → List ℕ
+plannedT (continues v f) = 0 ∷ v ∷ []
+plannedT (opens v) = 1 ∷ v ∷ []
+plannedT (reclaims v) = 2 ∷ v ∷ []
 
 -- the number of a reply to a format, and to a read of count sectors from an LBA on, on Board T just formatted
 unfoldable pub formatsT : Params → Board → ℕ
@@ -119,7 +119,7 @@ readsT p lba count = numberOf (replyOf p (after 0) (R lba count))
 -- the write after k calls: its region; its plan; the block of virtual block 0 of region 0 before it and after it
 unfoldable pub reclaimAfter : ℕ → Request → List ℕ
 reclaimAfter k q =
-    requestRegion boardT q ∷ planNumbers (planOf boardT (view boardT (after k) 0))
+    requestRegion boardT q ∷ plannedT (planOf boardT (view boardT (after k) 0))
     ++ (btAt boardT ((after k) .bt) 0 0 ∷ btAt boardT ((after (k + 1)) .bt) 0 0 ∷ [])
 
 -- (j)'s "α=4, μ=512, d=2", the others at will

@@ -16,6 +16,10 @@ pub record Request : Type 0 where
   pub count : ℕ
   pub bytes : List ℕ
 
+-- as it is lent
+abbrev pub requestOf : ℕ → ℕ → List ℕ → Request
+requestOf lba count bytes = record { lba = lba; count = count; bytes = bytes }
+
 abbrev pub requestCluster : Params → Request → ℕ
 requestCluster p q = clusterOf p (q .lba)
 

@@ -1,5 +1,6 @@
 -- What a call does to the chip, as a trace: page programs and block erases in their order. The chip and the wear after a call are the trace's
--- replay, what the call reports is counted on it, and the board that it leaves is that replay with the tables that the call decides.
+-- replay, what the call reports is counted on it, and the board that it leaves is that
+-- replay with the tables that the call decides and the marks of all these.
 -- Assumes nothing.
 use Prim.Native.Nat.{ℕ, suc, _+_, _*_, min}
 use mathlib.Core.Bool.{Bool, true, false, _&&_, cond}

@@ -64,6 +64,12 @@ planFrame p vw (continues v f) = f
 planFrame p vw (opens v) = 0
 planFrame p vw (reclaims v) = length (validFrames p vw v)
 
+-- "1 erase if it reclaimed, else 0"
+unfoldable pub planErases : Plan → ℕ
+planErases (continues v f) = 0
+planErases (opens v) = 0
+planErases (reclaims v) = 1
+
 -- ---- the new cluster
 
 -- "The new cluster is the old one (all 255 if CT has none) with the given sectors replaced": its sector j, its page j, its frame

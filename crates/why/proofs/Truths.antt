@@ -20,7 +20,7 @@ use Rattle.rules.specs.Regions.{View, validFrames, view, viewOf}
 use Rattle.rules.specs.Replies.{OrderlyBoard, isAccepted, numberOf, replyOf, whyReply}
 use Rattle.rules.specs.Requests.{Request, requestRegion, write}
 use Rattle.rules.specs.Tables.{Board, btAt, ctAt, none}
-use Rattle.rules.specs.Write.{Plan, continues, copies, opens, planFrame, planOf, planVBlock, reclaims}
+use Rattle.rules.specs.Write.{planErases, Plan, continues, copies, opens, planFrame, planOf, planVBlock, reclaims}
 use Rattle.rules.proofs.Admitted.{orderly-region}
 use Rattle.rules.proofs.Outcomes.{write-accepted}
 use Rattle.rules.proofs.RegionFacts.{Entry, neat}
@@ -28,7 +28,7 @@ use Rattle.rules.proofs.Sizes.{Sizes, sizes}
 use Rattle.rules.proofs.TableFacts.{Tables, tables-in}
 use Rattle.rules.proofs.ValidFrames.{named-valid}
 use Rattle.rules.proofs.Views.{block-low, body-some, has-block}
-use Rattle.rules.proofs.WritePromise.{erasesOf, write-promise}
+use Rattle.rules.proofs.WritePromise.{write-promise}
 use Rattle.broken.specs.Broken.{brokenRule, ruleNumber}
 use Rattle.broken.proofs.First.{broken-rule}
 use Rattle.why.specs.Truths.{ForecastTrue, HolderTrue, RuleTrue, forecastAt, holderAt, toldAt}
@@ -103,8 +103,8 @@ module _ (p : Params) (vw : View) where
   plan-copies (opens v) = refl
   plan-copies (reclaims v) = length-map (validFrames p vw v) _
 
-  plan-erases : (pl : Plan) → erasesOf pl ≡ cond (eqb (getD (planNumbers p vw pl) 0 0) 3) 1 0
-  unfolding erasesOf planNumbers
+  plan-erases : (pl : Plan) → planErases pl ≡ cond (eqb (getD (planNumbers p vw pl) 0 0) 3) 1 0
+  unfolding planErases planNumbers
   plan-erases (continues v f) = refl
   plan-erases (opens v) = refl
   plan-erases (reclaims v) = refl

@@ -36,7 +36,7 @@ use Rattle.rules.specs.Machine.{withRoom}
 use Rattle.rules.specs.Marks.{Marks, marksOf, marksOn, tableOf}
 use Rattle.rules.proofs.MarkFacts.{marks-long}
 use Rattle.rules.proofs.TableFacts.{marks-in}
-use Rattle.rules.proofs.Writes.{written-marks as made-marks}
+use Rattle.rules.proofs.Writes.{write-marks}
 use Rattle.rules.proofs.Outcomes.{write-accepted}
 use Rattle.marks.proofs.WrittenMarks.{written-marks}
 use Rattle.marking.specs.Asked.{MarkAsked}
@@ -291,7 +291,7 @@ module _ (p : Params) (b : Board) (q : Request) (e : replyOf p b (write q) ≡ A
           h (marksOn p b) marks-are
           ∙ ap (tableOf p) (kept-are (marksOn p b))
           ∙ sym (written-marks p b q e)
-          ∙ unfold written in sym (made-marks p b r q (planOf p vw))
+          ∙ unfold written in sym (write-marks p b r q (planOf p vw))
 
       pub gives : (chip ct fst marks : List ℕ) (a : Answer) → ClusterPut p (boardOf chip₁ ct₁ bt₁ (b .fst) [] [] []) q v f chip ct fst
           → ((m : Marks) → b .marks ≡ tableOf p m → marks ≡ tableOf p (keptMarks m r′ v f copied erases kept u g)) → a ≡ acceptedAnswer p copied erases

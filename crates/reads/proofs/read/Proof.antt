@@ -3,8 +3,7 @@
 use mathlib.Core.Path.{refl}
 use borrow.Author.Needs.{needs}
 use Rattle.rules.specs.Tables.{Board, boardOf}
-use Rattle.rules.specs.Requests.{Request, lent, lentAnswers, read}
-use Rattle.reading.specs.Sectors.{requestOf}
+use Rattle.rules.specs.Requests.{Request, lent, lentAnswers, read, requestOf}
 use Rattle.ends.proofs.Ends.{refused-by, reply-zero}
 use Rattle.reads.proofs.Call.{asked, read-done}
 use Rattle.reads.proofs.read.Statement.{statement}

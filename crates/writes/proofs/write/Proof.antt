@@ -3,8 +3,7 @@
 use mathlib.Core.Path.{refl}
 use borrow.Author.Needs.{needs}
 use Rattle.rules.specs.Tables.{Board, boardOf}
-use Rattle.rules.specs.Requests.{Request, lent, lentAnswers, write}
-use Rattle.reading.specs.Sectors.{requestOf}
+use Rattle.rules.specs.Requests.{Request, lent, lentAnswers, write, requestOf}
 use Rattle.ends.proofs.Ends.{refused-by, reply-zero}
 use Rattle.writes.proofs.write.Statement.{statement}
 use Rattle.writes.proofs.write.Tie as tie
