@@ -12,11 +12,12 @@ use Rattle.rules.specs.declared.Answer.{Answer}
 use Rattle.rules.specs.declared.Item.{Item}
 use Rattle.rules.specs.declared.Reply.the-variants.{Accepted}
 use Rattle.rules.specs.Numbers.{regionOf}
-use Rattle.rules.specs.Tables.{Board, bstAt}
+use Rattle.rules.specs.Tables.{Board, bstAt, ctAt, none}
 use Rattle.rules.specs.Regions.{view}
 use Rattle.rules.specs.Traces.{erasesIn, programsIn}
 use Rattle.rules.specs.Requests.{Call, Queue, Request, format, itemRequests, lent, lentAnswers, queue, read, release, requestCluster, requestRegion, write}
 use Rattle.rules.specs.Write.{Plan, continues, opens, planBlock, planOf, reclaims}
+use Rattle.rules.specs.Release.{released}
 use Rattle.rules.specs.Replies.{OrderlyBoard, isAccepted, replyOf}
 use Rattle.rules.specs.Calls.{Work, answerOf, answersIn, outcomeOf, over, workOf, writeAll, writeWork}
 use Rattle.rules.proofs.Admitted.{admitted, release-admitted, write-checks}
@@ -24,8 +25,9 @@ use Rattle.rules.proofs.Continues.{Makes}
 use Rattle.rules.proofs.FormatCounts.{format-counts}
 use Rattle.rules.proofs.Outcomes.{all-answer, all-bytes, all-lent, call-refused, is-refused, queue-accepted, read-accepted, release-accepted, reply-cases, reply-is, write-accepted}
 use Rattle.rules.proofs.RegionFacts.{neat}
+use Rattle.rules.proofs.Releases.{entry-none, release-same}
 use Rattle.rules.proofs.Sizes.{Sizes, sizes}
-use Rattle.rules.proofs.TableFacts.{Tables, tables-in}
+use Rattle.rules.proofs.TableFacts.{Tables, marks-in, tables-in}
 use Rattle.rules.proofs.Totals.{blocks-total, used-total}
 use Rattle.rules.proofs.Views.{free-block}
 use Rattle.rules.proofs.WritePromise.{makes, write-promise}
@@ -105,8 +107,16 @@ read-reads p b q e = rw (read-accepted p b q e) (record { board = refl; bytes = 
 release-frees : (p : Params) (b : Board) (c : ℕ) → replyOf p b (release c) ≡ Accepted → Frees p b c (outcomeOf p b (release c))
 unfolding answerOf programsIn erasesIn
 release-frees p b c e =
+    let a = release-admitted p b c e in
+    let gone : ctAt ((released p b c) .ct) c ≡ none = unfold released in entry-none (b .ct) c in
     rw (release-accepted p b c e)
-    (record { reads = freed p b c; room = λ v. none-copied p b c (sizes p ((release-admitted p b c e) .fine)) (regionOf p c) v; counts = (refl, refl) })
+    (record {
+      reads = freed p b c;
+      room = λ v. none-copied p (released p b c) (a .fine) c gone (regionOf p c) v;
+      entry = gone;
+      already = λ n. release-same p b c (marks-in p b (a .lengths) (a .tidy)) n;
+      counts = (refl, refl);
+    })
 
 -- ---- a queue
 

@@ -15,7 +15,7 @@ use Rattle.rules.proofs.Outcomes.{read-accepted}
 use Rattle.claims.specs.Runs.{Memory, blank, boardAfter, leaves, memoryAfter, partsOf, remember}
 use Rattle.claims.specs.Conditions.{Condition2}
 use Rattle.claims.proofs.Condition1.{in-order}
-use Rattle.claims.proofs.Kept.{accepted-orderly, after-orderly, trace-chip, trace-clean, trace-once, trace-wear}
+use Rattle.claims.proofs.Kept.{accepted-orderly, after-orderly, trace-chip, trace-clean, trace-fits, trace-once, trace-wear}
 use Rattle.claims.proofs.Memory.{Agrees, after-agrees, format-agrees, memory-step, read-agrees}
 use Rattle.claims.proofs.Steps.{format-leaves, parts-step}
 
@@ -42,6 +42,7 @@ condition-2 p b e cs =
       reads = λ m q a. read-is p (boardAfter p b run) (memoryAfter p m (partsOf p b run)) q a (run-reads p b e cs m);
       chip = trace-chip p b run;
       wear = trace-wear p b run;
+      fits = trace-fits p b run;
       erased = trace-clean p b run;
       once = trace-once p b run ((format-admitted p b e) .lengths);
     }

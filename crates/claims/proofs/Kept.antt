@@ -28,8 +28,8 @@ use Rattle.rules.proofs.Outcomes.{reply-cases}
 use Rattle.rules.proofs.Releases.{release-lengths, release-orderly}
 use Rattle.rules.proofs.Sizes.{sizes}
 use Rattle.rules.proofs.WritePromise.{write-promise}
-use Rattle.claims.specs.Runs.{boardAfter, leaves, noPageTwice, partsOf, traceOf}
-use Rattle.claims.proofs.Once.{AllFit, clean-once, fit-append}
+use Rattle.claims.specs.Runs.{AllFit, boardAfter, leaves, noPageTwice, partsOf, traceOf}
+use Rattle.claims.proofs.Once.{clean-once, fit-append}
 use Rattle.claims.proofs.Programs.{format-fits, write-fits}
 use Rattle.claims.proofs.Singles.{AllSingle, Single, all-single, board-same, parts-same, refused-leaves, singlesOf}
 use Rattle.claims.proofs.Steps.{accepted-leaves, accepted-ops, doneBoard, doneOps, opsBy, refused-ops, trace-step}
@@ -213,6 +213,9 @@ module _ (p : Params) (b : Board) (run : List Call) where
 
   pub trace-clean : clean p (b .chip) (traceOf p b run) ≡ true
   trace-clean = made .erased
+
+  pub trace-fits : AllFit p (traceOf p b run)
+  trace-fits = made .fits
 
   pub trace-once : lengthsFit p b ≡ true → noPageTwice (traceOf p b run)
   trace-once h = clean-once p (b .chip) (traceOf p b run) size (made .fits) (made .erased)

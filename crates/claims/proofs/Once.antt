@@ -10,27 +10,29 @@ use mathlib.Core.Bool.{true, false}
 use mathlib.Core.List.{List, [], _∷_, _++_}
 use lib.Dec.{eqb}
 use borrow.Author.Tests.{eqb-false}
-use lib.ListN.{length, replicate, length-replicate}
+use lib.ListN.{length, drop, replicate, length-replicate}
 use Rattle.lists.specs.Below.{joinBelow}
 use Rattle.lists.specs.Parts.{allAre, part, putPart}
+use Rattle.lists.proofs.Joins.{allAre-at, allAre-drop}
 use Rattle.lists.proofs.Parts.{next, part-part, put-length, put-other, put-same}
 use Rattle.lists.proofs.Tests.{and-left, and-right, never, or-neither, so}
 use Rattle.rules.specs.declared.Params.{Params}
 use Rattle.rules.specs.Parameters.{blockBytes, chipBytes, frameBytes, pageBytes, pages}
 use Rattle.rules.specs.Traces.{Op, clean, erase, onChip, pageAt, program, replayChip}
 use Rattle.rules.proofs.TableFacts.{chip-size}
-use Rattle.claims.specs.Runs.{erasesBlock, noPageTwice}
+use Rattle.claims.specs.Runs.{AllFit, Fits, erasesBlock, noPageTwice}
 
 -- ---- operations that fit the chip
 
--- a page of the chip is programmed with a whole page that is not all ones; a block of the chip is erased
-abbrev pub Fits : Params → Op → Type 0
-Fits p (program n q x) = (n < p .N) × (q < pages p) × (length x ≡ pageBytes p) × (allAre 255 x ≡ false)
-Fits p (erase n) = n < p .N
-
-abbrev pub AllFit : Params → List Op → Type 0
-AllFit p [] = Unit {0}
-AllFit p (o ∷ os) = Fits p o × AllFit p os
+-- a page that fits has a zero in its spare bytes, so it is not all ones
+pub not-blank : (p : Params) (n q : ℕ) (x : List ℕ) → Fits p (program n q x) → allAre 255 x ≡ false
+not-blank p n q x h = go (so (allAre 255 x))
+  where
+    go : (allAre 255 x ≡ true) ⊎ (allAre 255 x ≡ false) → allAre 255 x ≡ false
+    go (inl t) =
+        let z : _≡_ {A = ℕ} 0 255 = sym (((h .3) .2) .six) ∙ allAre-at 255 (drop (p .s) x) 6 (allAre-drop 255 (p .s) x t) in
+        absurd (omega arith)
+    go (inr t) = t
 
 pub fit-append : (p : Params) (xs ys : List Op) → AllFit p xs → AllFit p ys → AllFit p (xs ++ ys)
 fit-append p [] ys h k = k
@@ -47,6 +49,10 @@ fit-join p (suc k) g h = fit-append p (joinBelow k g) (g k) (fit-join p k g (λ 
 
 -- ---- a page of the chip
 
+whole-page : (p : Params) (n q : ℕ) (x : List ℕ) → Fits p (program n q x) → length x ≡ pageBytes p
+unfolding pageBytes
+whole-page p n q x h = h .2
+
 block-pages : (p : Params) → blockBytes p ≡ pages p * pageBytes p
 unfolding blockBytes frameBytes pages
 block-pages p = omega arith
@@ -61,7 +67,7 @@ block-fits p chip n e h = rw (e, chip-size p) (next (blockBytes p) n (p .N) h)
 
 op-length : (p : Params) (chip : List ℕ) (o : Op) → length chip ≡ chipBytes p → Fits p o → length (onChip p chip o) ≡ chipBytes p
 unfolding onChip
-op-length p chip (program n q x) e h = put-length (pageBytes p) (pageAt p n q) x chip (page-fits p chip n q e (h .0) (h .1)) (h .2) ∙ e
+op-length p chip (program n q x) e h = put-length (pageBytes p) (pageAt p n q) x chip (page-fits p chip n q e (h .0) (h .1)) (whole-page p n q x h) ∙ e
 op-length p chip (erase n) e h = put-length (blockBytes p) n (replicate (blockBytes p) 255) chip (block-fits p chip n e h) (length-replicate (blockBytes p) 255) ∙ e
 
 pub replay-length : (p : Params) (chip : List ℕ) (os : List Op) → length chip ≡ chipBytes p → AllFit p os → length (replayChip p chip os) ≡ chipBytes p
@@ -95,8 +101,8 @@ module _ (p : Params) (n q : ℕ) (block : n < p .N) (page : q < pages p) where
   one-op chip (program m k x) e h d s = go (ℕ-discrete (pageAt p n q) (pageAt p m k))
     where
       go : Dec (pageAt p n q ≡ pageAt p m k) → allAre 255 (part (pageBytes p) (pageAt p n q) (onChip p chip (program m k x))) ≡ false
-      go (yes i) = unfold onChip in rw (i, put-same (pageBytes p) (pageAt p m k) x chip (page-fits p chip m k e (h .0) (h .1)) (h .2)) (h .3)
-      go (no i) = unfold onChip in rw (put-other (pageBytes p) (pageAt p m k) x chip (page-fits p chip m k e (h .0) (h .1)) (h .2) (pageAt p n q) i) d
+      go (yes i) = unfold onChip in rw (i, put-same (pageBytes p) (pageAt p m k) x chip (page-fits p chip m k e (h .0) (h .1)) (whole-page p m k x h)) (not-blank p m k x h)
+      go (no i) = unfold onChip in rw (put-other (pageBytes p) (pageAt p m k) x chip (page-fits p chip m k e (h .0) (h .1)) (whole-page p m k x h) (pageAt p n q) i) d
   one-op chip (erase m) e h d s = rw (page-kept p chip n q m e page h (λ i. eqb-false m n ((or-neither (eqb m n) s) .0) (sym i))) d
 
   stays : (os : List Op) (chip : List ℕ) → length chip ≡ chipBytes p → AllFit p os → allAre 255 (part (pageBytes p) (pageAt p n q) chip) ≡ false
@@ -145,5 +151,5 @@ clean-once p chip os e fit h n q x y before between after is = go (so (erasesBlo
     go (inr t) =
         let f = tail .0 in
         let d = stays p n q (f .0) (f .1) between (onChip p chip₁ (program n q x)) (op-length p chip₁ (program n q x) size f) ((fit-back p between (program n q y ∷ after) (tail .1)) .0)
-        (rw (written-page p n q (f .0) (f .1) chip₁ x size (f .2)) (f .3)) t in
+        (rw (written-page p n q (f .0) (f .1) chip₁ x size (whole-page p n q x f)) (not-blank p n q x f)) t in
         absurd (never (and-left (allAre 255 (part (pageBytes p) (pageAt p n q) (replayChip p (onChip p chip₁ (program n q x)) between))) _ second) d)

@@ -1,9 +1,9 @@
--- The operations of an accepted call fit the chip: each program is of a whole page with a zero in its spare bytes, each erase of a block.
+-- The operations of an accepted call fit the chip: each program is of a whole page with the spare bytes of its cluster and place, each erase of a block.
 -- Assumes nothing.
 use mathlib.Core.Path.{_≡_, refl, sym, ap, _∙_}
 use mathlib.Core.Logic.{_⊎_, inl, inr}
 use Prim.Native.Nat.{ℕ, suc, _+_, _*_, _≤_, _<_}
-use native.Mathlib.Nat.{mod-lt}
+use native.Mathlib.Nat.{mod-eq-of-lt, mod-lt, mul-add-mod-self-right}
 use native.Mathlib.Omega.{arith}
 use native.Mathlib.Decide.{decLt}
 use mathlib.Core.Bool.{Bool, true, false, not, cond}
@@ -29,6 +29,7 @@ use Rattle.rules.specs.Traces.{erase, frameOps, framesOps, program}
 use Rattle.rules.specs.Format.{bad, formatOps}
 use Rattle.rules.specs.Write.{planErases, Plan, continues, copies, eraseOps, hasRoom, lowestUnassigned, newFrame, opens, planBlock, planFrame, planOf, planOps, planVBlock, reclaims, roomOps, writeOps}
 use Rattle.rules.specs.Replies.{replyOf}
+use Rattle.rules.specs.Words.{SpareListed}
 use Rattle.rules.specs.Requests.{Request, write, requestCluster, requestRegion}
 use Rattle.rules.proofs.Admitted.{admitted, write-checks}
 use Rattle.rules.proofs.Continues.{Makes}
@@ -41,8 +42,10 @@ use Rattle.rules.proofs.Sizes.{Sizes}
 use Rattle.rules.proofs.TableFacts.{Tables}
 use Rattle.rules.proofs.Victims.{Valid, valid-in}
 use Rattle.rules.proofs.Views.{block-low, body-size, has-block}
+use Rattle.rules.proofs.Words.{spares-exactly}
 use Rattle.rules.proofs.WritePromise.{makes}
-use Rattle.claims.proofs.Once.{AllFit, Fits, fit-append, fit-join}
+use Rattle.claims.specs.Runs.{AllFit, Fits}
+use Rattle.claims.proofs.Once.{fit-append, fit-join}
 
 -- ---- a format erases blocks of the chip
 
@@ -56,29 +59,29 @@ format-fits p chip = fit-join p (p .N) _ (λ n h. go n h (bad p chip n))
 
 -- ---- a frame's programs
 
--- a whole frame whose pages are all marked
+-- a whole frame whose pages all have the spare bytes of one cluster of the board
 pub record Marked (p : Params) (x : List ℕ) : Type 0 where
   pub whole : length x ≡ frameBytes p
-  pub marks : (j : ℕ) → j < p .alpha → (c : ℕ) × (spare p x j ≡ spareBytes c j)
+  pub cluster : ℕ
+  pub low : cluster < p .C
+  pub marks : (j : ℕ) → j < p .alpha → spare p x j ≡ spareBytes cluster j
 
--- spare byte 6 is zero
-marked-page : (p : Params) (x : List ℕ) (j c : ℕ) → spare p x j ≡ spareBytes c j → allAre 255 (page p x j) ≡ false
-unfolding spare spareBytes bytes32
-marked-page p x j c e = go (so (allAre 255 (page p x j)))
-  where
-    go : (allAre 255 (page p x j) ≡ true) ⊎ (allAre 255 (page p x j) ≡ false) → allAre 255 (page p x j) ≡ false
-    go (inl t) = let k : _≡_ {A = ℕ} 0 255 = sym (ap (λ (l : List ℕ). getD l 6 255) e) ∙ allAre-at 255 (drop (p .s) (page p x j)) 6 (allAre-drop 255 (p .s) (page p x j) t) in absurd (omega arith)
-    go (inr t) = t
-
-module _ (p : Params) (n : ℕ) (low : n < p .N) where
+module _ (p : Params) (z : Sizes p) (n : ℕ) (low : n < p .N) where
   frame-fits : (f : ℕ) (x : List ℕ) → f < frames p → Marked p x → AllFit p (frameOps p n f x (p .alpha))
   unfolding frameOps
   frame-fits f x h m = fit-join p (p .alpha) _ (λ j k. (one j k, tt))
     where
+      place : (j : ℕ) → j < p .alpha → (f * p .alpha + j) % p .alpha ≡ j
+      place j k = rw mul-add-mod-self-right (mod-eq-of-lt k)
+
+      listed : (j : ℕ) → j < p .alpha → SpareListed (m .cluster) ((f * p .alpha + j) % p .alpha) (drop (p .s) (page p x j))
+      listed j k = rw (place j k) (unfold spare in (spares-exactly (m .cluster) j (omega (arith, m .low, z .clusters)) (spare p x j)) .0 (m .marks j k))
+
+      long : (j : ℕ) → j < p .alpha → length (page p x j) ≡ p .s + 16
+      long j k = unfold page pageBytes in part-length (pageBytes p) j x (rw (m .whole) (unfold frameBytes in next (pageBytes p) j (p .alpha) k))
+
       one : (j : ℕ) → j < p .alpha → Fits p (program n (f * p .alpha + j) (page p x j))
-      one j k =
-          let w = m .marks j k in
-          (low, unfold pages in omega (arith, next (p .alpha) f (frames p) h), unfold page in part-length (pageBytes p) j x (rw (m .whole) (unfold frameBytes in next (pageBytes p) j (p .alpha) k)), marked-page p x j (w .0) (w .1))
+      one j k = (low, unfold pages in omega (arith, next (p .alpha) f (frames p) h), long j k, (m .cluster, m .low, listed j k))
 
   frames-fit : (xs : List (List ℕ)) (to : ℕ) → to + length xs ≤ frames p → ((i : ℕ) → i < length xs → Marked p (getD xs i [])) → AllFit p (framesOps p n to xs)
   unfolding framesOps
@@ -107,7 +110,7 @@ module _ (p : Params) (z : Sizes p) (b : Board) (t : Tables p b) (r : ℕ) (regi
           pick : Dec (f < filled p ((view p b r) .body v)) → Marked p (frame p ((view p b r) .body v) f)
           pick (yes k) =
               let g = (nt .blocks v mine a) .1 .front f k h in
-              record { whole = unfold frame in part-length (frameBytes p) f ((view p b r) .body v) (one-fits p ((view p b r) .body v) f (body-size p z b t r v region mine a) h); marks = λ j i. (held p (frame p ((view p b r) .body v) f), g .marks j i) }
+              record { whole = unfold frame in part-length (frameBytes p) f ((view p b r) .body v) (one-fits p ((view p b r) .body v) f (body-size p z b t r v region mine a) h); cluster = held p (frame p ((view p b r) .body v) f); low = g .low; marks = g .marks }
           pick (no k) = absurd (never (w .written) (erased-not p _ ((nt .blocks v mine a) .1 .rest f (omega arith) h)))
 
   copies-marked : (i : ℕ) → i < length (copies p (view p b r) (reclaims v)) → Marked p (getD (copies p (view p b r) (reclaims v)) i [])
@@ -146,7 +149,7 @@ module _ (p : Params) (z : Sizes p) (b : Board) (t : Tables p b) (r : ℕ) (regi
   room-fits (opens v) is m = tt
   room-fits (reclaims v) is m =
       fit-append p (framesOps p (planBlock p b r (reclaims v)) 0 (copies p (view p b r) (reclaims v))) _
-      (frames-fit p (planBlock p b r (reclaims v)) (m .room .low) (copies p (view p b r) (reclaims v)) 0 few (copies-marked p z b t r region nt v mine))
+      (frames-fit p z (planBlock p b r (reclaims v)) (m .room .low) (copies p (view p b r) (reclaims v)) 0 few (copies-marked p z b t r region nt v mine))
       (block-low p z b t r v region mine (has-block p z b t r v region mine (all-assigned v is v mine)), tt)
     where
       mine : v < p .gamma
@@ -167,5 +170,5 @@ write-fits p b q e =
     let sh : Sheet p (requestCluster p q) (newFrame p (view p b r) q) =
     host-sheet p (acc .sized) (view p b r) (λ v h a. body-size p (acc .sized) b (acc .tables) r v region h a) q (acc .asked) (nt .entries (requestCluster p q) (acc .asked .cluster)) in
     fit-append p (roomOps p b r pl) _ (room-fits p (acc .sized) b (acc .tables) r region nt pl refl m)
-    (frame-fits p (planBlock p b r pl) (m .room .low) (planFrame p (view p b r) pl) (newFrame p (view p b r) q) (m .base .ready .low)
-    (record { whole = sh .whole; marks = λ j h. (requestCluster p q, sh .marked j h) }))
+    (frame-fits p (acc .sized) (planBlock p b r pl) (m .room .low) (planFrame p (view p b r) pl) (newFrame p (view p b r) q) (m .base .ready .low)
+    (record { whole = sh .whole; cluster = requestCluster p q; low = acc .asked .cluster; marks = sh .marked }))

@@ -15,7 +15,7 @@ use Rattle.rules.specs.declared.Reply.the-variants.{Accepted}
 use Rattle.rules.specs.Parameters.{frames, pages}
 use Rattle.rules.specs.Numbers.{regionOf}
 use Rattle.rules.specs.Pages.{held}
-use Rattle.rules.specs.Tables.{Board, none, btEntry, bstAt, markIndex, wordAt}
+use Rattle.rules.specs.Tables.{Board, none, ctAt, btEntry, bstAt, markIndex, wordAt}
 use Rattle.rules.specs.Regions.{view}
 use Rattle.rules.specs.Traces.{replayChip, replayWear, clean}
 use Rattle.rules.specs.Requests.{Request, requestRegion, Queue, Call, format, read, write, release, queue, lent, lentAnswers}
@@ -23,7 +23,7 @@ use Rattle.rules.specs.Format.{goodBlocks}
 use Rattle.rules.specs.Write.{Plan, continues, opens, reclaims, planOf, planErases, planFrame, planBlock, copies}
 use Rattle.rules.specs.Replies.{OrderlyBoard, Row, replyOf, rowsOf}
 use Rattle.rules.specs.Calls.{Outcome, outcomeOf}
-use Rattle.claims.specs.Runs.{Memory, boardAfter, cleared, given, leaves, memoryAfter, noFormat, noPageTwice, partsOf, requestsTo, sectorAt, toldTo, traceOf}
+use Rattle.claims.specs.Runs.{AllFit, Memory, boardAfter, cleared, given, leaves, memoryAfter, noFormat, noPageTwice, partsOf, requestsTo, sectorAt, toldTo, traceOf}
 
 -- ---- condition 1: every call, on every content
 
@@ -96,11 +96,13 @@ unfoldable pub noneHolds : Params → ℕ → List (List ℕ) → Bool
 noneHolds p c [] = true
 noneHolds p c (x ∷ xs) = not (eqb (held p x) c) && noneHolds p c xs
 
--- T-03: "its sectors read as 255", and every other as before; "the room comes back at reclaim": whichever virtual block is reclaimed next, no frame of
--- the cluster is copied. "It reports 0 and 0"
+-- T-03: "its CT entry becomes none, its sectors read as 255", and every other as before; "the room comes back at reclaim": whichever virtual block is
+-- reclaimed next, no frame of the cluster is copied. "Where it is none already, nothing changes". "It reports 0 and 0"
 pub record Frees (p : Params) (b : Board) (c : ℕ) (o : Outcome) : Type 0 where
   pub reads : (a : ℕ) → sectorAt p (o .board) a ≡ cleared p c (sectorAt p b) a
   pub room : (v : ℕ) → v < p .gamma → noneHolds p c (copies p (view p (o .board) (regionOf p c)) (reclaims v)) ≡ true
+  pub entry : ctAt (o .board .ct) c ≡ none
+  pub already : ctAt (b .ct) c ≡ none → o .board ≡ b
   pub counts : Idle (o .answer)
 
 -- T-01: the call's own counts are 0, refused or not; its data is as lent, the list keeps its length, and "Answers past the last item stay as lent"
@@ -139,6 +141,8 @@ pub record OfRun (p : Params) (b : Board) (run : List Call) (b′ : Board) : Typ
   -- the chip and the wear are what the run's operations make of them
   pub chip : b′ .chip ≡ replayChip p (b .chip) (traceOf p b run)
   pub wear : b′ .wear ≡ replayWear (b .wear) (traceOf p b run)
+  -- each operation is of a page or of a block of the chip, and each programmed page has its spare bytes
+  pub fits : AllFit p (traceOf p b run)
   -- "Each page that the steps program is 255 throughout just before"; "No page is programmed twice between erases"
   pub erased : clean p (b .chip) (traceOf p b run) ≡ true
   pub once : noPageTwice (traceOf p b run)
@@ -156,7 +160,8 @@ pub record SameRegion (p : Params) (r : ℕ) (b b′ : Board) (run run′ : List
   pub words : (v w : ℕ) → v < p .gamma → w < 4
       → wordAt ((boardAfter p b run) .marks) (markIndex p r v w) ≡ wordAt ((boardAfter p b′ run′) .marks) (markIndex p r v w)
 
--- for "two boards .. each formatted with reply 0, not formatted again": "If the requests to one region are the same and in the same order"; T-01: "over
+-- for "two boards .. each formatted with reply 0, not formatted again": "If the requests to one region are the same and in the same order", up to what
+-- the bytes lent to a read hold; T-01: "over
 -- the items of calls that answer 0; an item is its LBA, its count and its bytes, or that they do not lie there"
 abbrev pub Condition3 : Type 0
 Condition3 =

@@ -1,22 +1,24 @@
 -- Runs: lists of calls with the same parameters, each on the board that the one before left; what their requests get, what they do to the chip, and
 -- what a memory would hold that knows only the requests and their replies.
 -- Assumes nothing.
-use Prim.Native.Nat.{ℕ, _+_, _-_}
+use Prim.Native.Nat.{ℕ, _+_, _-_, _%_, _<_}
 use mathlib.Core.Path.{_≡_}
 use mathlib.Core.Bool.{Bool, true, false, not, _&&_, _||_, cond}
 use mathlib.Core.List.{List, [], _∷_, _++_, map}
-use lib.ListN.{replicate}
+use lib.ListN.{length, drop, replicate}
 use lib.Dec.{leb, ltb, eqb}
 use Rattle.lists.specs.Parts.{part}
 use Rattle.rules.specs.declared.Params.{Params}
 use Rattle.rules.specs.declared.Answer.{Answer}
+use Rattle.rules.specs.Parameters.{pages}
 use Rattle.rules.specs.Numbers.{clusterOf, regionOf, sectorOf}
 use Rattle.rules.specs.Tables.{Board}
 use Rattle.rules.specs.Regions.{sector}
 use Rattle.rules.specs.Traces.{Op, program, erase}
-use Rattle.rules.specs.Requests.{Request, requestRegion, Call, format, read, write, release, queue}
+use Rattle.rules.specs.Requests.{Request, requestOf, requestRegion, Call, format, read, write, release, queue}
 use Rattle.rules.specs.Replies.{isAccepted}
 use Rattle.rules.specs.Calls.{Part, opsOf, outcomeOf, workOf}
+use Rattle.rules.specs.Words.{SpareListed}
 
 -- ---- a run
 
@@ -59,16 +61,28 @@ unfoldable pub partsTo : Params → ℕ → List Part → List Part
 partsTo p r [] = []
 partsTo p r (x ∷ xs) = cond (toRegion p r (x .asks)) (x ∷ partsTo p r xs) (partsTo p r xs)
 
--- the requests to a region, and what their callers are told: the reply with both counts, and the data
+-- what is asked: of a read its LBA, its count and how many bytes are lent, not what they hold
+unfoldable pub asked : Call → Call
+asked format = format
+asked (read q) = read (requestOf (q .lba) (q .count) (replicate (length (q .bytes)) 0))
+asked (write q) = write q
+asked (release c) = release c
+asked (queue l) = queue l
+
+-- what the caller is told: the reply with both counts, and where it is 0 the data
 pub record Told : Type 0 where
   pub answer : Answer
   pub bytes : List ℕ
 
+unfoldable pub told : Answer → List ℕ → Told
+told a bytes = record { answer = a; bytes = cond (isAccepted (a .reply)) bytes [] }
+
+-- the requests to a region, and what their callers are told
 unfoldable pub requestsTo : Params → ℕ → List Part → List Call
-requestsTo p r xs = map (λ (x : Part). x .asks) (partsTo p r xs)
+requestsTo p r xs = map (λ (x : Part). asked (x .asks)) (partsTo p r xs)
 
 unfoldable pub toldTo : Params → ℕ → List Part → List Told
-toldTo p r xs = map (λ (x : Part). record { answer = x .answer; bytes = x .bytes }) (partsTo p r xs)
+toldTo p r xs = map (λ (x : Part). told (x .answer) (x .bytes)) (partsTo p r xs)
 
 -- ---- what it does to the chip
 
@@ -80,6 +94,16 @@ unfoldable pub erasesBlock : ℕ → List Op → Bool
 erasesBlock n [] = false
 erasesBlock n (program m q x ∷ os) = erasesBlock n os
 erasesBlock n (erase m ∷ os) = eqb m n || erasesBlock n os
+
+-- an operation fits the chip: a program is of a page of the chip, and of a whole page with the spare bytes that document 01 lists, for a cluster of the
+-- board and the page's place in its frame; an erase is of a block of the chip
+abbrev pub Fits : Params → Op → Type 0
+Fits p (program n q x) = (n < p .N) × (q < pages p) × (length x ≡ p .s + 16) × ((c : ℕ) × (c < p .C) × SpareListed c (q % p .alpha) (drop (p .s) x))
+Fits p (erase n) = n < p .N
+
+abbrev pub AllFit : Params → List Op → Type 0
+AllFit p [] = Unit {0}
+AllFit p (o ∷ os) = Fits p o × AllFit p os
 
 -- "No page is programmed twice between erases": between any two programs of one page lies an erase of its block
 unfoldable pub noPageTwice : List Op → Type 0

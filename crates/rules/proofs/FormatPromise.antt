@@ -8,12 +8,11 @@ use native.Mathlib.Decide.{ℕ-discrete, decLt}
 use mathlib.Core.Bool.{Bool, true, false, not, cond}
 use mathlib.Core.List.{List, [], _∷_}
 use lib.Dec.{eqb, ltb}
-use borrow.Author.Tests.{eqb-true, eq-eqb}
 use lib.ListN.{length, getD, replicate, length-replicate, getD-replicate, List·getD-eq-default}
-use Rattle.lists.specs.Below.{allBelow, countBelow, joinBelow}
+use Rattle.lists.specs.Below.{countBelow, joinBelow}
 use Rattle.lists.proofs.Joins.{tab-at, tab-length}
 use Rattle.lists.proofs.Parts.{next}
-use Rattle.lists.proofs.Tests.{all-below-intro, all-true, count-cong, never, truths}
+use Rattle.lists.proofs.Tests.{count-cong, never}
 use Rattle.rules.specs.declared.Params.{Params}
 use Rattle.rules.specs.declared.Reply.the-variants.{Accepted}
 use Rattle.rules.specs.Parameters.{blockBytes}
@@ -23,7 +22,7 @@ use Rattle.rules.specs.Pages.{block}
 use Rattle.rules.specs.Regions.{assigned, bodyAt, sector, sectorIn, view, viewOf}
 use Rattle.rules.specs.Marks.{marksOf}
 use Rattle.rules.specs.Requests.{format}
-use Rattle.rules.specs.Orderly.{clusterRule, openRule, orderly, regionBlocks, regionFst}
+use Rattle.rules.specs.Orderly.{orderly}
 use Rattle.rules.specs.Traces.{erase, replayChip}
 use Rattle.rules.specs.Format.{bad, formatOps, formatted, goodBlocks}
 use Rattle.rules.specs.Replies.{lengthsFit, replyOf}
@@ -31,10 +30,10 @@ use Rattle.rules.specs.Machine.{erasedBlock}
 use Rattle.rules.proofs.Admitted.{FormatAdmitted, format-admitted, orderly-all}
 use Rattle.rules.proofs.Chip.{replay-append}
 use Rattle.rules.proofs.Opens.{fresh-all}
-use Rattle.rules.proofs.RegionFacts.{regionOrderly}
+use Rattle.rules.proofs.RegionFacts.{neat-none, regionOrderly}
 use Rattle.rules.proofs.Replays.{erase-ran}
 use Rattle.rules.proofs.Sizes.{Sizes, sizes}
-use Rattle.rules.proofs.TableFacts.{Tables, chip-size, lengths-out}
+use Rattle.rules.proofs.TableFacts.{Lengths, Tables, lengths-in, lengths-out}
 use Rattle.rules.proofs.Writes.{wear-length}
 
 -- ---- the erases
@@ -75,13 +74,11 @@ module _ (p : Params) (b : Board) (e : replyOf p b format ≡ Accepted) where
   z : Sizes p
   z = sizes p (checks .fine)
 
-  chip-fits : length (b .chip) ≡ p .N * blockBytes p
-  unfolding lengthsFit
-  chip-fits = eqb-true _ _ ((truths _ (checks .lengths)) .0) ∙ chip-size p
+  lengths : Lengths p b
+  lengths = lengths-in p b (checks .lengths)
 
-  wear-size : length (b .wear) ≡ p .N
-  unfolding lengthsFit
-  wear-size = eqb-true _ _ ((truths _ (checks .lengths)) .1 .1 .1 .1 .1 .0)
+  chip-fits : length (b .chip) ≡ p .N * blockBytes p
+  chip-fits = lengths .chipLength
 
   cleared : Cleared p (b .chip) ((formatted p b) .chip) (p .N)
   unfolding formatted formatOps
@@ -119,7 +116,7 @@ module _ (p : Params) (b : Board) (e : replyOf p b format ≡ Accepted) where
         btLength = length-replicate (p .mu * p .gamma) none;
         fstLength = length-replicate (p .mu) none;
         bstLength = tab-length (p .N) (λ n. cond (bad p (b .chip) n) 2 0);
-        wearLength = wear-length (b .wear) (formatOps p (b .chip)) ∙ wear-size;
+        wearLength = wear-length (b .wear) (formatOps p (b .chip)) ∙ lengths .wearLength;
         kinds = λ m h. rw (kind m h) ((two (bad p (b .chip) m)) .0);
         names = λ i h. inl (entry i);
         once = λ i j hi hj x ne. absurd (ne (entry i));
@@ -155,12 +152,7 @@ module _ (p : Params) (b : Board) (e : replyOf p b format ≡ Accepted) where
   no-last r = getD-none (p .mu) r
 
   empty-region : (r : ℕ) → regionOrderly p r (view p (formatted p b) r) ≡ true
-  unfolding regionOrderly regionBlocks regionFst clusterRule
-  empty-region r =
-      all-true _ (all-below-intro (p .gamma) _ (λ v h. rw (lacks r v)), (opened, (all-below-intro (p .C) _ (λ c h. rw (no-segment r c)), tt)))
-    where
-      opened : cond (allBelow (p .gamma) (λ v. not (assigned (view p (formatted p b) r) v))) (eqb ((view p (formatted p b) r) .lastSeg) none) (openRule p (view p (formatted p b) r)) ≡ true
-      opened = rw (all-below-intro (p .gamma) (λ v. not (assigned (view p (formatted p b) r) v)) (λ v h. rw (lacks r v))) (eq-eqb _ _ (no-last r))
+  empty-region r = neat-none p r (view p (formatted p b) r) (λ v h. lacks r v) (no-last r) (λ c h. inl (no-segment r c))
 
   -- the marks are those of the board that is left
   pub format-marks : (formatted p b) .marks ≡ marksOf p (formatted p b)

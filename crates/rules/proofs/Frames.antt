@@ -37,7 +37,7 @@ module _ (p : Params) (z : Sizes p) (v f : ℕ) (low : f < frames p) where
 digits : (c a b e i j k : ℕ) → a * 256 + i ≡ c → b * 256 + j ≡ a → e * 256 + k ≡ b → c < 4294967296 → (e < 256) × (i + 256 * j + 65536 * k + 16777216 * e ≡ c)
 digits c a b e i j k p q r h = omega arith
 
-le-bytes : (c : ℕ) → c < 4294967296 → c % 256 + 256 * (c / 256 % 256) + 65536 * (c / 65536 % 256) + 16777216 * (c / 16777216 % 256) ≡ c
+pub le-bytes : (c : ℕ) → c < 4294967296 → c % 256 + 256 * (c / 256 % 256) + 65536 * (c / 65536 % 256) + 16777216 * (c / 16777216 % 256) ≡ c
 le-bytes c h =
     let e₁ : c / 65536 ≡ c / 256 / 256 = sym (div-div-eq-div-mul c 256 256) in
     let e₂ : c / 16777216 ≡ c / 256 / 256 / 256 = sym (div-div-eq-div-mul c 65536 256) ∙ ap (λ (m : ℕ). m / 256) e₁ in

@@ -31,3 +31,5 @@ pub mod Outcomes
 pub mod FormatCounts
 pub mod ValidFrames
 pub mod ItemData
+pub mod Words
+pub mod OrderlyWords

@@ -164,18 +164,33 @@ neat p r vw h =
     entry c (inl e) = inl (eqb-true _ _ e)
     entry c (inr e) = inr (entry-in p vw c e)
 
+-- a CT entry that is none or leads to a frame of its cluster passes
+entry-passes : (p : Params) (vw : View) (c : ℕ) → (vw .segOf c ≡ none) ⊎ Entry p vw c → clusterRule p vw c ≡ true
+unfolding clusterRule
+entry-passes p vw c (inl e) = rw (eq-eqb (vw .segOf c) none e)
+entry-passes p vw c (inr e) = or-right (eqb (vw .segOf c) none) (entry-out p vw c e)
+
+-- a region without a block passes its rules
+pub neat-none : (p : Params) (r : ℕ) (vw : View) → ((v : ℕ) → v < p .gamma → assigned vw v ≡ false) → vw .lastSeg ≡ none
+    → ((c : ℕ) → c < p .C → (vw .segOf c ≡ none) ⊎ Entry p vw c) → regionOrderly p r vw ≡ true
+unfolding regionOrderly regionBlocks regionFst
+neat-none p r vw lacks last entries =
+    all-true _ (
+      all-below-intro (p .gamma) _ (λ v h. rw (lacks v h)),
+      (
+        rw (all-below-intro (p .gamma) (λ v. not (assigned vw v)) (λ v h. rw (lacks v h))) (eq-eqb _ _ last),
+        (all-below-intro (p .C) _ (λ c h. entry-passes p vw c (entries c h)), tt),
+      ),
+    )
+
 -- a region with an open block passes its rules
 pub neat-out : (p : Params) (r : ℕ) (vw : View) (v : ℕ) → v < p .gamma → assigned vw v ≡ true
     → ((u : ℕ) → u < p .gamma → assigned vw u ≡ true → (0 < filled p (vw .body u)) × UpTo p r (filled p (vw .body u)) (vw .body u)) → Open p vw
     → ((c : ℕ) → c < p .C → (vw .segOf c ≡ none) ⊎ Entry p vw c) → regionOrderly p r vw ≡ true
-unfolding regionOrderly regionBlocks clusterRule
+unfolding regionOrderly regionBlocks
 neat-out p r vw v k a blocks o entries =
-    all-true _ (all-below-intro (p .gamma) _ (λ u m. block u m (so (assigned vw u))), (open-out p vw v k a o, (all-below-intro (p .C) _ (λ c m. entry c (entries c m)), tt)))
+    all-true _ (all-below-intro (p .gamma) _ (λ u m. block u m (so (assigned vw u))), (open-out p vw v k a o, (all-below-intro (p .C) _ (λ c m. entry-passes p vw c (entries c m)), tt)))
   where
     block : (u : ℕ) → u < p .gamma → (assigned vw u ≡ true) ⊎ (assigned vw u ≡ false) → not (assigned vw u) || blockRule p r (vw .body u) ≡ true
     block u m (inl e) = or-right (not (assigned vw u)) (block-out p r (vw .body u) (blocks u m e))
     block u m (inr e) = rw e
-
-    entry : (c : ℕ) → (vw .segOf c ≡ none) ⊎ Entry p vw c → eqb (vw .segOf c) none || entryRule p vw c ≡ true
-    entry c (inl e) = rw (eq-eqb (vw .segOf c) none e)
-    entry c (inr e) = or-right (eqb (vw .segOf c) none) (entry-out p vw c e)

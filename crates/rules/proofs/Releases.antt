@@ -15,14 +15,14 @@ use Rattle.lists.proofs.Tests.{all-at, all-below-intro, all-true, truths}
 use Rattle.rules.specs.declared.Params.{Params}
 use Rattle.rules.specs.Numbers.{regionOf, segmentOf}
 use Rattle.rules.specs.Marks.{marksOf}
-use Rattle.rules.specs.Traces.{replayChip, replayWear}
+use Rattle.rules.specs.Traces.{finish, replayChip, replayWear}
 use Rattle.rules.specs.Orderly.{clusterRule, entryRule, fullRule, openRule, orderly, regionBlocks, regionFst}
 use Rattle.rules.specs.Pages.{frame, held, lastIn, programmed}
 use Rattle.rules.specs.Parameters.{frames}
 use Rattle.rules.specs.Regions.{View, assigned, frameOf, sector, sectorIn, valid, view, viewOf}
 use Rattle.rules.specs.Release.{released}
 use Rattle.rules.specs.Replies.{lengthsFit}
-use Rattle.rules.specs.Tables.{Board, ctAt, none}
+use Rattle.rules.specs.Tables.{Board, boardOf, ctAt, none}
 use Rattle.rules.specs.Machine.{without}
 use Rattle.rules.proofs.Admitted.{orderly-all, orderly-region}
 use Rattle.rules.proofs.Frames.{seg-low}
@@ -33,11 +33,18 @@ use Rattle.rules.proofs.TableFacts.{Tables, lengths-out, tables-in}
 -- ---- the view
 
 -- the CT entry of the cluster is none, also where the table does not have it
-entry-none : (ct : List ℕ) (c : ℕ) → ctAt (set ct c none) c ≡ none
+pub entry-none : (ct : List ℕ) (c : ℕ) → ctAt (set ct c none) c ≡ none
 unfolding ctAt
 entry-none [] c = refl
 entry-none (x ∷ ct) zero = refl
 entry-none (x ∷ ct) (suc c) = entry-none ct c
+
+-- where it is none already, the table stays
+entry-stays : (ct : List ℕ) (c : ℕ) → ctAt ct c ≡ none → set ct c none ≡ ct
+unfolding ctAt
+entry-stays [] c e = refl
+entry-stays (x ∷ ct) zero e = ap (λ (y : ℕ). y ∷ ct) (sym e)
+entry-stays (x ∷ ct) (suc c) e = ap (λ (l : List ℕ). x ∷ l) (entry-stays ct c e)
 
 -- every region sees the board without the cluster; one that it is not in sees no change
 pub released-view : (p : Params) (b : Board) (c r : ℕ) → view p (released p b c) r ≡ without (view p b r) c
@@ -60,11 +67,6 @@ released-else p b c r ne = λ i. record { segOf = λ x. at x (ℕ-discrete x c) 
     at : (x : ℕ) → Dec (x ≡ c) → cond (eqb (regionOf p x) r) (ctAt (set (b .ct) c none) x) none ≡ cond (eqb (regionOf p x) r) (ctAt (b .ct) x) none
     at x (yes e) = rw (e, ne-eqb (regionOf p c) r ne)
     at x (no e) = ap (λ (s : ℕ). cond (eqb (regionOf p x) r) s none) (unfold ctAt in getD-set-other (b .ct) c x none none e)
-
--- no byte of a block changes
-pub release-body : (p : Params) (b : Board) (c r : ℕ) → (view p (released p b c) r) .body ≡ (view p b r) .body
-unfolding viewOf released replayChip
-release-body p b c r = refl
 
 -- ---- order
 
@@ -142,6 +144,13 @@ module _ (p : Params) (b : Board) (c : ℕ) where
 
   pub release-lengths : lengthsFit p b ≡ true → orderly p b ≡ true → lengthsFit p (released p b c) ≡ true
   release-lengths l o = lengths-out p (released p b c) (release-tables (tables-in p b l o)) release-marks
+
+  -- T-03: "Where it is none already, nothing changes"
+  pub release-same : b .marks ≡ marksOf p b → ctAt (b .ct) c ≡ none → released p b c ≡ b
+  unfolding released replayChip replayWear
+  release-same m e =
+      ap (λ (ct : List ℕ). finish p b [] (record { ct = ct; bt = b .bt; fst = b .fst; bst = b .bst })) (entry-stays (b .ct) c e)
+      ∙ ap (λ (marks : List ℕ). boardOf (b .chip) (b .ct) (b .bt) (b .fst) (b .bst) (b .wear) marks) (sym m)
 
   pub release-orderly : Sizes p → lengthsFit p b ≡ true → orderly p b ≡ true → orderly p (released p b c) ≡ true
   release-orderly z l o =

@@ -128,11 +128,20 @@ pub chip-size : (p : Params) → chipBytes p ≡ p .N * blockBytes p
 unfolding chipBytes pages blockBytes frameBytes
 chip-size p = omega arith
 
-pub tables-in : (p : Params) (b : Board) → lengthsFit p b ≡ true → orderly p b ≡ true → Tables p b
-unfolding lengthsFit orderly rulesOf bstRule roomRule
-tables-in p b l h =
+-- the lengths that fit
+pub record Lengths (p : Params) (b : Board) : Type 0 where
+  pub chipLength : length (b .chip) ≡ p .N * blockBytes p
+  pub ctLength : length (b .ct) ≡ p .C
+  pub btLength : length (b .bt) ≡ p .mu * p .gamma
+  pub fstLength : length (b .fst) ≡ p .mu
+  pub bstLength : length (b .bst) ≡ p .N
+  pub wearLength : length (b .wear) ≡ p .N
+  pub marksLength : length (b .marks) ≡ marksLength p
+
+pub lengths-in : (p : Params) (b : Board) → lengthsFit p b ≡ true → Lengths p b
+unfolding lengthsFit
+lengths-in p b l =
     let a = truths _ l in
-    let t = truths _ h in
     record {
       chipLength = eqb-true _ _ (a .0) ∙ chip-size p;
       ctLength = eqb-true _ _ (a .1 .0);
@@ -140,6 +149,21 @@ tables-in p b l h =
       fstLength = eqb-true _ _ (a .1 .1 .1 .0);
       bstLength = eqb-true _ _ (a .1 .1 .1 .1 .0);
       wearLength = eqb-true _ _ (a .1 .1 .1 .1 .1 .0);
+      marksLength = eqb-true _ _ (a .1 .1 .1 .1 .1 .1 .0);
+    }
+
+pub tables-in : (p : Params) (b : Board) → lengthsFit p b ≡ true → orderly p b ≡ true → Tables p b
+unfolding orderly rulesOf bstRule roomRule
+tables-in p b l h =
+    let a = lengths-in p b l in
+    let t = truths _ h in
+    record {
+      chipLength = a .chipLength;
+      ctLength = a .ctLength;
+      btLength = a .btLength;
+      fstLength = a .fstLength;
+      bstLength = a .bstLength;
+      wearLength = a .wearLength;
       kinds = λ n k. leb-true _ _ (all-at (p .N) (λ n. leb (bstAt (b .bst) n) 2) (t .0) n k);
       names = names-in p b (t .1 .0);
       once = once-in p b (t .1 .1 .0);
@@ -151,8 +175,8 @@ tables-in p b l h =
 
 -- of an orderly board the marks are its own
 pub marks-in : (p : Params) (b : Board) → lengthsFit p b ≡ true → orderly p b ≡ true → b .marks ≡ marksOf p b
-unfolding lengthsFit orderly rulesOf
-marks-in p b l h = right p b (eqb-true _ _ ((truths _ l) .1 .1 .1 .1 .1 .1 .0)) ((truths _ h) .1 .1 .1 .1 .1 .1 .1 .1 .1 .0)
+unfolding orderly rulesOf
+marks-in p b l h = right p b ((lengths-in p b l) .marksLength) ((truths _ h) .1 .1 .1 .1 .1 .1 .1 .1 .1 .0)
 
 pub lengths-out : (p : Params) (b : Board) → Tables p b → b .marks ≡ marksOf p b → lengthsFit p b ≡ true
 unfolding lengthsFit

@@ -13,5 +13,6 @@ pub mod Release
 pub mod Replies
 pub mod Refusals
 pub mod Calls
+pub mod Words
 pub mod Machine
 pub mod BoardT

@@ -1,0 +1,193 @@
+-- Words of documents 01 and 02 that elsewhere a definition alone says, once more in terms of their own: plain numbers, bytes and inequalities. No call is
+-- defined by what stands here: proofs/Words.antt and proofs/OrderlyWords.antt show that the definitions say the same, no less and no more.
+-- Assumes nothing.
+use Prim.Native.Nat.{ℕ, _+_, _-_, _*_, _/_, _%_, _≤_, _<_, min}
+use mathlib.Core.Path.{_≡_}
+use mathlib.Core.Logic.{_⊎_, _↔_}
+use mathlib.Core.Bool.{Bool, true, false, not, cond}
+use mathlib.Core.List.{List, [], _∷_}
+use lib.ListN.{length, getD, drop}
+use lib.Dec.{eqb}
+use Rattle.lists.specs.Below.{countBelow}
+use Rattle.rules.specs.declared.Params.{Params}
+use Rattle.rules.specs.Parameters.{allowed, frames}
+use Rattle.rules.specs.Tables.{Board, btEntry, bstAt, wearAt}
+use Rattle.rules.specs.Pages.{block, erased, frame, held, page, programmed, spareBytes}
+use Rattle.rules.specs.Regions.{View, assigned, validFrames, view}
+use Rattle.rules.specs.Marks.{marksOf}
+use Rattle.rules.specs.Orderly.{orderly}
+use Rattle.rules.specs.Traces.{Op, program, erase, replayWear}
+use Rattle.rules.specs.Format.{bad}
+use Rattle.rules.specs.Write.{Plan, continues, opens, reclaims, freeBlock, planOf}
+use Rattle.rules.specs.Replies.{OrderlyBoard, lengthsFit}
+
+-- ---- "Parameters"
+
+-- the column "allowed"; "P = αF pages, with P at most 256"; "C/μ rounded up is at most γF − 1": μ regions of so many clusters are enough
+pub record Allowed (p : Params) : Type 0 where
+  pub sectors : (16 ≤ p .s) × (p .s ≤ 512)
+  pub clusters : (1 ≤ p .alpha) × (p .alpha ≤ 16)
+  pub segments : (1 ≤ p .beta) × (p .beta ≤ 16)
+  pub blocks : (1 ≤ p .d) × (p .d ≤ 16)
+  pub regions : (1 ≤ p .mu) × (p .mu ≤ 1024)
+  pub virtual : (1 ≤ p .gamma) × (p .gamma ≤ 16)
+  pub held : (1 ≤ p .C) × (p .C ≤ 1048576)
+  pub physical : (1 ≤ p .N) × (p .N ≤ 65535)
+  pub pages : p .alpha * (p .beta * p .d) ≤ 256
+  pub spread : p .C ≤ p .mu * (p .gamma * (p .beta * p .d) - 1)
+
+abbrev pub AllowedExactly : Type 0
+AllowedExactly = (p : Params) → (allowed p ≡ true) ↔ Allowed p
+
+-- ---- "Numbers and tables"
+
+-- "Spare bytes of a programmed page: 0 to 3 cluster number, low byte first; 4 the sector's place in its cluster; 5 always 255; 6 zero; 7 to 15 all 255"
+pub record SpareListed (c j : ℕ) (l : List ℕ) : Type 0 where
+  pub long : length l ≡ 16
+  pub bytes : (i : ℕ) → i < 4 → getD l i 255 < 256
+  pub cluster : getD l 0 255 + 256 * (getD l 1 255 + 256 * (getD l 2 255 + 256 * getD l 3 255)) ≡ c
+  pub place : getD l 4 255 ≡ j
+  pub five : getD l 5 255 ≡ 255
+  pub six : getD l 6 255 ≡ 0
+  pub rest : (i : ℕ) → 7 ≤ i → i < 16 → getD l i 255 ≡ 255
+
+abbrev pub SparesExactly : Type 0
+SparesExactly = (c j : ℕ) → c < 4294967296 → (l : List ℕ) → (l ≡ spareBytes c j) ↔ SpareListed c j l
+
+-- how often block n is erased
+unfoldable pub erasesOf : ℕ → List Op → ℕ
+erasesOf n [] = 0
+erasesOf n (program m q x ∷ os) = erasesOf n os
+erasesOf n (erase m ∷ os) = cond (eqb m n) 1 0 + erasesOf n os
+
+-- "Wear: a 32-bit erase count per block, which stays at 4,294,967,295 once there"
+abbrev pub WearAfter : Type 0
+WearAfter =
+    (wear : List ℕ) (ops : List Op) (n : ℕ) → n < length wear → wearAt wear n ≤ 4294967295
+    → wearAt (replayWear wear ops) n ≡ min (wearAt wear n + erasesOf n ops) 4294967295
+
+-- ---- "When a state is orderly"
+
+-- "with spare bytes as above and clusters below C of that region"
+pub record FrameListed (p : Params) (r : ℕ) (fr : List ℕ) : Type 0 where
+  pub cluster : ℕ
+  pub low : cluster < p .C
+  pub mine : cluster % p .mu ≡ r
+  pub spares : (j : ℕ) → j < p .alpha → SpareListed cluster j (drop (p .s) (page p fr j))
+
+-- "In a used block the first k frames are programmed, k from 1 to F .. The rest is erased"
+pub record BlockListed (p : Params) (r : ℕ) (blk : List ℕ) : Type 0 where
+  pub k : ℕ
+  pub some : 1 ≤ k
+  pub most : k ≤ p .beta * p .d
+  pub front : (f : ℕ) → f < k → FrameListed p r (frame p blk f)
+  pub rest : (f : ℕ) → k ≤ f → f < p .beta * p .d → erased (frame p blk f) ≡ true
+
+-- frame f of virtual block v is programmed
+abbrev pub Written : Params → View → ℕ → ℕ → Type 0
+Written p vw v f = programmed p (frame p (vw .body v) f) ≡ true
+
+-- FST "names the segment of the last programmed frame of one of the region's blocks, the open block, and every other block of the region is full"
+pub record OpenListed (p : Params) (vw : View) : Type 0 where
+  pub v : ℕ
+  pub f : ℕ
+  pub low : v < p .gamma
+  pub has : assigned vw v ≡ true
+  pub inside : f < p .beta * p .d
+  pub written : Written p vw v f
+  pub last : (g : ℕ) → f < g → g < p .beta * p .d → erased (frame p (vw .body v) g) ≡ true
+  pub names : vw .lastSeg ≡ v * p .d + f / p .beta
+  pub full : (u : ℕ) → u < p .gamma → (u ≡ v → ⊥) → assigned vw u ≡ true → (g : ℕ) → g < p .beta * p .d → Written p vw u g
+
+-- "names a segment, in its own region, that holds a programmed frame of that cluster"
+pub record EntryListed (p : Params) (vw : View) (c : ℕ) : Type 0 where
+  pub v : ℕ
+  pub f : ℕ
+  pub low : v < p .gamma
+  pub has : assigned vw v ≡ true
+  pub inside : f < p .beta * p .d
+  pub written : Written p vw v f
+  pub holds : held p (frame p (vw .body v) f) ≡ c
+  pub names : vw .segOf c ≡ v * p .d + f / p .beta
+
+-- of one region: its used blocks; "FST is none exactly if the region has no block. Otherwise it names .."; "A CT entry is none or names .."
+pub record RegionListed (p : Params) (r : ℕ) (vw : View) : Type 0 where
+  pub blocks : (v : ℕ) → v < p .gamma → assigned vw v ≡ true → BlockListed p r (vw .body v)
+  pub fst : (((v : ℕ) → v < p .gamma → assigned vw v ≡ false) × (vw .lastSeg ≡ 65535)) ⊎ OpenListed p vw
+  pub ct : (c : ℕ) → c < p .C → c % p .mu ≡ r → (vw .segOf c ≡ 65535) ⊎ EntryListed p vw c
+
+-- the five bullets, in their order, and T-06's "each mark equals the validity rule"
+pub record OrderlyListed (p : Params) (b : Board) : Type 0 where
+  pub kinds : (n : ℕ) → n < p .N → (bstAt (b .bst) n ≡ 0) ⊎ ((bstAt (b .bst) n ≡ 1) ⊎ (bstAt (b .bst) n ≡ 2))
+  pub names : (i : ℕ) → i < p .mu * p .gamma → (btEntry (b .bt) i ≡ 65535) ⊎ (btEntry (b .bt) i < p .N)
+  pub once : (i j : ℕ) → i < p .mu * p .gamma → j < p .mu * p .gamma → (btEntry (b .bt) i ≡ 65535 → ⊥) → btEntry (b .bt) i ≡ btEntry (b .bt) j → i ≡ j
+  pub used : (n : ℕ) → n < p .N → (bstAt (b .bst) n ≡ 1) ↔ ((i : ℕ) × (i < p .mu * p .gamma) × (btEntry (b .bt) i ≡ n))
+  pub room : p .mu * p .gamma + 1 ≤ countBelow (p .N) (λ n. not (eqb (bstAt (b .bst) n) 2))
+  pub free : (n : ℕ) → n < p .N → bstAt (b .bst) n ≡ 0 → erased (block p (b .chip) n) ≡ true
+  pub regions : (r : ℕ) → r < p .mu → RegionListed p r (view p b r)
+  pub marks : b .marks ≡ marksOf p b
+
+abbrev pub OrderlyExactly : Type 0
+OrderlyExactly = (p : Params) (b : Board) → allowed p ≡ true → lengthsFit p b ≡ true → (orderly p b ≡ true) ↔ OrderlyListed p b
+
+-- ---- "Format"
+
+-- byte 5 of the spare area of page q, counted over the chip: a page is s data bytes and then 16 spare bytes
+unfoldable pub fifth : Params → List ℕ → ℕ → ℕ
+fifth p chip q = getD chip (q * (p .s + 16) + p .s + 5) 0
+
+-- T-02: "A block is bad if byte 5 of the spare area is not 255 in page 0, or in page 1 where P is at least 2", by where these bytes stand on the chip
+abbrev pub BadListed : Params → List ℕ → ℕ → Type 0
+BadListed p chip n =
+    let P = p .alpha * (p .beta * p .d) in
+    (fifth p chip (n * P) ≡ 255 → ⊥) ⊎ ((2 ≤ P) × (fifth p chip (n * P + 1) ≡ 255 → ⊥))
+
+abbrev pub BadExactly : Type 0
+BadExactly = (p : Params) (chip : List ℕ) (n : ℕ) → allowed p ≡ true → (bad p chip n ≡ true) ↔ BadListed p chip n
+
+-- ---- "Write", "Reclaim" and "Free block"
+
+-- "the lowest erased frame of the open block"
+pub record ContinuesListed (p : Params) (vw : View) (v f : ℕ) : Type 0 where
+  pub some : vw .lastSeg ≡ 65535 → ⊥
+  pub block : v ≡ vw .lastSeg / p .d
+  pub inside : f < p .beta * p .d
+  pub here : erased (frame p (vw .body v) f) ≡ true
+  pub lower : (g : ℕ) → g < f → erased (frame p (vw .body v) g) ≡ false
+
+-- "If there is no open block or it is full"
+abbrev pub Full : Params → View → Type 0
+Full p vw = (vw .lastSeg ≡ 65535) ⊎ ((f : ℕ) → f < p .beta * p .d → erased (frame p (vw .body (vw .lastSeg / p .d)) f) ≡ false)
+
+-- "the lowest virtual block without a physical block"
+pub record OpensListed (p : Params) (vw : View) (v : ℕ) : Type 0 where
+  pub full : Full p vw
+  pub low : v < p .gamma
+  pub bare : assigned vw v ≡ false
+  pub lower : (u : ℕ) → u < v → assigned vw u ≡ true
+
+-- "If all are assigned"; "the virtual block with fewest valid frames, the lowest on a tie"
+pub record ReclaimsListed (p : Params) (vw : View) (v : ℕ) : Type 0 where
+  pub full : Full p vw
+  pub low : v < p .gamma
+  pub every : (u : ℕ) → u < p .gamma → assigned vw u ≡ true
+  pub fewest : (u : ℕ) → u < p .gamma → length (validFrames p vw v) ≤ length (validFrames p vw u)
+  pub lowest : (u : ℕ) → u < v → length (validFrames p vw v) < length (validFrames p vw u)
+
+abbrev pub PlanListed : Params → View → Plan → Type 0
+PlanListed p vw (continues v f) = ContinuesListed p vw v f
+PlanListed p vw (opens v) = OpensListed p vw v
+PlanListed p vw (reclaims v) = ReclaimsListed p vw v
+
+abbrev pub PlanExactly : Type 0
+PlanExactly = (p : Params) (b : Board) → OrderlyBoard p b → (r : ℕ) → r < p .mu → PlanListed p (view p b r) (planOf p (view p b r))
+
+-- "The one with the lowest wear, the lowest number on a tie"
+pub record FreeListed (p : Params) (b : Board) (n : ℕ) : Type 0 where
+  pub low : n < p .N
+  pub free : bstAt (b .bst) n ≡ 0
+  pub least : (m : ℕ) → m < p .N → bstAt (b .bst) m ≡ 0 → wearAt (b .wear) n ≤ wearAt (b .wear) m
+  pub lowest : (m : ℕ) → m < n → bstAt (b .bst) m ≡ 0 → wearAt (b .wear) n < wearAt (b .wear) m
+
+abbrev pub FreeExactly : Type 0
+FreeExactly = (p : Params) (b : Board) → OrderlyBoard p b → FreeListed p b (freeBlock p (b .bst) (b .wear))
