@@ -164,7 +164,7 @@ module _ (p : Params) (b : Board) (ordered : OrderlyBoard p b) where
 
 asked-reply : (p : Params) (q : Request) → requestReply p (requestOf (q .lba) (q .count) (replicate (length (q .bytes)) 0)) ≡ requestReply p q
 unfolding requestReply accessRows badCount wrongData
-asked-reply p q = rw (length-replicate (length (q .bytes)) 0)
+asked-reply p q = rw (length-replicate {A = ℕ} (length (q .bytes)) 0)
 
 asked-view : (p : Params) (vw : View) (c : Call) → viewBy p vw (asked c) ≡ viewBy p vw c
 unfolding asked viewBy
@@ -232,8 +232,8 @@ run-gives p r low b (c ∷ cs) s h n =
     go : (toRegion p r c ≡ true) ⊎ (toRegion p r c ≡ false) → Turn p b r c → Gives p (leaves p b c) r cs → Gives p b r (c ∷ cs)
     go (inl e) t below =
         record {
-          left = unfold boardAfter in (below .left ∙ rw (requests, e) (unfold viewRun in rw (asked-view p (view p b r) c, (t .own e) .0)));
-          answers = rw (answered, requests, e) (unfold viewAnswers in rw (asked-view p (view p b r) c, asked-answer p (view p b r) c, below .answers, (t .own e) .1, (t .own e) .0));
+          left = unfold boardAfter in (below .left ∙ rw (requests, e) (unfold viewRun in rw ((t .own e) .0, ← asked-view p (view p b r) c)));
+          answers = rw (answered, requests, e) (unfold viewAnswers in rw (below .answers, (t .own e) .1, (t .own e) .0, ← asked-view p (view p b r) c, ← asked-answer p (view p b r) c));
         }
     go (inr e) t below =
         record {
