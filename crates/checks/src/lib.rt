@@ -9,6 +9,7 @@ ghost use Rattle.rules.specs.Parameters.{allowed};
 ghost use Rattle.rules.specs.Tables.{none, btEntry, bstAt};
 ghost use Rattle.rules.specs.Orderly.{bstRule, btRule, roomRule};
 ghost use Rattle.checks.specs.Entries.{differs, emptyAt, kindsOk};
+use rules::PBlock;
 use rules::Params;
 use rules::VBlock;
 
@@ -19,7 +20,7 @@ pub fn bst_ok(p: Params, bst: &[u8]) -> bool
 {
     let mut n = 0;
     while n < bst.len() {
-        if bst[n] > 2 {
+        if tables::bst_at(bst, PBlock(n)) > 2 {
             return false;
         }
         n += 1;
@@ -34,7 +35,7 @@ fn not_reserved(bst: &[u8]) -> usize
     let mut k = 0;
     let mut n = 0;
     while n < bst.len() {
-        if bst[n] != 2 {
+        if tables::bst_at(bst, PBlock(n)) != 2 {
             k += 1;
         }
         n += 1;
@@ -88,7 +89,7 @@ pub fn assigned(bt: &[u16]) -> usize
     let mut k = 0;
     let mut i = 0;
     while i < bt.len() {
-        if bt[i] != 65535 {
+        if tables::bt_entry(bt, i).0 != 65535 {
             k += 1;
         }
         i += 1;
@@ -117,7 +118,7 @@ pub fn kinds_ok(p: Params, bst: &[u8], named: usize) -> bool
     let mut kept = 0;
     let mut n = 0;
     while n < bst.len() {
-        let s = bst[n];
+        let s = tables::bst_at(bst, PBlock(n));
         if s > 2 {
             return false;
         }

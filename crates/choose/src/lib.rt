@@ -24,11 +24,11 @@ fn is_better(bst: &[u8], wear: &[u32], i: usize, m: usize) -> bool
     requires { ⌜ Compared (now bst) (now wear) i m ⌝ }
     ensures { λ r. ⌜ r ≡ better (now (bst .entry)) (now (wear .entry)) i m ⌝ }
 {
-    if bst[i] == 0 {
+    if tables::bst_at(bst, PBlock(i)) == 0 {
         if m == 65535 {
             return true;
         }
-        return wear[i] < wear[m];
+        return tables::wear_at(wear, PBlock(i)) < tables::wear_at(wear, PBlock(m));
     }
     false
 }

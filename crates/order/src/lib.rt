@@ -12,6 +12,7 @@ ghost use Rattle.rules.specs.Parameters.{allowed, frames};
 ghost use Rattle.rules.specs.Tables.{boardOf, marksLength};
 ghost use Rattle.agree.specs.Check.{Lengths};
 ghost use Rattle.order.specs.Order.{BlocksAsked, bitAt, blockHeld, countsOk, entryOk, framesOk, named, regionHeld};
+use rules::Cluster;
 use rules::Params;
 use rules::Segment;
 use rules::VBlock;
@@ -166,7 +167,7 @@ fn count_named(ct: &[u16]) -> usize
     let mut k = 0;
     let mut c = 0;
     while c < ct.len() {
-        if ct[c] != 65535 {
+        if tables::ct_at(ct, Cluster(c)).0 != 65535 {
             k += 1;
         }
         c += 1;

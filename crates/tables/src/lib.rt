@@ -58,6 +58,15 @@ pub fn bst_at(bst: &[u8], n: PBlock) -> u8
     bst[i]
 }
 
+// The wear of a block.
+pub fn wear_at(wear: &[u32], n: PBlock) -> u32
+    requires { ⌜ n .0 < length (now wear) ⌝ }
+    ensures { λ w. ⌜ w ≡ wearAt (now (wear .entry)) (n .0) ⌝ }
+{
+    let i = n.0;
+    wear[i]
+}
+
 // CT names this segment for the cluster.
 pub fn set_ct(ct: &mut [u16], c: Cluster, sg: Segment)
     requires { ⌜ c .0 < length (now ct) ⌝ }

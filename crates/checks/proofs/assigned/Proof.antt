@@ -7,12 +7,10 @@ use Prim.Native.Nat.{_-_, _≤_}
 use native.Mathlib.Omega.{arith}
 use lib.Dec.{eqb}
 use lib.ListN.{length}
-use borrow.Author.Needs.{needs}
 use borrow.Author.Tests.{eq-eqb, ne-eqb}
 use Rattle.lists.specs.Below.{countBelow}
 use Rattle.rules.specs.Tables.{btEntry, none}
 use Rattle.loops.proofs.Below.{count-no, count-start, count-yes}
-use Rattle.loops.proofs.Elements.{default}
 use Rattle.checks.proofs.assigned.Statement.{statement}
 use Rattle.checks.proofs.assigned.Tie as tie
 
@@ -25,11 +23,8 @@ abbrev μ-loop : tie.MeasureT-loop
 loop-holds : tie.Need-loop-holds Inv-loop μ-loop
 loop-holds c = (omega arith, omega arith, count-start _)
 
-mul-if1 : tie.Need-mul-if1 Inv-loop μ-loop
-mul-if1 c = search needs
-
-shared-slice-read-if1 : tie.Need-shared-slice-read-if1 Inv-loop μ-loop
-shared-slice-read-if1 c = omega arith
+bt-entry-requires : tie.Need-bt-entry-requires Inv-loop μ-loop
+bt-entry-requires c κs = omega arith
 
 add-k : tie.Need-add-k Inv-loop μ-loop
 add-k c = omega arith
@@ -41,10 +36,9 @@ loop-less : tie.Need-loop-less Inv-loop μ-loop
 loop-less c = omega arith
 
 loop-again : tie.Need-loop-again Inv-loop μ-loop
-unfolding btEntry
 loop-again c =
-    let l = c .before .before .before .loop in
-    let d = default (c .before .before .before .before .args .bt .now) (l .i) 0 none (omega arith) in (
+    let l = c .before .before .before .before .loop in
+    let d = c .before .before .bt-entry .ensures .0 in (
       omega arith,
       ⊎-elim (λ w. omega arith) (λ w. omega arith) (c .if1 .came),
       ⊎-elim (λ w. rw (w .1) (count-yes _ _ _ (l .inv .2) (ap not (ne-eqb _ _ (λ e. w .0 .taken (d ∙ e)))))) (λ w. rw (w .1) (count-no _ _ _ (l .inv .2) (ap not (eq-eqb _ _ (sym d ∙ w .0 .left))))) (c .if1 .came),
@@ -52,7 +46,7 @@ loop-again c =
 
 returns : tie.Need-returns Inv-loop μ-loop
 returns c =
-    let e : c .before .loop .i ≡ length (c .before .before .args .bt .now) = omega arith in
+    let e : c .before .loop .i ≡ length (c .before .before .before .args .bt .now) = omega arith in
     rw (← e) (c .before .loop .inv .2)
 
 pub assigned-spec : {M : Type 1} → statement M
@@ -62,8 +56,7 @@ assigned-spec =
     Inv-loop
     μ-loop
     loop-holds
-    mul-if1
-    shared-slice-read-if1
+    bt-entry-requires
     add-k
     add-i
     loop-less

@@ -23,12 +23,12 @@ abbrev μ-loop : tie.MeasureT-loop
 loop-holds : tie.Need-loop-holds Inv-loop μ-loop
 loop-holds c = (omega arith, all-start _)
 
-shared-slice-read-if1 : tie.Need-shared-slice-read-if1 Inv-loop μ-loop
-shared-slice-read-if1 c = omega arith
+bst-at-requires : tie.Need-bst-at-requires Inv-loop μ-loop
+bst-at-requires c κs = omega arith
 
 returns : tie.Need-returns Inv-loop μ-loop
-unfolding bstRule bstAt
-returns c = sym (all-fails _ (c .before .before .before .loop .n) _ (omega (arith, c .before .before .loop-test .taken, c .before .before .before .before .pre)) (lt-leb _ _ (c .if1 .taken)))
+unfolding bstRule
+returns c = sym (all-fails _ (c .before .before .before .loop .n) _ (omega (arith, c .before .before .loop-test .taken, c .before .before .before .before .before .pre)) (rw (c .before .bst-at .ensures) at (lt-leb _ _ (c .if1 .taken))))
 
 add-n : tie.Need-add-n Inv-loop μ-loop
 add-n c = omega arith
@@ -37,12 +37,11 @@ loop-less : tie.Need-loop-less Inv-loop μ-loop
 loop-less c = omega arith
 
 loop-again : tie.Need-loop-again Inv-loop μ-loop
-unfolding bstAt
-loop-again c = (omega arith, all-more _ _ (c .before .before .before .loop .inv .1) (le-leb _ _ (c .if1 .left)))
+loop-again c = (omega arith, all-more _ _ (c .before .before .before .loop .inv .1) (rw (c .before .bst-at .ensures) at (le-leb _ _ (c .if1 .left))))
 
 returns-2 : tie.Need-returns-2 Inv-loop μ-loop
-unfolding bstRule bstAt
-returns-2 c = sym (all-end _ _ _ (omega (arith, c .before .before .pre)) (c .before .loop .inv .1))
+unfolding bstRule
+returns-2 c = sym (all-end _ _ _ (omega (arith, c .before .before .before .pre)) (c .before .loop .inv .1))
 
 pub bst-ok-spec : {M : Type 1} → statement M
 bst-ok-spec =
@@ -51,7 +50,7 @@ bst-ok-spec =
     Inv-loop
     μ-loop
     loop-holds
-    shared-slice-read-if1
+    bst-at-requires
     returns
     add-n
     loop-less

@@ -39,12 +39,12 @@ count-if f i k t e q = go (so (f i))
 loop-holds : tie.Need-loop-holds Inv-loop μ-loop
 loop-holds c = (omega arith, omega arith, omega arith, all-start _, count-start _, count-start _)
 
-shared-slice-read-s : tie.Need-shared-slice-read-s Inv-loop μ-loop
-shared-slice-read-s c = omega arith
+bst-at-requires : tie.Need-bst-at-requires Inv-loop μ-loop
+bst-at-requires c κs = omega arith
 
 returns : tie.Need-returns Inv-loop μ-loop
-unfolding kindsOk bstRule bstAt
-returns c = rw (all-fails (c .before .before .before .before .before .args .p .N) (c .before .before .before .loop .n) (λ n. leb (bstAt (c .before .before .before .before .before .args .bst .now) n) 2) (omega (arith, c .before .before .loop-test .taken, c .before .before .before .before .before .pre .1)) (lt-leb _ _ (c .if1 .taken)))
+unfolding kindsOk bstRule
+returns c = rw (all-fails (c .before .before .before .before .before .args .p .N) (c .before .before .before .loop .n) (λ n. leb (bstAt (c .before .before .before .before .before .args .bst .now) n) 2) (omega (arith, c .before .before .loop-test .taken, c .before .before .before .before .before .pre .1)) (rw (c .before .bst-at .ensures) at (lt-leb _ _ (c .if1 .taken))))
 
 one-if-requires : tie.Need-one-if-requires Inv-loop μ-loop
 one-if-requires c κs = search needs
@@ -65,15 +65,15 @@ loop-less : tie.Need-loop-less Inv-loop μ-loop
 loop-less c = omega arith
 
 loop-again : tie.Need-loop-again Inv-loop μ-loop
-unfolding bstAt
 loop-again c =
-    let i = c .before .before .before .before .before .loop .inv in (
+    let i = c .before .before .before .before .before .loop .inv in
+    let e = c .before .before .before .bst-at .ensures in (
       omega arith,
       omega (arith, i .1, c .before .one-if .ensures .1),
       omega (arith, i .2, c .one-if2 .ensures .1),
-      all-more _ _ (i .3) (le-leb _ _ (c .before .before .if1 .left)),
-      count-if (λ n. eqb (bstAt (c .before .before .before .before .before .before .before .args .bst .now) n) 1) _ _ _ (i .4) (c .before .one-if .ensures .0),
-      count-if (λ n. not (eqb (bstAt (c .before .before .before .before .before .before .before .args .bst .now) n) 2)) _ _ _ (i .5) (c .one-if2 .ensures .0),
+      all-more _ _ (i .3) (rw e at (le-leb _ _ (c .before .before .if1 .left))),
+      count-if (λ n. eqb (bstAt (c .before .before .before .before .before .before .before .args .bst .now) n) 1) _ _ _ (i .4) (rw e at (c .before .one-if .ensures .0)),
+      count-if (λ n. not (eqb (bstAt (c .before .before .before .before .before .before .before .args .bst .now) n) 2)) _ _ _ (i .5) (rw e at (c .one-if2 .ensures .0)),
     )
 
 mul-result : tie.Need-mul-result Inv-loop μ-loop
@@ -99,7 +99,7 @@ kinds-ok-spec =
     Inv-loop
     μ-loop
     loop-holds
-    shared-slice-read-s
+    bst-at-requires
     returns
     one-if-requires
     add-used

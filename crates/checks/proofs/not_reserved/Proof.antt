@@ -1,6 +1,6 @@
 -- `checks::not_reserved`: the count of the blocks passed.
 -- Assumes nothing.
-use mathlib.Core.Path.{ap, _≡_}
+use mathlib.Core.Path.{ap, sym, _∙_, _≡_}
 use mathlib.Core.Logic.{⊎-elim}
 use mathlib.Core.Bool.{not}
 use Prim.Native.Nat.{_-_, _≤_}
@@ -23,8 +23,8 @@ abbrev μ-loop : tie.MeasureT-loop
 loop-holds : tie.Need-loop-holds Inv-loop μ-loop
 loop-holds c = (omega arith, omega arith, count-start _)
 
-shared-slice-read-if1 : tie.Need-shared-slice-read-if1 Inv-loop μ-loop
-shared-slice-read-if1 c = omega arith
+bst-at-requires : tie.Need-bst-at-requires Inv-loop μ-loop
+bst-at-requires c κs = omega arith
 
 add-k : tie.Need-add-k Inv-loop μ-loop
 add-k c = omega arith
@@ -36,17 +36,17 @@ loop-less : tie.Need-loop-less Inv-loop μ-loop
 loop-less c = omega arith
 
 loop-again : tie.Need-loop-again Inv-loop μ-loop
-unfolding bstAt
 loop-again c =
-    let i = c .before .before .before .loop .inv in (
+    let i = c .before .before .before .loop .inv in
+    let e = c .before .bst-at .ensures in (
       omega arith,
       ⊎-elim (λ w. omega arith) (λ w. omega arith) (c .if1 .came),
-      ⊎-elim (λ w. rw (w .1) (count-yes _ _ _ (i .2) (ap not (ne-eqb _ _ (w .0 .taken))))) (λ w. rw (w .1) (count-no _ _ _ (i .2) (ap not (eq-eqb _ _ (w .0 .left))))) (c .if1 .came),
+      ⊎-elim (λ w. rw (w .1) (count-yes _ _ _ (i .2) (ap not (ne-eqb _ _ (λ x. w .0 .taken (e ∙ x)))))) (λ w. rw (w .1) (count-no _ _ _ (i .2) (ap not (eq-eqb _ _ (sym e ∙ w .0 .left))))) (c .if1 .came),
     )
 
 returns : tie.Need-returns Inv-loop μ-loop
 returns c =
-    let e : c .before .loop .n ≡ length (c .before .before .args .bst .now) = omega arith in
+    let e : c .before .loop .n ≡ length (c .before .before .before .args .bst .now) = omega arith in
     rw (← e) (c .before .loop .inv .2)
 
 pub not-reserved-spec : {M : Type 1} → statement M
@@ -56,7 +56,7 @@ not-reserved-spec =
     Inv-loop
     μ-loop
     loop-holds
-    shared-slice-read-if1
+    bst-at-requires
     add-k
     add-n
     loop-less

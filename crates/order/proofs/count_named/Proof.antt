@@ -6,12 +6,9 @@ use mathlib.Core.Bool.{not}
 use Prim.Native.Nat.{_-_, _≤_}
 use native.Mathlib.Omega.{arith}
 use lib.ListN.{length}
-use borrow.Author.Needs.{needs}
 use borrow.Author.Tests.{eq-eqb, ne-eqb}
 use Rattle.lists.specs.Below.{countBelow}
-use Rattle.rules.specs.Tables.{ctAt, none}
 use Rattle.loops.proofs.Below.{count-no, count-start, count-yes}
-use Rattle.loops.proofs.Elements.{default}
 use Rattle.order.specs.Order.{named}
 use Rattle.order.proofs.count_named.Statement.{statement}
 use Rattle.order.proofs.count_named.Tie as tie
@@ -25,11 +22,8 @@ abbrev μ-loop : tie.MeasureT-loop
 loop-holds : tie.Need-loop-holds Inv-loop μ-loop
 loop-holds c = (omega arith, omega arith, count-start _)
 
-mul-if1 : tie.Need-mul-if1 Inv-loop μ-loop
-mul-if1 c = search needs
-
-shared-slice-read-if1 : tie.Need-shared-slice-read-if1 Inv-loop μ-loop
-shared-slice-read-if1 c = omega arith
+ct-at-requires : tie.Need-ct-at-requires Inv-loop μ-loop
+ct-at-requires c κs = omega arith
 
 add-k : tie.Need-add-k Inv-loop μ-loop
 add-k c = omega arith
@@ -41,10 +35,10 @@ loop-less : tie.Need-loop-less Inv-loop μ-loop
 loop-less c = omega arith
 
 loop-again : tie.Need-loop-again Inv-loop μ-loop
-unfolding named ctAt
+unfolding named
 loop-again c =
-    let l = c .before .before .before .loop in
-    let d = default (c .before .before .before .before .args .ct .now) (l .c) 0 none (omega arith) in (
+    let l = c .before .before .before .before .loop in
+    let d = c .before .before .ct-at .ensures .0 in (
       omega arith,
       ⊎-elim (λ w. omega arith) (λ w. omega arith) (c .if1 .came),
       ⊎-elim (λ w. rw (w .1) (count-yes _ _ _ (l .inv .2) (ap not (ne-eqb _ _ (λ e. w .0 .taken (d ∙ e)))))) (λ w. rw (w .1) (count-no _ _ _ (l .inv .2) (ap not (eq-eqb _ _ (sym d ∙ w .0 .left))))) (c .if1 .came),
@@ -52,8 +46,8 @@ loop-again c =
 
 returns : tie.Need-returns Inv-loop μ-loop
 returns c =
-    let e : c .before .loop .c ≡ length (c .before .before .args .ct .now) = omega arith in
+    let e : c .before .loop .c ≡ length (c .before .before .before .args .ct .now) = omega arith in
     rw (← e) (c .before .loop .inv .2)
 
 pub count-named-spec : {M : Type 1} → statement M
-count-named-spec = tie.close (tie.spec Inv-loop μ-loop loop-holds mul-if1 shared-slice-read-if1 add-k add-c loop-less loop-again returns)
+count-named-spec = tie.close (tie.spec Inv-loop μ-loop loop-holds ct-at-requires add-k add-c loop-less loop-again returns)
