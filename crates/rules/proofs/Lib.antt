@@ -32,4 +32,5 @@ pub mod FormatCounts
 pub mod ValidFrames
 pub mod ItemData
 pub mod Words
+pub mod CopiesStand
 pub mod OrderlyWords

@@ -82,7 +82,7 @@ module _ (p : Params) (z : Sizes p) (r : ℕ) (vw : View) (neat : Neat p r vw) (
   seg-is c = refl
 
   -- the frames of the new block
-  frame-copy : (i : ℕ) → i < length (validFrames p vw v) → frame p ((withRoom p vw (reclaims v)) .body v) i ≡ frame p (vw .body v) (nthValid p vw v i)
+  pub frame-copy : (i : ℕ) → i < length (validFrames p vw v) → frame p ((withRoom p vw (reclaims v)) .body v) i ≡ frame p (vw .body v) (nthValid p vw v i)
   frame-copy i h =
       rw body-here (sym (ap (frame p (putFrames p 0 (copies p vw (reclaims v)) (erasedBlock p))) (zero-add i))
       ∙ put-frames-new p (copies p vw (reclaims v)) 0 (erasedBlock p) (fresh-size p) wholes copies-fit i (rw copies-length h) ∙ copy-at i h)

@@ -1,25 +1,28 @@
 -- Words of documents 01 and 02 that elsewhere a definition alone says, once more in terms of their own: plain numbers, bytes and inequalities. No call is
 -- defined by what stands here: proofs/Words.antt and proofs/OrderlyWords.antt show that the definitions say the same, no less and no more.
+-- The last part is a law of a reclaim's operations, which proofs/CopiesStand.antt shows.
 -- Assumes nothing.
 use Prim.Native.Nat.{ℕ, _+_, _-_, _*_, _/_, _%_, _≤_, _<_, min}
 use mathlib.Core.Path.{_≡_}
 use mathlib.Core.Logic.{_⊎_, _↔_}
 use mathlib.Core.Bool.{Bool, true, false, not, cond}
 use mathlib.Core.List.{List, [], _∷_}
-use lib.ListN.{length, getD, drop}
+use lib.ListN.{length, getD, drop, take}
 use lib.Dec.{eqb}
 use Rattle.lists.specs.Below.{countBelow}
 use Rattle.rules.specs.declared.Params.{Params}
+use Rattle.rules.specs.declared.Reply.the-variants.{Accepted}
 use Rattle.rules.specs.Parameters.{allowed, frames}
-use Rattle.rules.specs.Tables.{Board, btEntry, bstAt, wearAt}
+use Rattle.rules.specs.Tables.{Board, btAt, btEntry, bstAt, wearAt}
 use Rattle.rules.specs.Pages.{block, erased, frame, held, page, programmed, spareBytes}
 use Rattle.rules.specs.Regions.{View, assigned, validFrames, view}
 use Rattle.rules.specs.Marks.{marksOf}
 use Rattle.rules.specs.Orderly.{orderly}
-use Rattle.rules.specs.Traces.{Op, program, erase, replayWear}
+use Rattle.rules.specs.Traces.{Op, program, erase, replayChip, replayWear}
 use Rattle.rules.specs.Format.{bad}
-use Rattle.rules.specs.Write.{Plan, continues, opens, reclaims, freeBlock, planOf}
-use Rattle.rules.specs.Replies.{OrderlyBoard, lengthsFit}
+use Rattle.rules.specs.Write.{Plan, continues, opens, reclaims, freeBlock, planOf, writeOps}
+use Rattle.rules.specs.Requests.{Request, write, requestRegion}
+use Rattle.rules.specs.Replies.{OrderlyBoard, lengthsFit, replyOf}
 
 -- ---- "Parameters"
 
@@ -191,3 +194,17 @@ pub record FreeListed (p : Params) (b : Board) (n : ℕ) : Type 0 where
 
 abbrev pub FreeExactly : Type 0
 FreeExactly = (p : Params) (b : Board) → OrderlyBoard p b → FreeListed p b (freeBlock p (b .bst) (b .wear))
+
+-- ---- "Erasing the victim before its copies stand"
+
+-- after any k of the operations of a write that reclaims, each frame of the victim that was valid stands where it was, or as its copy: the i-th of them as
+-- frame i of the block that is taken
+abbrev pub CopiesStand : Type 0
+CopiesStand =
+    (p : Params) (b : Board) (q : Request) → replyOf p b (write q) ≡ Accepted → (v : ℕ) → planOf p (view p b (requestRegion p q)) ≡ reclaims v
+    → (k i : ℕ) → i < length (validFrames p (view p b (requestRegion p q)) v)
+    → let chip = replayChip p (b .chip) (take k (writeOps p b q)) in
+    let old = btAt p (b .bt) (requestRegion p q) v in
+    let f = getD (validFrames p (view p b (requestRegion p q)) v) i 0 in
+    let was = frame p (block p (b .chip) old) f in
+    (frame p (block p chip old) f ≡ was) ⊎ (frame p (block p chip (freeBlock p (b .bst) (b .wear))) i ≡ was)
