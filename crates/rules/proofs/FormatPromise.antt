@@ -1,4 +1,4 @@
--- An accepted format leaves an orderly state, whose sectors all read as 255, and does not touch a bad block.
+-- An accepted format leaves an orderly state, whose sectors all read as 255, does not touch a bad block, and erases every other.
 -- Assumes nothing.
 use mathlib.Core.Path.{_≡_, refl, sym, ap, _∙_}
 use mathlib.Core.Logic.{inl}
@@ -171,3 +171,6 @@ module _ (p : Params) (b : Board) (e : replyOf p b format ≡ Accepted) where
 
   pub format-bad : (m : ℕ) → bad p (b .chip) m ≡ true → block p ((formatted p b) .chip) m ≡ block p (b .chip) m
   format-bad = cleared .kept
+
+  pub format-good : (m : ℕ) → m < p .N → bad p (b .chip) m ≡ false → block p ((formatted p b) .chip) m ≡ erasedBlock p
+  format-good = cleared .done

@@ -34,3 +34,4 @@ pub mod ItemData
 pub mod Words
 pub mod CopiesStand
 pub mod OrderlyWords
+pub mod BadBlocks

@@ -110,13 +110,22 @@ module _ (p : Params) (z : Sizes p) (b b′ : Board) (t : Tables p b) (k n : ℕ
       go (no x) (else ne y) = rw (ch .kindElse m h ne y) (t .usedBack i hi m h (sym (ch .entryElse i x) ∙ e))
 
   -- no block becomes reserved, and none ceases to be
-  reserved : (m : ℕ) → m < p .N → eqb (bstAt (b .bst) m) 2 ≡ eqb (bstAt (b′ .bst) m) 2
+  pub reserved : (m : ℕ) → m < p .N → eqb (bstAt (b .bst) m) 2 ≡ eqb (bstAt (b′ .bst) m) 2
   reserved m h = go (which m)
     where
       go : Which m → eqb (bstAt (b .bst) m) 2 ≡ eqb (bstAt (b′ .bst) m) 2
       go (new e) = rw (e, ch .kindHere) (ne-eqb _ _ (ch .was))
       go (old ne e) = rw (kind-old m h ne e) (ne-eqb (bstAt (b .bst) m) 2 (λ x. omega (arith, t .usedBack k (ch .index) m h (sym e))))
       go (else ne e) = rw (ch .kindElse m h ne e)
+
+  -- and a reserved one keeps its bytes: it is neither the new one nor the old one
+  pub reserved-block : (m : ℕ) → m < p .N → bstAt (b .bst) m ≡ 2 → block p (b′ .chip) m ≡ block p (b .chip) m
+  reserved-block m h e = go (which m)
+    where
+      go : Which m → block p (b′ .chip) m ≡ block p (b .chip) m
+      go (new x) = absurd (ch .was (ap (bstAt (b .bst)) (sym x) ∙ e))
+      go (old ne x) = absurd (omega (arith, e, t .usedBack k (ch .index) m h (sym x)))
+      go (else ne x) = ch .blockElse m h ne x
 
   free : (m : ℕ) → m < p .N → bstAt (b′ .bst) m ≡ 0 → allAre 255 (block p (b′ .chip) m) ≡ true
   free m h e = go (which m)

@@ -32,7 +32,7 @@ use Rattle.rules.proofs.Continues.{open-low, open-of}
 use Rattle.rules.proofs.Frames.{erased-not, le-bytes, marked-programmed}
 use Rattle.rules.proofs.Opens.{all-full}
 use Rattle.rules.proofs.RegionFacts.{Neat, Open, neat}
-use Rattle.rules.proofs.Sizes.{Sizes, sizes, within-true}
+use Rattle.rules.proofs.Sizes.{Sizes, sizes, some-page, within-true}
 use Rattle.rules.proofs.TableFacts.{tables-in}
 use Rattle.rules.proofs.Victims.{victim-fewest, victim-lowest}
 use Rattle.rules.proofs.Views.{free-block}
@@ -212,23 +212,19 @@ module _ (p : Params) (chip : List ℕ) (n j q : ℕ) (low : j < pages p) (is : 
   mark-out h = ap not (ne-eqb _ _ (λ e. h (sym (fifth-at p chip n j q low is) ∙ e)))
 
 module _ (p : Params) (chip : List ℕ) (n : ℕ) (z : Sizes p) where
-  some-page : 0 < pages p
-  unfolding pages
-  some-page = omega (arith, next 1 0 (p .alpha) (z .sectors), next (p .alpha) 0 (frames p) (z .some))
-
   bad-in : bad p chip n ≡ true → BadListed p chip n
   unfolding bad pages frames
   bad-in h = go (or-cases (badMark p chip n 0) h)
     where
       go : (badMark p chip n 0 ≡ true) ⊎ (leb 2 (pages p) && badMark p chip n 1 ≡ true) → BadListed p chip n
-      go (inl e) = inl (mark-in p chip n 0 _ some-page (omega arith) e)
+      go (inl e) = inl (mark-in p chip n 0 _ (some-page p z) (omega arith) e)
       go (inr e) =
           let two = leb-true 2 (pages p) (and-left (leb 2 (pages p)) _ e) in
           inr (two, mark-in p chip n 1 _ two (omega arith) (and-right (leb 2 (pages p)) e))
 
   bad-out : BadListed p chip n → bad p chip n ≡ true
   unfolding bad pages frames
-  bad-out (inl h) = rw (mark-out p chip n 0 _ some-page (omega arith) h)
+  bad-out (inl h) = rw (mark-out p chip n 0 _ (some-page p z) (omega arith) h)
   bad-out (inr h) = or-right (badMark p chip n 0) (and-intro (le-leb 2 (pages p) (h .0)) (mark-out p chip n 1 _ (h .0) (omega arith) (h .1)))
 
 pub bad-exactly : BadExactly

@@ -1,4 +1,4 @@
--- What an accepted write does: it leaves an orderly state, reads back, programs erased pages only, and keeps to its region.
+-- What an accepted write does: it leaves an orderly state, reads back, programs erased pages only, keeps to its region, and leaves reserved blocks alone.
 -- Assumes nothing.
 use mathlib.Core.Path.{_≡_, refl, _∙_}
 use mathlib.Core.Logic.{_⊎_, inl, inr}
@@ -8,7 +8,7 @@ use native.Mathlib.Omega.{arith}
 use native.Mathlib.Decide.{ℕ-discrete, decLt}
 use mathlib.Core.Bool.{Bool, true, false, _&&_, cond}
 use mathlib.Core.List.{List, [], _∷_}
-use lib.Dec.{leb}
+use lib.Dec.{eqb, leb}
 use borrow.Author.Tests.{lt-leb, le-ltb}
 use lib.ListN.{length, set, length-set}
 use Rattle.lists.specs.Parts.{part}
@@ -34,7 +34,7 @@ use Rattle.rules.proofs.NewFrames.{data-new, host-sheet, new-given}
 use Rattle.rules.proofs.RegionFacts.{Entry, Neat, neat, regionOrderly}
 use Rattle.rules.proofs.RegionKept.{put-orderly}
 use Rattle.rules.proofs.TableFacts.{Tables}
-use Rattle.rules.proofs.TablesKept.{Change, tables-kept}
+use Rattle.rules.proofs.TablesKept.{Change, reserved, reserved-block, tables-kept}
 use Rattle.rules.proofs.Views.{body-size}
 
 pub wear-length : (wear : List ℕ) (os : List Op) → length (replayWear wear os) ≡ length wear
@@ -173,6 +173,13 @@ module _ (p : Params) (b : Board) (q : Request) (acc : Admitted p b q) (r : ℕ)
 
   pub tables-after : Tables p (writtenBy p b r q pl)
   tables-after = tables-kept p (acc .sized) b (writtenBy p b r q pl) (acc .tables) _ _ change
+
+  -- (B) a block is reserved as before, and one that is keeps its bytes
+  pub reserved-same : (m : ℕ) → m < p .N → eqb (bstAt (b .bst) m) 2 ≡ eqb (bstAt ((writtenBy p b r q pl) .bst) m) 2
+  reserved-same = reserved p (acc .sized) b (writtenBy p b r q pl) (acc .tables) _ _ change
+
+  pub reserved-bytes : (m : ℕ) → m < p .N → bstAt (b .bst) m ≡ 2 → block p ((writtenBy p b r q pl) .chip) m ≡ block p (b .chip) m
+  reserved-bytes = reserved-block p (acc .sized) b (writtenBy p b r q pl) (acc .tables) _ _ change
 
   pub write-orderly : orderly p (writtenBy p b r q pl) ≡ true
   write-orderly = orderly-all p (writtenBy p b r q pl) (acc .sized) tables-after (λ r′ h. go r′ h (ℕ-discrete r′ r)) (write-marks p b r q pl)
