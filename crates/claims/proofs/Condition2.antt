@@ -1,4 +1,5 @@
--- Condition 2: reads return what was last accepted; chip and wear are the trace's replay, the trace is clean, and no page is programmed twice.
+-- Condition 2: reads return what was last accepted; chip and wear are the trace's replay, the trace is clean, and no page is programmed twice; a format is
+-- accepted again, and finds the same blocks bad.
 -- Assumes nothing.
 use mathlib.Core.Path.{_≡_, refl, ap, _∙_}
 use Prim.Native.Nat.{ℕ, _+_}
@@ -14,6 +15,7 @@ use Rattle.rules.proofs.Admitted.{format-admitted}
 use Rattle.rules.proofs.Outcomes.{read-accepted}
 use Rattle.claims.specs.Runs.{Memory, blank, boardAfter, leaves, memoryAfter, partsOf, remember}
 use Rattle.claims.specs.Conditions.{Condition2}
+use Rattle.claims.proofs.Again.{after-bad, format-again}
 use Rattle.claims.proofs.Condition1.{in-order}
 use Rattle.claims.proofs.Kept.{accepted-orderly, after-orderly, trace-chip, trace-clean, trace-fits, trace-once, trace-wear}
 use Rattle.claims.proofs.Memory.{Agrees, after-agrees, format-agrees, memory-step, read-agrees}
@@ -45,4 +47,6 @@ condition-2 p b e cs =
       fits = trace-fits p b run;
       erased = trace-clean p b run;
       once = trace-once p b run ((format-admitted p b e) .lengths);
+      again = format-again p b e run (run-orderly p b e cs);
+      sameBad = after-bad p b run;
     }

@@ -7,6 +7,7 @@ pub mod Kept
 pub mod Memory
 pub mod Freed
 pub mod Condition1
+pub mod Again
 pub mod Condition2
 pub mod RegionMachine
 pub mod Condition3

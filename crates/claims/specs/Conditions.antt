@@ -19,7 +19,7 @@ use Rattle.rules.specs.Tables.{Board, none, ctAt, btEntry, bstAt, markIndex, wo
 use Rattle.rules.specs.Regions.{view}
 use Rattle.rules.specs.Traces.{replayChip, replayWear, clean}
 use Rattle.rules.specs.Requests.{Request, requestRegion, Queue, Call, format, read, write, release, queue, lent, lentAnswers}
-use Rattle.rules.specs.Format.{goodBlocks}
+use Rattle.rules.specs.Format.{bad, goodBlocks}
 use Rattle.rules.specs.Write.{Plan, continues, opens, reclaims, planOf, planErases, planFrame, planBlock, copies}
 use Rattle.rules.specs.Replies.{OrderlyBoard, Row, replyOf, rowsOf}
 use Rattle.rules.specs.Calls.{Outcome, outcomeOf}
@@ -146,6 +146,9 @@ pub record OfRun (p : Params) (b : Board) (run : List Call) (b′ : Board) : Typ
   -- "Each page that the steps program is 255 throughout just before"; "No page is programmed twice between erases"
   pub erased : clean p (b .chip) (traceOf p b run) ≡ true
   pub once : noPageTwice (traceOf p b run)
+  -- a format is accepted again, and finds the blocks bad that the first one found
+  pub again : replyOf p b′ format ≡ Accepted
+  pub sameBad : (n : ℕ) → n < p .N → bad p (b′ .chip) n ≡ bad p (b .chip) n
 
 abbrev pub Condition2 : Type 0
 Condition2 = (p : Params) (b : Board) → replyOf p b format ≡ Accepted → (cs : List Call) → OfRun p b (format ∷ cs) (boardAfter p b (format ∷ cs))

@@ -42,15 +42,17 @@ use Rattle.rules.proofs.Writes.{reserved-bytes, reserved-same}
 -- ---- spare byte 5 of a page
 
 module _ (p : Params) (blk : List ℕ) (whole : length blk ≡ blockBytes p) where
+  -- its pages lie within it
   page-fits : (q : ℕ) → q < pages p → q * pageBytes p + pageBytes p ≤ length blk
   unfolding blockBytes frameBytes pages
   page-fits q h = omega (arith, whole, next (pageBytes p) q (p .alpha * frames p) h)
 
+  -- the spare bytes are 16
   spare-long : (q : ℕ) → q < pages p → length (spare p blk q) ≡ 16
   unfolding spare page pageBytes
   spare-long q h = simp length-drop (omega (arith, part-length (p .s + 16) q blk (page-fits q h)))
 
-  -- it is 255 where the spare bytes are erased
+  -- byte 5 is 255 where they are erased
   erased-fifth : (q : ℕ) → q < pages p → allAre 255 (spare p blk q) ≡ true → getD (spare p blk q) 5 0 ≡ 255
   erased-fifth q h e = ap (λ (l : List ℕ). getD l 5 0) (replicate-of 255 (spare p blk q) e) ∙ getD-replicate (length (spare p blk q)) 5 255 0 (omega (arith, spare-long q h))
 
@@ -64,7 +66,7 @@ module _ (p : Params) (blk : List ℕ) (whole : length blk ≡ blockBytes p) whe
   unfolding spare page frame frameBytes
   frame-spare f j h = ap (drop (p .s)) (part-part (pageBytes p) (p .alpha) f j blk h)
 
-  -- and in each page of a block whose first k frames are programmed and whose rest is erased
+  -- and in each page of a block whose first k frames are programmed and whose rest is erased: by its frame and its place there
   frame-fifth : (r k : ℕ) → UpTo p r k blk → (f j : ℕ) → f < frames p → j < p .alpha → f * p .alpha + j < pages p → getD (spare p blk (f * p .alpha + j)) 5 0 ≡ 255
   frame-fifth r k u f j lf lj h = go (decLt f k)
     where
@@ -72,6 +74,7 @@ module _ (p : Params) (blk : List ℕ) (whole : length blk ≡ blockBytes p) whe
       go (yes a) = rw (← frame-spare f j lj, (u .front f a lf) .marks j lj) (unfold spareBytes bytes32 in refl)
       go (no a) = erased-fifth (f * p .alpha + j) h (rw (← frame-spare f j lj) (unfold spare page in allAre-drop 255 (p .s) _ (allAre-part 255 (pageBytes p) j (frame p blk f) (u .rest f (omega arith) lf))))
 
+  -- by its number
   used-fifth : Sizes p → (r k : ℕ) → UpTo p r k blk → (q : ℕ) → q < pages p → getD (spare p blk q) 5 0 ≡ 255
   used-fifth z r k u q h =
       let e : q / p .alpha * p .alpha + q % p .alpha ≡ q = div-add-mod' q (p .alpha) in
@@ -94,18 +97,21 @@ bytes-bad : (p : Params) (chip chip′ : List ℕ) (n : ℕ) → block p chip′
 unfolding bad badMark
 bytes-bad p chip chip′ n e = rw e
 
--- on an orderly board a block that BST does not call reserved is not bad
+-- ---- an orderly board: a block that BST does not call reserved is not bad
+
 module _ (p : Params) (b : Board) (o : OrderlyBoard p b) where
+  -- what its parameters and its tables give
   z : Sizes p
   z = sizes p (o .fine)
 
   tables : Tables p b
   tables = tables-in p b (o .lengths) (o .tidy)
 
+  -- each block of the chip is whole
   whole : (n : ℕ) → n < p .N → length (block p (b .chip) n) ≡ blockBytes p
   whole n h = block-size p (b .chip) n (rw (tables .chipLength) (next (blockBytes p) n (p .N) h))
 
-  -- a used one is the body of an assigned virtual block
+  -- the body of an assigned virtual block is not bad
   used-good : (n : ℕ) → n < p .N → (r v : ℕ) → r < p .mu → v < p .gamma → btAt p (b .bt) r v ≡ n → bad p (b .chip) n ≡ false
   used-good n h r v region low e = go (so (assigned (view p b r) v))
     where
@@ -119,11 +125,13 @@ module _ (p : Params) (b : Board) (o : OrderlyBoard p b) where
           fifths-good p (b .chip) n z (used-fifth p (block p (b .chip) n) (whole n h) z r _ (rw (body, e) at (u .1)))
       go (inr a) = absurd (some (no-block p z b tables r v region low (z .some) a))
 
+  -- so is one that BT names
   named-good : (n : ℕ) → n < p .N → (i : ℕ) → i < p .mu * p .gamma → btEntry (b .bt) i ≡ n → bad p (b .chip) n ≡ false
   unfolding btAt
   named-good n h i low e =
       used-good n h (i / p .gamma) (i % p .gamma) (div-lt-iff-lt-mul (z .vblocks) .1 low) (mod-lt i (z .vblocks)) (ap (btEntry (b .bt)) (div-add-mod' i (p .gamma)) ∙ e)
 
+  -- a free block is erased, and a used one is named
   pub unreserved-good : (n : ℕ) → n < p .N → (bstAt (b .bst) n ≡ 2 → ⊥) → bad p (b .chip) n ≡ false
   unreserved-good n h ne = go (bstAt (b .bst) n) refl (tables .kinds n h)
     where
@@ -135,6 +143,7 @@ module _ (p : Params) (b : Board) (o : OrderlyBoard p b) where
 
 -- ---- a format
 
+-- a bad block keeps its bytes, and every other is erased
 pub format-same-bad : (p : Params) (b : Board) → replyOf p b format ≡ Accepted → (n : ℕ) → n < p .N → bad p ((formatted p b) .chip) n ≡ bad p (b .chip) n
 format-same-bad p b e n h = go (so (bad p (b .chip) n))
   where
@@ -148,6 +157,7 @@ format-same-bad p b e n h = go (so (bad p (b .chip) n))
 -- ---- a write
 
 module _ (p : Params) (b : Board) (q : Request) (e : replyOf p b (write q) ≡ Accepted) where
+  -- what the write finds, and that its plan makes room
   acc : Admitted p b q
   acc = admitted p b q (write-checks p b q e)
 
@@ -161,6 +171,7 @@ module _ (p : Params) (b : Board) (q : Request) (e : replyOf p b (write q) ≡ A
   unfolding plan
   room = makes p (acc .sized) b (acc .tables) (requestRegion p q) region (neat p (requestRegion p q) (view p b (requestRegion p q)) (acc .tidy (requestRegion p q) region))
 
+  -- a reserved block keeps its bytes, and every other is not bad before or after
   pub write-same-bad : (n : ℕ) → n < p .N → bad p ((written p b q) .chip) n ≡ bad p (b .chip) n
   unfolding written plan
   write-same-bad n h = go (ℕ-discrete (bstAt (b .bst) n) 2)

@@ -172,5 +172,6 @@ module _ (p : Params) (b : Board) (e : replyOf p b format ≡ Accepted) where
   pub format-bad : (m : ℕ) → bad p (b .chip) m ≡ true → block p ((formatted p b) .chip) m ≡ block p (b .chip) m
   format-bad = cleared .kept
 
+  -- and every other block is erased
   pub format-good : (m : ℕ) → m < p .N → bad p (b .chip) m ≡ false → block p ((formatted p b) .chip) m ≡ erasedBlock p
   format-good = cleared .done
