@@ -2,8 +2,8 @@
 -- Assumes nothing.
 use mathlib.Core.Path.{refl}
 use Rattle.rules.specs.Requests.{format, queue, read, release, write}
-use Rattle.rules.specs.Replies.{accessRows, lentRows, orderRow, queueRows, rowsOf}
-use Rattle.rules.specs.Refusals.{RowsAsSaid, refusalsOf}
+use Rattle.rules.specs.Replies.{accessRows, lentRows, orderRow, queueRows, rowsOf, whyRows}
+use Rattle.rules.specs.Refusals.{RowsAsSaid, WhyRowsAsSaid, refusalsOf}
 
 pub rows-as-said : RowsAsSaid
 unfolding rowsOf lentRows accessRows orderRow queueRows refusalsOf
@@ -12,3 +12,7 @@ rows-as-said p b (read q) = refl
 rows-as-said p b (write q) = refl
 rows-as-said p b (release c) = refl
 rows-as-said p b (queue l) = refl
+
+pub why-rows-as-said : WhyRowsAsSaid
+unfolding whyRows lentRows orderRow
+why-rows-as-said p b lba = refl

@@ -8,7 +8,7 @@ use Rattle.rules.specs.declared.Params.{Params}
 use Rattle.rules.specs.declared.Reply.{Reply}
 use Rattle.rules.specs.Tables.{Board}
 use Rattle.rules.specs.Requests.{Call, format, read, write, release, queue}
-use Rattle.rules.specs.Replies.{Row, numberOf, rowsOf}
+use Rattle.rules.specs.Replies.{Row, numberOf, rowsOf, whyRows}
 
 -- the column "by" of document 01's table: 1 and 2 all; 3, 4, 5 and 7 read and write; 6 format. T-03: "Refusals: 1, 2, then 4 .. then 7". T-01: "Refusals: 8,
 -- after 2 .. 1, 2 and 8 are for the whole call"
@@ -22,3 +22,7 @@ refusalsOf (queue l) = 1 ∷ 2 ∷ 8 ∷ []
 -- "Checked in this order"
 abbrev pub RowsAsSaid : Type 0
 RowsAsSaid = (p : Params) (b : Board) (c : Call) → map (λ (x : Row Reply). numberOf (x .gives)) (rowsOf p b c) ≡ refusalsOf c
+
+-- T-05: "Refusals: 1, 2, 4, 7"
+abbrev pub WhyRowsAsSaid : Type 0
+WhyRowsAsSaid = (p : Params) (b : Board) (lba : ℕ) → map (λ (x : Row Reply). numberOf (x .gives)) (whyRows p b lba) ≡ 1 ∷ 2 ∷ 4 ∷ 7 ∷ []

@@ -130,5 +130,8 @@ unfoldable pub replyOf : Params → Board → Call → Reply
 replyOf p b c = firstRow Accepted (rowsOf p b c)
 
 -- T-05: "Refusals: 1, 2, 4, 7", of one LBA
+unfoldable pub whyRows : Params → Board → ℕ → List (Row Reply)
+whyRows p b lba = lentRows p b ++ (row (badAddress p lba) BadAddress ∷ orderRow p b)
+
 unfoldable pub whyReply : Params → Board → ℕ → Reply
-whyReply p b lba = firstRow Accepted (lentRows p b ++ (row (badAddress p lba) BadAddress ∷ orderRow p b))
+whyReply p b lba = firstRow Accepted (whyRows p b lba)

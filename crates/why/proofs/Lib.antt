@@ -1,5 +1,5 @@
 pub mod Forecasts
 pub mod Replies
-pub mod Truths
+pub mod Holder
 pub mod Small
 pub mod Answers

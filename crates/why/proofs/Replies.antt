@@ -9,7 +9,7 @@ use Rattle.rules.specs.declared.Reply.{Reply}
 use Rattle.rules.specs.declared.Reply.the-variants.{Accepted, BadAddress, BadParameter, NotOrderly, WrongLength}
 use Rattle.rules.specs.Orderly.{orderly}
 use Rattle.rules.specs.Parameters.{allowed}
-use Rattle.rules.specs.Replies.{OrderlyBoard, badAddress, badParameter, firstRow, lengthsFit, lentRows, notOrderly, numberOf, orderRow, whyReply, wrongLength}
+use Rattle.rules.specs.Replies.{OrderlyBoard, badAddress, badParameter, firstRow, lengthsFit, lentRows, notOrderly, numberOf, orderRow, whyReply, whyRows, wrongLength}
 use Rattle.rules.specs.Tables.{Board}
 
 -- 1, 2, 4, 7
@@ -28,7 +28,7 @@ pub record Answered (p : Params) (b : Board) (lba : ℕ) : Type 0 where
 
 module _ (p : Params) (b : Board) (lba : ℕ) where
   by-tests : whyReply p b lba ≡ byTests (allowed p) (lengthsFit p b) (badAddress p lba) (orderly p b)
-  unfolding whyReply lentRows orderRow firstRow badParameter wrongLength notOrderly
+  unfolding whyReply whyRows lentRows orderRow firstRow badParameter wrongLength notOrderly
   by-tests = refl
 
   pub disorder : numberOf (whyReply p b lba) ≡ 7 → Disorder p b

@@ -24,9 +24,9 @@ use Rattle.broken.specs.declared.Rule.{Rule}
 use Rattle.broken.specs.declared.Rule.the-variants.{BstValues, BtRange, Ct, FreeErased, Fst, Marks, NamedTwice, TooFewLeft, UsedBlock, UsedIfNamed}
 use Rattle.broken.specs.Broken.{ruleNumber}
 use Rattle.rules.specs.Replies.{OrderlyBoard}
-use Rattle.why.specs.Truths.{holderAt}
+use Rattle.why.specs.Holder.{holderAt}
 use Rattle.why.specs.Why.{Small, forecastOf, foundOf, holderOf, planNumbers}
-use Rattle.why.proofs.Truths.{holder-true, segment-low, vblock-low}
+use Rattle.why.proofs.Holder.{holder-true, segment-low, vblock-low}
 
 pub small-append : (xs ys : List ℕ) → Small xs → Small ys → Small (xs ++ ys)
 small-append [] ys h k = k

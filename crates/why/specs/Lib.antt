@@ -1,3 +1,3 @@
 pub mod Why
 pub mod Asked
-pub mod Truths
+pub mod Holder

@@ -1,7 +1,7 @@
 -- `replies::why_reply`: each return is the reply of the first row that applies.
 -- Assumes nothing.
 use borrow.Author.Needs.{needs}
-use Rattle.rules.specs.Replies.{whyReply}
+use Rattle.rules.specs.Replies.{whyReply, whyRows}
 use Rattle.rules.specs.Tables.{Board, boardOf}
 use Rattle.agree.proofs.Agree.{lengths-in, marks-fit}
 use Rattle.refusals.proofs.Rows.{after-lent, here, lent-passes, refuses, skip}
@@ -18,7 +18,7 @@ number-requires : tie.Need-number-requires
 number-requires c κs = search needs
 
 returns : tie.Need-returns
-unfolding whyReply
+unfolding whyReply whyRows
 returns c = refuses _ _ _ (c .before .before .board-reply .ensures) (c .before .number .ensures) (c .if1 .taken) _
 
 bad-address-requires : tie.Need-bad-address-requires
@@ -28,7 +28,7 @@ bad-address-requires c κs =
     h .fine
 
 returns-2 : tie.Need-returns-2
-unfolding whyReply
+unfolding whyReply whyRows
 returns-2 c =
     let a = c .before .before .before .before .before .before .before .before .before .before .before .before in
     let h = lent-passes _ (board a) _ _ (c .before .before .before .before .board-reply .ensures) (c .before .before .before .number .ensures) (c .before .before .if1 .left) in
@@ -41,7 +41,7 @@ state-reply-requires c κs =
     (lengths-in _ (board a) (h .fine) (h .fits), marks-fit _ (board a) (h .fits))
 
 returns-3 : tie.Need-returns-3
-unfolding whyReply
+unfolding whyReply whyRows
 returns-3 c =
     let a = c .before .before .before .before .before .before .before .before .before .before .before .before .before in
     let h = lent-passes _ (board a) _ _ (c .before .before .before .before .before .board-reply .ensures) (c .before .before .before .before .number .ensures) (c .before .before .before .if1 .left) in

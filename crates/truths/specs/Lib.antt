@@ -1,0 +1,2 @@
+pub mod Truths
+pub mod Apart

@@ -1,0 +1,55 @@
+-- Document 02, T-05: "Each answer is proved true, and the forecast to be what a write then does". What is true of the twelve numbers that `why` tells: reply,
+-- rule, held, region, segment, virtual block, physical block and frame; then the forecast's kind, its virtual block, its frame, and how many it copies.
+-- Assumes nothing.
+use mathlib.Core.Path.{_≡_}
+use mathlib.Core.Logic.{_⊎_}
+use mathlib.Core.Bool.{true}
+use Prim.Native.Nat.{_-_, _<_, ℕ}
+use lib.ListN.{getD, replicate, take}
+use Rattle.rules.specs.declared.Params.{Params}
+use Rattle.rules.specs.Numbers.{clusterOf, regionOf, sectorOf, vblockOf}
+use Rattle.rules.specs.Orderly.{rulesOf}
+use Rattle.rules.specs.Pages.{block, frame, held, page}
+use Rattle.rules.specs.Parameters.{frames}
+use Rattle.rules.specs.Regions.{sector, valid, view}
+use Rattle.rules.specs.Replies.{numberOf, whyReply}
+use Rattle.rules.specs.Tables.{Board, btAt, ctAt}
+use Rattle.broken.specs.Broken.{FirstFails}
+use Rattle.why.specs.Why.{whyOf}
+
+-- number i of the answer
+unfoldable pub toldAt : Params → Board → ℕ → ℕ → ℕ
+toldAt p b lba i = getD (whyOf p b lba) i 0
+
+-- "the region, segment, virtual block, physical block and frame that hold it", n 3 to n 7: the frame holds the cluster and is valid, and the sector reads as
+-- the bytes that lie there
+pub record HeldTrue (p : Params) (b : Board) (lba : ℕ) (n : ℕ → ℕ) : Type 0 where
+  pub region : n 3 ≡ regionOf p (clusterOf p lba)
+  pub segment : n 4 ≡ ctAt (b .ct) (clusterOf p lba)
+  pub vblock : n 5 ≡ vblockOf p (n 4)
+  pub pblock : n 6 ≡ btAt p (b .bt) (n 3) (n 5)
+  pub blockLow : n 6 < p .N
+  pub frameLow : n 7 < frames p
+  pub holds : held p (frame p (block p (b .chip) (n 6)) (n 7)) ≡ clusterOf p lba
+  pub isValid : valid p (view p b (n 3)) (n 5) (n 7) ≡ true
+  pub reads : sector p b (clusterOf p lba) (sectorOf p lba) ≡ take (p .s) (page p (frame p (block p (b .chip) (n 6)) (n 7)) (sectorOf p lba))
+
+-- "that no frame is held": no valid frame of the region holds the cluster, and the sector reads as 255
+pub record NotHeldTrue (p : Params) (b : Board) (c j : ℕ) : Type 0 where
+  pub noFrame : (v f : ℕ) → v < p .gamma → f < frames p → valid p (view p b (regionOf p c)) v f ≡ true → held p (frame p ((view p b (regionOf p c)) .body v) f) ≡ c → ⊥
+  pub reads : sector p b c j ≡ replicate (p .s) 255
+
+-- one answer, n its numbers
+pub record AnswerTrue (p : Params) (b : Board) (lba : ℕ) (n : ℕ → ℕ) : Type 0 where
+  -- "which reply": that of the first row that applies
+  pub reply : n 0 ≡ numberOf (whyReply p b lba)
+  -- "and with 7 the first orderly rule broken, in 01's order"
+  pub rule : n 0 ≡ 7 → FirstFails (n 1 - 1) (rulesOf p b)
+  -- a frame is held, or none
+  pub kind : n 0 ≡ 0 → (n 2 ≡ 0) ⊎ (n 2 ≡ 1)
+  pub held : n 0 ≡ 0 → n 2 ≡ 1 → HeldTrue p b lba n
+  pub notHeld : n 0 ≡ 0 → n 2 ≡ 0 → NotHeldTrue p b (clusterOf p lba) (sectorOf p lba)
+
+-- what the answer of `why` is
+abbrev pub WhyTrue : Params → Board → ℕ → Type 0
+WhyTrue p b lba = AnswerTrue p b lba (toldAt p b lba)

@@ -1,0 +1,1 @@
+// What is true of the twelve numbers of `why::explain` (specs/), and its theorems (proofs/); no code.
