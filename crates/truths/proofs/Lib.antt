@@ -1,3 +1,4 @@
 pub mod Told
+pub mod Forecasts
 pub mod Truths
 pub mod Apart

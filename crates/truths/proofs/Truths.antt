@@ -10,12 +10,16 @@ use native.Mathlib.Omega.{arith}
 use lib.ListN.{getD, take}
 use borrow.Author.Tests.{eq-eqb, leb-false, ne-eqb}
 use Rattle.rules.specs.declared.Params.{Params}
+use Rattle.rules.specs.declared.Reply.the-variants.{Accepted}
+use Rattle.rules.specs.Calls.{outcomeOf}
 use Rattle.rules.specs.Numbers.{clusterOf, regionOf, sectorOf}
 use Rattle.rules.specs.Orderly.{rulesOf}
 use Rattle.rules.specs.Pages.{block, frame, page}
 use Rattle.rules.specs.Regions.{frameOf, sector, sectorIn, view}
-use Rattle.rules.specs.Replies.{OrderlyBoard, badAddress, numberOf, whyReply}
+use Rattle.rules.specs.Replies.{OrderlyBoard, badAddress, numberOf, replyOf, whyReply}
+use Rattle.rules.specs.Requests.{Request, requestCluster, write}
 use Rattle.rules.specs.Tables.{Board, ctAt, none}
+use Rattle.rules.specs.Write.{planOf}
 use Rattle.rules.proofs.Continues.{segs-in}
 use Rattle.rules.proofs.Frames.{seg-low}
 use Rattle.rules.proofs.Sizes.{Sizes, sizes}
@@ -23,10 +27,11 @@ use Rattle.rules.proofs.Victims.{valid-in}
 use Rattle.broken.specs.Broken.{FirstFails}
 use Rattle.broken.proofs.First.{broken-rule}
 use Rattle.why.specs.Holder.{holderAt}
-use Rattle.why.specs.Why.{holderOf}
+use Rattle.why.specs.Why.{forecastOf, holderOf}
 use Rattle.why.proofs.Holder.{body-is, holder-true}
 use Rattle.why.proofs.Replies.{answered, disorder}
-use Rattle.truths.specs.Truths.{HeldTrue, NotHeldTrue, WhyTrue, toldAt}
+use Rattle.truths.specs.Truths.{ForecastTrue, HeldTrue, NotHeldTrue, WhyTrue, toldAt}
+use Rattle.truths.proofs.Forecasts.{Planned, forecast-true, planAt}
 use Rattle.truths.proofs.Told.{told-held, told-none, told-reply, told-rule}
 
 module _ (p : Params) (b : Board) (lba : ℕ) where
@@ -114,5 +119,18 @@ module _ (p : Params) (b : Board) (lba : ℕ) where
               reads = rw (seg, eq-eqb (ctAt (b .ct) (clusterOf p lba)) none n);
             }
 
+    -- ---- the forecast
+
+    planned : Planned p (view p b (regionOf p (clusterOf p lba))) (planOf p (view p b (regionOf p (clusterOf p lba)))) (toldAt p b lba)
+    unfolding toldAt planAt forecastOf holderOf
+    planned = go (ℕ-discrete (ctAt (b .ct) (clusterOf p lba)) none)
+      where
+        go : Dec (ctAt (b .ct) (clusterOf p lba) ≡ none) → Planned p (view p b (regionOf p (clusterOf p lba))) (planOf p (view p b (regionOf p (clusterOf p lba)))) (toldAt p b lba)
+        go (yes n) = let w = told-none p b lba accepted n in record { kind = rw w; vblock = rw w; frame = rw w; count = rw w }
+        go (no n) = let w = told-held p b lba accepted n in record { kind = rw w; vblock = rw w; frame = rw w; count = rw w }
+
+    forecast : (q : Request) → requestCluster p q ≡ clusterOf p lba → replyOf p b (write q) ≡ Accepted → ForecastTrue p b lba (toldAt p b lba) (outcomeOf p b (write q))
+    forecast q is a = forecast-true p b q a lba ((answered p b lba accepted) .low) is (toldAt p b lba) (rw is planned)
+
 pub why-true : (p : Params) (b : Board) (lba : ℕ) → WhyTrue p b lba
-why-true p b lba = record { reply = told-reply p b lba; rule = rule-true p b lba; kind = kind p b lba; held = held-true p b lba; notHeld = not-held-true p b lba }
+why-true p b lba = record { reply = told-reply p b lba; rule = rule-true p b lba; kind = kind p b lba; held = held-true p b lba; notHeld = not-held-true p b lba; forecast = forecast p b lba }

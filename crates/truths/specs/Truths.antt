@@ -3,17 +3,21 @@
 -- Assumes nothing.
 use mathlib.Core.Path.{_≡_}
 use mathlib.Core.Logic.{_⊎_}
-use mathlib.Core.Bool.{true}
-use Prim.Native.Nat.{_-_, _<_, ℕ}
-use lib.ListN.{getD, replicate, take}
+use mathlib.Core.Bool.{cond, true}
+use Prim.Native.Nat.{_*_, _+_, _-_, _<_, ℕ}
+use lib.Dec.{eqb}
+use lib.ListN.{getD, length, replicate, take}
 use Rattle.rules.specs.declared.Params.{Params}
+use Rattle.rules.specs.declared.Reply.the-variants.{Accepted}
+use Rattle.rules.specs.Calls.{Outcome, outcomeOf}
 use Rattle.rules.specs.Numbers.{clusterOf, regionOf, sectorOf, vblockOf}
 use Rattle.rules.specs.Orderly.{rulesOf}
-use Rattle.rules.specs.Pages.{block, frame, held, page}
+use Rattle.rules.specs.Pages.{block, erased, frame, held, page}
 use Rattle.rules.specs.Parameters.{frames}
-use Rattle.rules.specs.Regions.{sector, valid, view}
-use Rattle.rules.specs.Replies.{numberOf, whyReply}
-use Rattle.rules.specs.Tables.{Board, btAt, ctAt}
+use Rattle.rules.specs.Regions.{sector, valid, validFrames, view}
+use Rattle.rules.specs.Replies.{numberOf, replyOf, whyReply}
+use Rattle.rules.specs.Requests.{Request, requestCluster, write}
+use Rattle.rules.specs.Tables.{Board, btAt, ctAt, fstAt, none}
 use Rattle.broken.specs.Broken.{FirstFails}
 use Rattle.why.specs.Why.{whyOf}
 
@@ -39,6 +43,26 @@ pub record NotHeldTrue (p : Params) (b : Board) (c j : ℕ) : Type 0 where
   pub noFrame : (v f : ℕ) → v < p .gamma → f < frames p → valid p (view p b (regionOf p c)) v f ≡ true → held p (frame p ((view p b (regionOf p c)) .body v) f) ≡ c → ⊥
   pub reads : sector p b c j ≡ replicate (p .s) 255
 
+-- "whether the frame lies in the open block, opens a named virtual block, or reclaims a named one with how many valid frames", n 8 to n 11, and "what a write
+-- then does": o is what a write of the cluster leaves
+pub record ForecastTrue (p : Params) (b : Board) (lba : ℕ) (n : ℕ → ℕ) (o : Outcome) : Type 0 where
+  -- the place that `why` tells of the board that is left is the one that was forecast
+  pub reply : toldAt p (o .board) lba 0 ≡ 0
+  pub held : toldAt p (o .board) lba 2 ≡ 1
+  pub vblock : toldAt p (o .board) lba 5 ≡ n 9
+  pub frame : toldAt p (o .board) lba 7 ≡ n 10
+  pub kind : (n 8 ≡ 1) ⊎ ((n 8 ≡ 2) ⊎ (n 8 ≡ 3))
+  -- 1: the virtual block is the one that FST names, the open block
+  pub continued : n 8 ≡ 1 → n 9 ≡ vblockOf p (fstAt (b .fst) (regionOf p (clusterOf p lba)))
+  -- 2: it had no physical block
+  pub opened : n 8 ≡ 2 → btAt p (b .bt) (regionOf p (clusterOf p lba)) (n 9) ≡ none
+  -- 3: the physical block that it had, one of the chip, is erased then; the frames that are copied are its valid ones
+  pub reclaimed : n 8 ≡ 3 → (btAt p (b .bt) (regionOf p (clusterOf p lba)) (n 9) < p .N) × (erased (block p (o .board .chip) (btAt p (b .bt) (regionOf p (clusterOf p lba)) (n 9))) ≡ true)
+  pub copied : n 8 ≡ 3 → n 11 ≡ length (validFrames p (view p b (regionOf p (clusterOf p lba))) (n 9))
+  -- "α × (frames copied + 1) pages programmed, and 1 erase if it reclaimed, else 0"
+  pub programs : o .answer .programs ≡ p .alpha * (n 11 + 1)
+  pub erases : o .answer .erases ≡ cond (eqb (n 8) 3) 1 0
+
 -- one answer, n its numbers
 pub record AnswerTrue (p : Params) (b : Board) (lba : ℕ) (n : ℕ → ℕ) : Type 0 where
   -- "which reply": that of the first row that applies
@@ -49,6 +73,8 @@ pub record AnswerTrue (p : Params) (b : Board) (lba : ℕ) (n : ℕ → ℕ) : T
   pub kind : n 0 ≡ 0 → (n 2 ≡ 0) ⊎ (n 2 ≡ 1)
   pub held : n 0 ≡ 0 → n 2 ≡ 1 → HeldTrue p b lba n
   pub notHeld : n 0 ≡ 0 → n 2 ≡ 0 → NotHeldTrue p b (clusterOf p lba) (sectorOf p lba)
+  -- "what a write would do": any write of the cluster that is accepted
+  pub forecast : n 0 ≡ 0 → (q : Request) → requestCluster p q ≡ clusterOf p lba → replyOf p b (write q) ≡ Accepted → ForecastTrue p b lba n (outcomeOf p b (write q))
 
 -- what the answer of `why` is
 abbrev pub WhyTrue : Params → Board → ℕ → Type 0
