@@ -53,6 +53,7 @@ pub record Planned (p : Params) (vw : View) (pl : Plan) (n : ℕ → ℕ) : Type
   pub frame : n 10 ≡ planAt p vw pl 2
   pub count : n 11 ≡ planAt p vw pl 3
 
+-- 1, 2 or 3 by the kind of the plan; its virtual block, its frame, the frames that it copies, and an erase where it is 3
 module _ (p : Params) (vw : View) where
   plan-kind : (pl : Plan) → (planAt p vw pl 0 ≡ 1) ⊎ ((planAt p vw pl 0 ≡ 2) ⊎ (planAt p vw pl 0 ≡ 3))
   unfolding planAt planNumbers
@@ -120,6 +121,7 @@ module _ (p : Params) (z : Sizes p) (b : Board) (t : Tables p b) (r : ℕ) (regi
 
 -- ---- an accepted write
 
+-- what it shows of the board, its plan, and the frame that it writes
 module _ (p : Params) (b : Board) (q : Request) (e : replyOf p b (write q) ≡ Accepted) where
   adm : Admitted p b q
   adm = admitted p b q (write-checks p b q e)
@@ -189,10 +191,12 @@ module _ (p : Params) (b : Board) (q : Request) (e : replyOf p b (write q) ≡ A
   -- ---- what is told of a sector of the cluster, before and after
 
   module _ (lba : ℕ) (in-range : badAddress p lba ≡ false) (is : requestCluster p q ≡ clusterOf p lba) (n : ℕ → ℕ) (h : Planned p vw pl n) where
+    -- the board that is left is orderly, so why answers 0
     accepted : numberOf (whyReply p (written p b q) lba) ≡ 0
     unfolding whyReply whyRows lentRows orderRow firstRow badParameter wrongLength notOrderly
     accepted = rw (ordered .fine, ordered .lengths, in-range, ordered .tidy)
 
+    -- and tells the place where the cluster is now
     told : whyOf p (written p b q) lba ≡ 0 ∷ 0 ∷ 1 ∷ holderOf p (written p b q) (requestCluster p q) ++ forecastOf p (written p b q) (requestCluster p q)
     told = rw is (told-held p (written p b q) lba accepted (rw is at some-after))
 

@@ -51,6 +51,7 @@ pub record ForecastTrue (p : Params) (b : Board) (lba : ℕ) (n : ℕ → ℕ) (
   pub held : toldAt p (o .board) lba 2 ≡ 1
   pub vblock : toldAt p (o .board) lba 5 ≡ n 9
   pub frame : toldAt p (o .board) lba 7 ≡ n 10
+  -- it continues, opens or reclaims
   pub kind : (n 8 ≡ 1) ⊎ ((n 8 ≡ 2) ⊎ (n 8 ≡ 3))
   -- 1: the virtual block is the one that FST names, the open block
   pub continued : n 8 ≡ 1 → n 9 ≡ vblockOf p (fstAt (b .fst) (regionOf p (clusterOf p lba)))
@@ -71,11 +72,13 @@ pub record AnswerTrue (p : Params) (b : Board) (lba : ℕ) (n : ℕ → ℕ) : T
   pub rule : n 0 ≡ 7 → FirstFails (n 1 - 1) (rulesOf p b)
   -- a frame is held, or none
   pub kind : n 0 ≡ 0 → (n 2 ≡ 0) ⊎ (n 2 ≡ 1)
+  -- "the region, segment, virtual block, physical block and frame that hold it"
   pub held : n 0 ≡ 0 → n 2 ≡ 1 → HeldTrue p b lba n
+  -- "or that no frame is held"
   pub notHeld : n 0 ≡ 0 → n 2 ≡ 0 → NotHeldTrue p b (clusterOf p lba) (sectorOf p lba)
   -- "what a write would do": any write of the cluster that is accepted
   pub forecast : n 0 ≡ 0 → (q : Request) → requestCluster p q ≡ clusterOf p lba → replyOf p b (write q) ≡ Accepted → ForecastTrue p b lba n (outcomeOf p b (write q))
 
--- what the answer of `why` is
+-- of the numbers that `why` tells
 abbrev pub WhyTrue : Params → Board → ℕ → Type 0
 WhyTrue p b lba = AnswerTrue p b lba (toldAt p b lba)
