@@ -4,7 +4,7 @@ use mathlib.Core.Path.{ap, sym, _∙_, _≡_}
 use mathlib.Core.Bool.{_&&_, Bool, and-true, false}
 use mathlib.Core.List.{List}
 use Prim.Native.Nat.{_%_, _*_, _+_, _-_, _/_, _<_, ℕ, _≤_}
-use native.Mathlib.Nat.{add-mul, add-zero, div-eq-of-lt, div-lt-iff-lt-mul, mul-add-div-right, mul-assoc}
+use native.Mathlib.Nat.{add-mul, mul-assoc}
 use native.Mathlib.Omega.{arith}
 use lib.Dec.{eqb}
 use lib.ListN.{drop, length, length-drop, take}
@@ -12,7 +12,7 @@ use lib.Seq.{take-all}
 use borrow.Author.Tests.{eq-eqb, le-ltb, lt-ltb, ne-eqb}
 use Rattle.lists.specs.Below.{allBelow, allTrue, lastBelow}
 use Rattle.lists.specs.Parts.{sameList}
-use Rattle.lists.proofs.Parts.{next}
+use Rattle.lists.proofs.Parts.{in-place, next, over-place, under-place}
 use Rattle.rules.specs.declared.Params.{Params}
 use Rattle.rules.specs.Orderly.{goodFrame}
 use Rattle.rules.specs.Pages.{block, frame, held, holds, lastIn, spare, spareBytes}
@@ -65,21 +65,6 @@ good-is p r fr c e h n = rw (← e, lt-ltb c (p .C) h, eq-eqb (c % p .mu) r n, a
 pub seg-in : (p : Params) (k : ℕ) → k < p .d → k * p .beta + p .beta ≤ frames p
 unfolding frames
 seg-in p k h = omega (arith, next (p .beta) k (p .d) h)
-
-in-place : (b k j : ℕ) → 1 ≤ b → k * b ≤ j → j < k * b + b → j / b ≡ k
-in-place b k j h x y =
-    let e : j ≡ k * b + (j - k * b) = omega arith in
-    let l : j - k * b < b = omega arith in
-    rw (e, mul-add-div-right h, div-eq-of-lt l) (add-zero k)
-
-over-place : (b k j : ℕ) → 1 ≤ b → k * b + b ≤ j → j / b ≡ k → ⊥
-over-place b k j h x e =
-    let w : j / b < k + 1 = omega arith in
-    let z : j < (k + 1) * b = div-lt-iff-lt-mul h .0 w in
-    omega (arith, z)
-
-under-place : (b k j : ℕ) → 1 ≤ b → j < k * b → j / b ≡ k → ⊥
-under-place b k j h x e = omega (arith, div-lt-iff-lt-mul {k = b} {x = j} {y = k} h .1 x)
 
 module _ (p : Params) (blk : List ℕ) (k c : ℕ) (some : 1 ≤ p .beta) where
   abbrev pub test : ℕ → Bool

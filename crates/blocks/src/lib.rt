@@ -6,7 +6,7 @@ ghost use lib.ListN.{drop, length};
 ghost use Rattle.lists.specs.Below.{allBelow};
 ghost use Rattle.lists.specs.Parts.{allAre};
 ghost use Rattle.rules.specs.Parameters.{allowed, frames, frameBytes, blockBytes, chipBytes};
-ghost use Rattle.rules.specs.Pages.{block, frame, programmed, holds, filled, lastIn};
+ghost use Rattle.rules.specs.Pages.{block, frame, programmed, holds, filled, lastIn, programmedDownTo};
 ghost use Rattle.rules.specs.Orderly.{goodFrame, blockRule};
 ghost use Rattle.blocks.specs.First.{FirstFrames};
 use rules::Cluster;
@@ -183,23 +183,46 @@ pub fn block_ok(p: Params, r: usize, blk: &[u8]) -> bool
     used_frames(p, r, blk) != 0
 }
 
-// The last of the β frames in place k of the block that holds cluster c; 65535 if none does.
-pub fn last_in(p: Params, blk: &[u8], k: usize, c: Cluster) -> usize
+// Where a search ended, and how many spare areas of programmed frames it looked at on its way.
+pub struct Search {
+    pub frame: usize,
+    pub looks: u32,
+}
+
+// The spare areas that a search looks at in a frame: that of a programmed one; it starts below the erased ones.
+fn looked(p: Params, fr: &[u8]) -> u32
+    requires { ⌜ allowed p ≡ true ⌝ }
+    requires { ⌜ length (now fr) ≡ frameBytes p ⌝ }
+    ensures { λ n. ⌜ n ≡ cond (programmed p (now (fr .entry))) 1 0 ⌝ }
+{
+    if spares::is_programmed(p, fr) { 1 } else { 0 }
+}
+
+// The last of the β frames in place k of the block that holds cluster c, searched from the last one down, and what the search looked at; 65535 if none does.
+pub fn last_in(p: Params, blk: &[u8], k: usize, c: Cluster) -> Search
     requires { ⌜ allowed p ≡ true ⌝ }
     requires { ⌜ length (now blk) ≡ blockBytes p ⌝ }
     requires { ⌜ k < p .d ⌝ }
-    ensures { λ f. ⌜ f ≡ lastIn p (now (blk .entry)) k (c .0) ⌝ }
+    ensures { λ r. ⌜ r .frame ≡ lastIn p (now (blk .entry)) k (c .0) ⌝ }
+    ensures { λ r. ⌜ r .looks ≤ p .beta ⌝ }
+    ensures { λ r. ⌜ (r .frame < frames p → r .looks ≡ programmedDownTo p (now (blk .entry)) k (r .frame)) ⌝ }
 {
     let lo = k * p.beta;
     let mut i = lo + p.beta;
+    let mut looks = 0;
     while lo < i {
         let f = i - 1;
-        if holds(p, frame_of(p, blk, f), c) {
-            return f;
+        let fr = frame_of(p, blk, f);
+        looks += looked(p, fr);
+        if holds(p, fr, c) {
+            return Search { frame: f, looks };
         }
         i = f;
     }
-    65535
+    Search {
+        frame: 65535,
+        looks,
+    }
 }
 
 // Is the whole block erased?

@@ -44,7 +44,7 @@ use Rattle.claims.proofs.Steps.{its-part, partOf}
 
 refused-unchanged : (p : Params) (b : Board) (c : Call) → isAccepted (replyOf p b c) ≡ false → Unchanged b c (outcomeOf p b c)
 unfolding answerOf programsIn erasesIn
-refused-unchanged p b c e = rw (call-refused p b c e) (record { board = refl; bytes = refl; answers = refl; counts = (refl, refl) })
+refused-unchanged p b c e = rw (call-refused p b c e) (record { board = refl; bytes = refl; answers = refl; counts = (refl, refl, refl) })
 
 -- ---- what a call leaves
 
@@ -93,16 +93,17 @@ write-writes p b q e =
       programs = w .programs;
       most = w .bounded .0;
       erases = w .erases;
+      looks = refl;
     })
 
 -- ---- the others
 
 format-formats : (p : Params) (b : Board) → replyOf p b format ≡ Accepted → Formats p b (outcomeOf p b format)
-format-formats p b e = let k = format-counts p b e in record { programs = ap (λ (a : Answer). a .programs) k; erases = ap (λ (a : Answer). a .erases) k }
+format-formats p b e = let k = format-counts p b e in record { programs = ap (λ (a : Answer). a .programs) k; erases = ap (λ (a : Answer). a .erases) k; looks = ap (λ (a : Answer). a .looks) k }
 
 read-reads : (p : Params) (b : Board) (q : Request) → replyOf p b (read q) ≡ Accepted → Reads p b q (outcomeOf p b (read q))
 unfolding answerOf programsIn erasesIn
-read-reads p b q e = rw (read-accepted p b q e) (record { board = refl; bytes = read-agrees p b (sectorAt p b) q e (λ a h. refl); counts = (refl, refl) })
+read-reads p b q e = rw (read-accepted p b q e) (record { board = refl; bytes = read-agrees p b (sectorAt p b) q e (λ a h. refl); programs = refl; erases = refl; looks = refl })
 
 release-frees : (p : Params) (b : Board) (c : ℕ) → replyOf p b (release c) ≡ Accepted → Frees p b c (outcomeOf p b (release c))
 unfolding answerOf programsIn erasesIn
@@ -115,7 +116,7 @@ release-frees p b c e =
       room = λ v. none-copied p (released p b c) (a .fine) c gone (regionOf p c) v;
       entry = gone;
       already = λ n. release-same p b c (marks-in p b (a .lengths) (a .tidy)) n;
-      counts = (refl, refl);
+      counts = (refl, refl, refl);
     })
 
 -- ---- a queue
@@ -152,7 +153,7 @@ module _ (p : Params) (b : Board) (l : Queue) where
   many = answers-length p l b (itemRequests p (l .bytes) (l .items)) ∙ map-length p (l .bytes) (l .items)
 
   is-served : replyOf p b (queue l) ≡ Accepted
-      → outcomeOf p b (queue l) ≡ record { answer = answerOf Accepted []; bytes = l .bytes; answers = over (answersIn (served .parts)) (l .answers); board = served .left }
+      → outcomeOf p b (queue l) ≡ record { answer = answerOf Accepted [] 0; bytes = l .bytes; answers = over (answersIn (served .parts)) (l .answers); board = served .left }
   unfolding outcomeOf
   is-served e =
       let qs = itemRequests p (l .bytes) (l .items) in
@@ -165,14 +166,14 @@ module _ (p : Params) (b : Board) (l : Queue) where
       go (inl e) =
           rw (is-served e)
           (record {
-            counts = unfold answerOf programsIn erasesIn in (refl, refl);
+            counts = unfold answerOf programsIn erasesIn in (refl, refl, refl);
             bytes = refl;
             long = over-length (answersIn (served .parts)) (l .answers);
             past = rw (← many) (over-past (answersIn (served .parts)) (l .answers));
           })
       go (inr e) =
           rw (call-refused p b (queue l) e)
-          (record { counts = unfold answerOf programsIn erasesIn in (refl, refl); bytes = unfold lent in refl; long = unfold lentAnswers in refl; past = unfold lentAnswers in refl })
+          (record { counts = unfold answerOf programsIn erasesIn in (refl, refl, refl); bytes = unfold lent in refl; long = unfold lentAnswers in refl; past = unfold lentAnswers in refl })
 
 -- ---- the condition
 

@@ -15,10 +15,10 @@ use Rattle.rules.specs.declared.Reply.the-variants.{Accepted, BadAddress, TooFe
 use Rattle.rules.specs.Tables.{Board, marksLength}
 use Rattle.rules.specs.Orderly.{blocksRule, ctRule, fstRule, marksRule, orderly, rulesOf}
 use Rattle.rules.specs.Traces.{Op}
-use Rattle.rules.specs.Requests.{Call, Request, format, lent, read, release, requestRegion, write}
+use Rattle.rules.specs.Requests.{Call, Request, format, lent, read, release, requestCluster, requestRegion, write}
 use Rattle.rules.specs.Format.{formatOps, formatted}
 use Rattle.rules.specs.Write.{Plan, continues, eraseOps, opens, planBlock, planBst, planOf, planOps, reclaims, roomOps, writeOps, written, writtenBy}
-use Rattle.rules.specs.Regions.{sector, view}
+use Rattle.rules.specs.Regions.{looksAt, sector, view}
 use Rattle.rules.specs.Release.{released}
 use Rattle.rules.specs.Replies.{accessRows, badCluster, badParameter, firstRow, isAccepted, lengthsFit, lentRows, notOrderly, orderRow, replyOf, row, rowsOf, tooFewBlocks, wrongLength}
 use Rattle.rules.specs.Calls.{Outcome, answerOf, outcomeOf, readBytes}
@@ -64,12 +64,12 @@ module _ (p : Params) (b : Board) (long : length (b .marks) ≡ marksLength p) w
 
 -- ---- a call by its reply
 
-by-reply : (p : Params) (b : Board) (c : Call) (r : Reply) (ops : List Op) (bytes : List ℕ) (o′ : OldBoard) → replyOf p b c ≡ r
-    → (replyOf p b c ≡ Accepted → oldPart (outcomeOf p b c) ≡ record { answer = answerOf Accepted ops; bytes = bytes; board = o′ })
-    → oldPart (outcomeOf p b c) ≡ oldCall (oldOf b) r (lent c) ops bytes o′
-by-reply p b c r ops bytes o′ is done = go (reply-cases (replyOf p b c))
+by-reply : (p : Params) (b : Board) (c : Call) (r : Reply) (ops : List Op) (looks : ℕ) (bytes : List ℕ) (o′ : OldBoard) → replyOf p b c ≡ r
+    → (replyOf p b c ≡ Accepted → oldPart (outcomeOf p b c) ≡ record { answer = answerOf Accepted ops looks; bytes = bytes; board = o′ })
+    → oldPart (outcomeOf p b c) ≡ oldCall (oldOf b) r (lent c) ops looks bytes o′
+by-reply p b c r ops looks bytes o′ is done = go (reply-cases (replyOf p b c))
   where
-    go : (replyOf p b c ≡ Accepted) ⊎ (isAccepted (replyOf p b c) ≡ false) → oldPart (outcomeOf p b c) ≡ oldCall (oldOf b) r (lent c) ops bytes o′
+    go : (replyOf p b c ≡ Accepted) ⊎ (isAccepted (replyOf p b c) ≡ false) → oldPart (outcomeOf p b c) ≡ oldCall (oldOf b) r (lent c) ops looks bytes o′
     go (inl e) = rw (← is, e) (unfold oldCall isAccepted in done e)
     go (inr e) = rw (← is, call-refused p b c e) (unfold oldCall in rw e)
 
@@ -77,6 +77,10 @@ by-reply p b c r ops bytes o′ is done = go (reply-cases (replyOf p b c))
 same-read : (p : Params) (b : Board) (q : Request) → readBytes p b q ≡ readBytes p (withoutMarks (oldOf b)) q
 unfolding readBytes sector
 same-read p b q = refl
+
+same-looks : (p : Params) (b : Board) (q : Request) → looksAt p b (requestCluster p q) ≡ looksAt p (withoutMarks (oldOf b)) (requestCluster p q)
+unfolding looksAt
+same-looks p b q = refl
 
 plan-ops : (p : Params) (b : Board) (r : ℕ) (q : Request) (pl : Plan) → planOps p b r q pl ≡ planOps p (withoutMarks (oldOf b)) r q pl
 unfolding planOps roomOps planBlock eraseOps
@@ -110,8 +114,8 @@ pub as-before : AllAsBefore
 unfolding oldFormat oldRead oldWrite oldRelease lent
 as-before p b long =
     record {
-      formats = by-reply p b format _ _ _ _ (format-row p b long) (λ e. ap oldPart (format-accepted p b e) ∙ rw (same-format p b));
-      reads = λ right q. by-reply p b (read q) _ _ _ _ (read-rows p b long right q) (λ e. ap oldPart (read-accepted p b q e) ∙ rw (same-read p b q));
-      writes = λ right q. by-reply p b (write q) _ _ _ _ (write-rows p b long right q) (λ e. ap oldPart (write-accepted p b q e) ∙ rw (same-ops p b q, same-write p b q));
-      releases = λ right c. by-reply p b (release c) _ _ _ _ (release-rows p b long right c) (λ e. ap oldPart (release-accepted p b c e) ∙ rw (same-release p b c));
+      formats = by-reply p b format _ _ _ _ _ (format-row p b long) (λ e. ap oldPart (format-accepted p b e) ∙ rw (same-format p b));
+      reads = λ right q. by-reply p b (read q) _ _ _ _ _ (read-rows p b long right q) (λ e. ap oldPart (read-accepted p b q e) ∙ rw (same-read p b q, same-looks p b q));
+      writes = λ right q. by-reply p b (write q) _ _ _ _ _ (write-rows p b long right q) (λ e. ap oldPart (write-accepted p b q e) ∙ rw (same-ops p b q, same-looks p b q, same-write p b q));
+      releases = λ right c. by-reply p b (release c) _ _ _ _ _ (release-rows p b long right c) (λ e. ap oldPart (release-accepted p b c e) ∙ rw (same-release p b c));
     }

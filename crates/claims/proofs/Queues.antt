@@ -52,9 +52,9 @@ module _ (p : Params) (b : Board) (fine : allowed p ≡ true) (fits : lengthsFit
 
   refused-write : (q : Request) → writeWork p b q ≡ refuses p b (write q)
   unfolding writeWork
-  refused-write q = work-refused p b (write q) _ _ _ (is-refused (replyOf p b (write q)) (λ e. some-refusal q (rw (write-reply q) at e)))
+  refused-write q = work-refused p b (write q) _ _ _ _ (is-refused (replyOf p b (write q)) (λ e. some-refusal q (rw (write-reply q) at e)))
 
-  refused-part : (q : Request) → (writeWork p b q) .parts ≡ record { asks = write q; answer = answerOf (firstRow NotOrderly (accessRows p q)) []; bytes = q .bytes; ops = [] } ∷ []
+  refused-part : (q : Request) → (writeWork p b q) .parts ≡ record { asks = write q; answer = answerOf (firstRow NotOrderly (accessRows p q)) [] 0; bytes = q .bytes; ops = [] } ∷ []
   unfolding refuses single lent
   refused-part q = ap (λ (w : Work). w .parts) (refused-write q) ∙ rw (write-reply q)
 

@@ -16,7 +16,7 @@ use Rattle.rules.specs.declared.Reply.{Reply}
 use Rattle.rules.specs.declared.Reply.the-variants.{Accepted}
 use Rattle.rules.specs.Numbers.{regionOf, sectorOf}
 use Rattle.rules.specs.Tables.{Board}
-use Rattle.rules.specs.Regions.{View, sector, sectorIn, view}
+use Rattle.rules.specs.Regions.{View, looksAt, looksIn, sector, sectorIn, view}
 use Rattle.rules.specs.Traces.{erasesIn, programsIn}
 use Rattle.rules.specs.Requests.{Call, Request, format, queue, read, release, requestCluster, requestOf, requestRegion, write}
 use Rattle.rules.specs.Write.{planErases, copies, planOf}
@@ -37,22 +37,22 @@ toldBy o = told (o .answer) (o .bytes)
 
 -- ---- the machine
 
-tells : Reply → ℕ → ℕ → List ℕ → Told
-tells r programs erases bytes = record { answer = record { reply = r; programs = programs; erases = erases }; bytes = bytes }
+tells : Reply → ℕ → ℕ → ℕ → List ℕ → Told
+tells r programs erases looks bytes = record { answer = record { reply = r; programs = programs; erases = erases; looks = looks }; bytes = bytes }
 
 -- what it answers
 answerBy : Params → View → Call → Told
-answerBy p vw format = tells Accepted 0 0 []
+answerBy p vw format = tells Accepted 0 0 0 []
 answerBy p vw (read q) =
     cond (isAccepted (requestReply p q))
-    (tells Accepted 0 0 (joinBelow (q .count) (λ i. sectorIn p vw (requestCluster p q) (sectorOf p (q .lba) + i))))
-    (tells (requestReply p q) 0 0 [])
+    (tells Accepted 0 0 (looksIn p vw (requestCluster p q)) (joinBelow (q .count) (λ i. sectorIn p vw (requestCluster p q) (sectorOf p (q .lba) + i))))
+    (tells (requestReply p q) 0 0 0 [])
 answerBy p vw (write q) =
     cond (isAccepted (requestReply p q))
-    (tells Accepted (p .alpha * (length (copies p vw (planOf p vw)) + 1)) (planErases (planOf p vw)) (q .bytes))
-    (tells (requestReply p q) 0 0 [])
-answerBy p vw (release c) = tells (clusterReply p c) 0 0 []
-answerBy p vw (queue l) = tells Accepted 0 0 []
+    (tells Accepted (p .alpha * (length (copies p vw (planOf p vw)) + 1)) (planErases (planOf p vw)) (looksIn p vw (requestCluster p q)) (q .bytes))
+    (tells (requestReply p q) 0 0 0 [])
+answerBy p vw (release c) = tells (clusterReply p c) 0 0 0 []
+answerBy p vw (queue l) = tells Accepted 0 0 0 []
 
 -- its next state
 viewBy : Params → View → Call → View
@@ -74,7 +74,7 @@ viewAnswers p vw (c ∷ cs) = answerBy p vw c ∷ viewAnswers p (viewBy p vw c) 
 -- ---- a call to the region is a step of the machine
 
 module _ (p : Params) (b : Board) (ordered : OrderlyBoard p b) where
-  refused-told : (c : Call) (r : Reply) → isAccepted r ≡ false → replyOf p b c ≡ r → toldBy (outcomeOf p b c) ≡ tells r 0 0 []
+  refused-told : (c : Call) (r : Reply) → isAccepted r ≡ false → replyOf p b c ≡ r → toldBy (outcomeOf p b c) ≡ tells r 0 0 0 []
   unfolding toldBy told answerOf programsIn erasesIn tells
   refused-told c r e is = rw (call-refused p b c (rw is e), is, e)
 
@@ -86,15 +86,16 @@ module _ (p : Params) (b : Board) (ordered : OrderlyBoard p b) where
       reply = orderly-read p b q ordered
 
       go : (requestReply p q ≡ Accepted) ⊎ (isAccepted (requestReply p q) ≡ false) → toldBy (outcomeOf p b (read q)) ≡ answerBy p (view p b r) (read q)
-      go (inl e) = rw (e, read-accepted p b q (reply ∙ e)) (unfold isAccepted toldBy told answerOf programsIn erasesIn tells readBytes sector in rw (← is))
+      go (inl e) = rw (e, read-accepted p b q (reply ∙ e)) (unfold isAccepted toldBy told answerOf programsIn erasesIn tells readBytes sector looksAt in rw (← is))
       go (inr e) = rw e (refused-told (read q) (requestReply p q) e reply)
 
   written-told : (q : Request) → replyOf p b (write q) ≡ Accepted
-      → toldBy (outcomeOf p b (write q)) ≡ tells Accepted (p .alpha * (length (copies p (view p b (requestRegion p q)) (planOf p (view p b (requestRegion p q)))) + 1)) (planErases (planOf p (view p b (requestRegion p q)))) (q .bytes)
-  unfolding toldBy told isAccepted answerOf tells
+      → toldBy (outcomeOf p b (write q)) ≡ tells Accepted (p .alpha * (length (copies p (view p b (requestRegion p q)) (planOf p (view p b (requestRegion p q)))) + 1)) (planErases (planOf p (view p b (requestRegion p q))))
+      (looksIn p (view p b (requestRegion p q)) (requestCluster p q)) (q .bytes)
+  unfolding toldBy told isAccepted answerOf tells looksAt
   written-told q e =
       let w = write-promise p b q e in
-      ap toldBy (write-accepted p b q e) ∙ ap₂ (λ (n m : ℕ). tells Accepted n m (q .bytes)) (w .programs) (w .erases)
+      ap toldBy (write-accepted p b q e) ∙ ap₂ (λ (n m : ℕ). tells Accepted n m (looksIn p (view p b (requestRegion p q)) (requestCluster p q)) (q .bytes)) (w .programs) (w .erases)
 
   write-told : (r : ℕ) (q : Request) → requestRegion p q ≡ r → toldBy (outcomeOf p b (write q)) ≡ answerBy p (view p b r) (write q)
   unfolding answerBy

@@ -9,8 +9,9 @@ use Rattle.rules.specs.declared.Params.{Params}
 use Rattle.rules.specs.declared.Reply.the-variants.{Accepted}
 use Rattle.rules.specs.declared.Answer.{Answer}
 use Rattle.rules.specs.Tables.{Board}
+use Rattle.rules.specs.Regions.{looksAt}
 use Rattle.rules.specs.Traces.{Op}
-use Rattle.rules.specs.Requests.{Call, Request, format, queue, read, release, write}
+use Rattle.rules.specs.Requests.{Call, Request, format, queue, read, release, requestCluster, write}
 use Rattle.rules.specs.Format.{formatOps, formatted}
 use Rattle.rules.specs.Write.{writeOps, written}
 use Rattle.rules.specs.Release.{released}
@@ -22,7 +23,7 @@ use Rattle.claims.proofs.Singles.{Single, refused-leaves}
 
 -- ---- a work of one part
 
--- what an accepted call that is no queue makes and leaves
+-- what an accepted call that is no queue makes, looks at and leaves
 unfoldable pub doneOps : Params → Board → Call → List Op
 doneOps p b format = formatOps p (b .chip)
 doneOps p b (read q) = []
@@ -44,8 +45,15 @@ doneBoard p b (write q) = written p b q
 doneBoard p b (release c) = released p b c
 doneBoard p b (queue l) = b
 
-is-done : (p : Params) (b : Board) (c : Call) → Single c → workOf p b c ≡ does p b c (doneOps p b c) (doneBytes p b c) (doneBoard p b c)
-unfolding workOf writeWork doneOps doneBytes doneBoard
+doneLooks : Params → Board → Call → ℕ
+doneLooks p b format = 0
+doneLooks p b (read q) = looksAt p b (requestCluster p q)
+doneLooks p b (write q) = looksAt p b (requestCluster p q)
+doneLooks p b (release c) = 0
+doneLooks p b (queue l) = 0
+
+is-done : (p : Params) (b : Board) (c : Call) → Single c → workOf p b c ≡ does p b c (doneOps p b c) (doneLooks p b c) (doneBytes p b c) (doneBoard p b c)
+unfolding workOf writeWork doneOps doneLooks doneBytes doneBoard
 is-done p b format s = refl
 is-done p b (read q) s = refl
 is-done p b (write q) s = refl
@@ -68,8 +76,8 @@ unfolding refuses
 its-part p b c s = go (reply-cases (replyOf p b c))
   where
     go : (replyOf p b c ≡ Accepted) ⊎ (isAccepted (replyOf p b c) ≡ false) → (workOf p b c) .parts ≡ partOf p b c ∷ []
-    go (inl e) = one-part p b c _ _ _ _ (is-done p b c s ∙ work-accepted p b c _ _ _ e)
-    go (inr e) = one-part p b c _ _ _ _ (is-done p b c s ∙ work-refused p b c _ _ _ e)
+    go (inl e) = one-part p b c _ _ _ _ (is-done p b c s ∙ work-accepted p b c _ _ _ _ e)
+    go (inr e) = one-part p b c _ _ _ _ (is-done p b c s ∙ work-refused p b c _ _ _ _ e)
 
 -- ---- the parts and the trace of a run, a call more
 
@@ -90,15 +98,15 @@ trace-step p b c cs = ops-append ((workOf p b c) .parts) (partsOf p (leaves p b 
 
 pub accepted-ops : (p : Params) (b : Board) (c : Call) → Single c → replyOf p b c ≡ Accepted → opsBy p b c ≡ doneOps p b c
 unfolding opsBy single opsOf
-accepted-ops p b c s e = rw (is-done p b c s, work-accepted p b c (doneOps p b c) (doneBytes p b c) (doneBoard p b c) e) (append-nil (doneOps p b c))
+accepted-ops p b c s e = rw (is-done p b c s, work-accepted p b c (doneOps p b c) (doneLooks p b c) (doneBytes p b c) (doneBoard p b c) e) (append-nil (doneOps p b c))
 
 pub refused-ops : (p : Params) (b : Board) (c : Call) → Single c → isAccepted (replyOf p b c) ≡ false → opsBy p b c ≡ []
 unfolding opsBy single refuses opsOf
-refused-ops p b c s e = rw (is-done p b c s, work-refused p b c (doneOps p b c) (doneBytes p b c) (doneBoard p b c) e)
+refused-ops p b c s e = rw (is-done p b c s, work-refused p b c (doneOps p b c) (doneLooks p b c) (doneBytes p b c) (doneBoard p b c) e)
 
 pub accepted-leaves : (p : Params) (b : Board) (c : Call) → Single c → replyOf p b c ≡ Accepted → leaves p b c ≡ doneBoard p b c
 unfolding leaves outcomeOf single
-accepted-leaves p b c s e = ap (λ (w : Work). w .left) (is-done p b c s ∙ work-accepted p b c (doneOps p b c) (doneBytes p b c) (doneBoard p b c) e)
+accepted-leaves p b c s e = ap (λ (w : Work). w .left) (is-done p b c s ∙ work-accepted p b c (doneOps p b c) (doneLooks p b c) (doneBytes p b c) (doneBoard p b c) e)
 
 pub format-leaves : (p : Params) (b : Board) → replyOf p b format ≡ Accepted → leaves p b format ≡ formatted p b
 unfolding doneBoard

@@ -16,9 +16,9 @@ use Rattle.rules.specs.Parameters.{frames, pages}
 use Rattle.rules.specs.Numbers.{regionOf}
 use Rattle.rules.specs.Pages.{held}
 use Rattle.rules.specs.Tables.{Board, none, ctAt, btEntry, bstAt, markIndex, wordAt}
-use Rattle.rules.specs.Regions.{view}
+use Rattle.rules.specs.Regions.{looksAt, view}
 use Rattle.rules.specs.Traces.{replayChip, replayWear, clean}
-use Rattle.rules.specs.Requests.{Request, requestRegion, Queue, Call, format, read, write, release, queue, lent, lentAnswers}
+use Rattle.rules.specs.Requests.{Request, requestCluster, requestRegion, Queue, Call, format, read, write, release, queue, lent, lentAnswers}
 use Rattle.rules.specs.Format.{bad, goodBlocks}
 use Rattle.rules.specs.Write.{Plan, continues, opens, reclaims, planOf, planErases, planFrame, planBlock, copies}
 use Rattle.rules.specs.Replies.{OrderlyBoard, Row, replyOf, rowsOf}
@@ -38,11 +38,11 @@ pub record ByTable {A : Type 0} (other : A) (rows : List (Row A)) (reply : A) : 
       → (reply ≡ x .gives) ↔ ((noneApplies earlier ≡ true) × (x .applies ≡ true))
   pub otherwise : (reply ≡ other) ↔ (noneApplies rows ≡ true)
 
--- both counts are 0
+-- every count is 0
 abbrev pub Idle : Answer → Type 0
-Idle a = (a .programs ≡ 0) × (a .erases ≡ 0)
+Idle a = (a .programs ≡ 0) × (a .erases ≡ 0) × (a .looks ≡ 0)
 
--- "a refusal changes nothing": no byte of the board, of the lent data or of the answer list, and both counts are 0
+-- "a refusal changes nothing": no byte of the board, of the lent data or of the answer list, and every count is 0
 pub record Unchanged (b : Board) (c : Call) (o : Outcome) : Type 0 where
   pub board : o .board ≡ b
   pub bytes : o .bytes ≡ lent c
@@ -63,16 +63,19 @@ pub record InOrder (p : Params) (b : Board) : Type 0 where
   pub all : blocksOf p b 0 + blocksOf p b 1 + blocksOf p b 2 ≡ p .N
   pub used : blocksOf p b 1 ≡ assignedBlocks p b
 
--- "a format reports 0 programs and one erase for each block not bad"
+-- "a format reports 0 programs and one erase for each block not bad"; T-08: 0 spare areas "from other calls"
 pub record Formats (p : Params) (b : Board) (o : Outcome) : Type 0 where
   pub programs : o .answer .programs ≡ 0
   pub erases : o .answer .erases ≡ goodBlocks p (b .chip)
+  pub looks : o .answer .looks ≡ 0
 
--- "A read reports 0 and 0 and writes only its data buffer": each sector as its LBA reads
+-- "A read reports 0 and 0 and writes only its data buffer": each sector as its LBA reads. T-08: it reports the search for its cluster's valid frame
 pub record Reads (p : Params) (b : Board) (q : Request) (o : Outcome) : Type 0 where
   pub board : o .board ≡ b
   pub bytes : o .bytes ≡ joinBelow (q .count) (λ i. sectorAt p b (q .lba + i))
-  pub counts : Idle (o .answer)
+  pub programs : o .answer .programs ≡ 0
+  pub erases : o .answer .erases ≡ 0
+  pub looks : o .answer .looks ≡ looksAt p b (requestCluster p q)
 
 -- the plan takes a free block
 unfoldable pub takesBlock : Plan → Bool
@@ -82,7 +85,8 @@ takesBlock (reclaims v) = true
 
 -- a write of this request by its plan for region r. "never refused for want of room": a block that it takes is there and free, and the frame that it
 -- writes is one of the block's, also after the copies of a reclaim; it does store: each LBA of the request then reads as given, and every other of the
--- board as before; "A write reports α × (frames copied + 1) pages programmed, and 1 erase if it reclaimed, else 0. So it programs at most P pages"
+-- board as before; "A write reports α × (frames copied + 1) pages programmed, and 1 erase if it reclaimed, else 0. So it programs at most P pages".
+-- T-08: it reports the search for its own cluster, "in the state at entry"
 pub record Writes (p : Params) (b : Board) (q : Request) (r : ℕ) (pl : Plan) (o : Outcome) : Type 0 where
   pub block : takesBlock pl ≡ true → (planBlock p b r pl < p .N) × (bstAt (b .bst) (planBlock p b r pl) ≡ 0)
   pub frame : planFrame p (view p b r) pl < frames p
@@ -90,6 +94,7 @@ pub record Writes (p : Params) (b : Board) (q : Request) (r : ℕ) (pl : Plan) (
   pub programs : o .answer .programs ≡ p .alpha * (length (copies p (view p b r) pl) + 1)
   pub most : o .answer .programs ≤ pages p
   pub erases : o .answer .erases ≡ planErases pl
+  pub looks : o .answer .looks ≡ looksAt p b (requestCluster p q)
 
 -- none of these frames holds cluster c
 unfoldable pub noneHolds : Params → ℕ → List (List ℕ) → Bool

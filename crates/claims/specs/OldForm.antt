@@ -16,7 +16,8 @@ use Rattle.rules.specs.Parameters.{chipBytes}
 use Rattle.rules.specs.Tables.{Board, boardOf, marksLength}
 use Rattle.rules.specs.Orderly.{marksRule, rulesOf}
 use Rattle.rules.specs.Traces.{Op}
-use Rattle.rules.specs.Requests.{Request, format, read, release, write}
+use Rattle.rules.specs.Regions.{looksAt}
+use Rattle.rules.specs.Requests.{Request, format, read, release, requestCluster, write}
 use Rattle.rules.specs.Format.{formatOps, formatted}
 use Rattle.rules.specs.Write.{writeOps, written}
 use Rattle.rules.specs.Release.{released}
@@ -65,27 +66,30 @@ pub record OldOutcome : Type 0 where
   pub bytes : List ℕ
   pub board : OldBoard
 
--- a call with this reply: refused it leaves the data that was lent; accepted it makes these operations and leaves this data and this board
-unfoldable pub oldCall : OldBoard → Reply → List ℕ → List Op → List ℕ → OldBoard → OldOutcome
-oldCall o r lent ops bytes o′ =
-    cond (isAccepted r) (record { answer = answerOf Accepted ops; bytes = bytes; board = o′ }) (record { answer = answerOf r []; bytes = lent; board = o })
+-- a call with this reply: refused it leaves the data that was lent; accepted it makes these operations, looks at so many spare areas, and leaves this data and
+-- this board. T-08's count, which came later, is of no table of marks either
+unfoldable pub oldCall : OldBoard → Reply → List ℕ → List Op → ℕ → List ℕ → OldBoard → OldOutcome
+oldCall o r lent ops looks bytes o′ =
+    cond (isAccepted r) (record { answer = answerOf Accepted ops looks; bytes = bytes; board = o′ }) (record { answer = answerOf r [] 0; bytes = lent; board = o })
 
 unfoldable pub oldFormat : Params → OldBoard → OldOutcome
 oldFormat p o =
     let b = withoutMarks o in
-    oldCall o (oldReply p o (row (tooFewBlocks p b) TooFewBlocks ∷ [])) [] (formatOps p (o .chip)) [] (oldOf (formatted p b))
+    oldCall o (oldReply p o (row (tooFewBlocks p b) TooFewBlocks ∷ [])) [] (formatOps p (o .chip)) 0 [] (oldOf (formatted p b))
 
 unfoldable pub oldRead : Params → OldBoard → Request → OldOutcome
-oldRead p o q = oldCall o (oldReply p o (accessRows p q ++ oldOrder p o)) (q .bytes) [] (readBytes p (withoutMarks o) q) o
+oldRead p o q =
+    let b = withoutMarks o in
+    oldCall o (oldReply p o (accessRows p q ++ oldOrder p o)) (q .bytes) [] (looksAt p b (requestCluster p q)) (readBytes p b q) o
 
 unfoldable pub oldWrite : Params → OldBoard → Request → OldOutcome
 oldWrite p o q =
     let b = withoutMarks o in
-    oldCall o (oldReply p o (accessRows p q ++ oldOrder p o)) (q .bytes) (writeOps p b q) (q .bytes) (oldOf (written p b q))
+    oldCall o (oldReply p o (accessRows p q ++ oldOrder p o)) (q .bytes) (writeOps p b q) (looksAt p b (requestCluster p q)) (q .bytes) (oldOf (written p b q))
 
 unfoldable pub oldRelease : Params → OldBoard → ℕ → OldOutcome
 oldRelease p o c =
-    oldCall o (oldReply p o (row (badCluster p c) BadAddress ∷ oldOrder p o)) [] [] [] (oldOf (released p (withoutMarks o) c))
+    oldCall o (oldReply p o (row (badCluster p c) BadAddress ∷ oldOrder p o)) [] [] 0 [] (oldOf (released p (withoutMarks o) c))
 
 -- an outcome without the table
 abbrev pub oldPart : Outcome → OldOutcome

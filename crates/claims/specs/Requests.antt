@@ -37,7 +37,7 @@ DataInItsTurn =
 unfoldable pub disorderedPart : Params → Queue → Item → Part
 disorderedPart p l it =
     let q = itemRequest p (l .bytes) it in
-    record { asks = write q; answer = answerOf (firstRow NotOrderly (accessRows p q)) []; bytes = q .bytes; ops = [] }
+    record { asks = write q; answer = answerOf (firstRow NotOrderly (accessRows p q)) [] 0; bytes = q .bytes; ops = [] }
 
 pub record Disordered (p : Params) (b : Board) (l : Queue) : Type 0 where
   pub each : (workOf p b (queue l)) .parts ≡ map (disorderedPart p l) (l .items)

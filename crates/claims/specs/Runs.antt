@@ -69,7 +69,7 @@ asked (write q) = write q
 asked (release c) = release c
 asked (queue l) = queue l
 
--- what the caller is told: the reply with both counts, and where it is 0 the data
+-- what the caller is told: the reply with the three counts, and where it is 0 the data
 pub record Told : Type 0 where
   pub answer : Answer
   pub bytes : List ℕ

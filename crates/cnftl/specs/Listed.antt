@@ -12,13 +12,13 @@ use Rattle.rules.specs.Tables.{Board}
 use Rattle.why.specs.Why.{whyOf}
 use Rattle.listing.specs.Told.{tells}
 
--- 1 or 2 where the list has not twelve entries
+-- 1 or 2 where the list has not thirteen entries
 unfoldable pub toldReply : Params → Board → ℕ → List ℕ → ℕ
-toldReply p b lba list = cond (eqb (length list) 12) (getD (whyOf p b lba) 0 0) (cond (allowed p) 2 1)
+toldReply p b lba list = cond (eqb (length list) 13) (getD (whyOf p b lba) 0 0) (cond (allowed p) 2 1)
 
 -- the list: the answer's numbers where it is told, else as it was lent
 unfoldable pub toldList : Params → Board → ℕ → List ℕ → List ℕ
-toldList p b lba list = cond (eqb (length list) 12 && tells (getD (whyOf p b lba) 0 0)) (whyOf p b lba) list
+toldList p b lba list = cond (eqb (length list) 13 && tells (getD (whyOf p b lba) 0 0)) (whyOf p b lba) list
 
 pub record Listed (p : Params) (b : Board) (lba : ℕ) (list : List ℕ) (word : ℕ) (list′ : List ℕ) : Type 0 where
   pub reply : word ≡ toldReply p b lba list

@@ -180,7 +180,7 @@ pub extern "C" fn cnftl_why(
     ensures { λ word. ⌜ Listed (paramsOf s alpha beta d mu gamma c n) (boardOf (now (chip .entry)) (now (ct .entry)) (now (bt .entry)) (now (fst .entry)) (now (bst .entry)) (now (wear .entry)) (now (marks .entry))) lba (now (list .entry)) word (now (list .exit)) ⌝ }
 {
     let p = packing::params(s, alpha, beta, d, mu, gamma, c, n);
-    if list.len() != 12 {
+    if list.len() != 13 {
         if sizes::parameters_allowed(p) {
             return 2;
         }

@@ -16,10 +16,10 @@ use Rattle.ends.specs.Claims.{outcome}
 
 module _ (p : Params) (b : Board) (c : Call) (r : Reply) (e : r ≡ replyOf p b c) (n : ℕ) (m : n ≡ numberOf r) where
   -- a reply with another number refuses the call
-  pub refused-by : (n ≡ 0 → ⊥) → (a : Answer) → a ≡ answerOf r [] → outcome a (lent c) (lentAnswers c) b ≡ outcomeOf p b c
+  pub refused-by : (n ≡ 0 → ⊥) → (a : Answer) → a ≡ answerOf r [] 0 → outcome a (lent c) (lentAnswers c) b ≡ outcomeOf p b c
   refused-by ne a is =
       let no = is-refused (replyOf p b c) (λ (q : replyOf p b c ≡ Accepted). ne (m ∙ ap numberOf (e ∙ q))) in
-      (λ i. outcome ((is ∙ ap (λ (y : Reply). answerOf y []) e) i) (lent c) (lentAnswers c) b) ∙ sym (call-refused p b c no)
+      (λ i. outcome ((is ∙ ap (λ (y : Reply). answerOf y [] 0) e) i) (lent c) (lentAnswers c) b) ∙ sym (call-refused p b c no)
 
   -- and 0 accepts it
   pub reply-zero : n ≡ 0 → replyOf p b c ≡ Accepted

@@ -124,7 +124,7 @@ fn segment_ok(p: Params, chip: &[u8], bt: &[u16], r: usize, c: Cluster, sg: Segm
     }
     let k = sizes::place_of(p, sg);
     let f = sizes::frames(p);
-    blocks::last_in(p, blocks::block_of(p, chip, n), k, c) < f
+    blocks::last_in(p, blocks::block_of(p, chip, n), k, c).frame < f
 }
 
 // The CT entry of cluster c, of region r, is none or names such a segment.

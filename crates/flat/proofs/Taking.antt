@@ -96,16 +96,16 @@ module _ (p : Params) (b : Board) (requests bytes answers : List ℕ) (h : Head)
   pub turns-asked : TurnsAsked p (h .ordered) b requests answers (h .items)
   turns-asked = record { asked = omega (arith, is .fits); places = is .room; ready = is .ready }
 
-  own-word : (r : Reply) → numberOf r ≡ packed (answerOf r [])
+  own-word : (r : Reply) → numberOf r ≡ packed (answerOf r [] 0)
   unfolding packed answerOf programsIn erasesIn
   own-word r = omega arith
 
   module _ (b′ : Board) (answers′ : List ℕ) (fold : (b′, answers′) ≡ servedFrom packed p bytes (take (h .items) (itemsOf requests)) 0 b answers) (word : ℕ) (w : word ≡ numberOf (h .reply)) where
     -- the loop served these, with this reply
     ends : (r : Reply) → h .reply ≡ r → (y : Board) (l : List ℕ) → servedFrom packed p bytes (take (h .items) (itemsOf requests)) 0 b answers ≡ (y, l)
-        → flatOutcome word answers′ b′ ≡ flatOutcome (packed (answerOf r [])) l y
+        → flatOutcome word answers′ b′ ≡ flatOutcome (packed (answerOf r [] 0)) l y
     ends r e y l k =
-        ap₂ (λ (v : ℕ) (z : Board × List ℕ). flatOutcome v (z .1) (z .0)) (w ∙ own-word (h .reply) ∙ ap (λ (q : Reply). packed (answerOf q [])) e) (fold ∙ k)
+        ap₂ (λ (v : ℕ) (z : Board × List ℕ). flatOutcome v (z .1) (z .0)) (w ∙ own-word (h .reply) ∙ ap (λ (q : Reply). packed (answerOf q [] 0)) e) (fold ∙ k)
 
     none-served : isAccepted (h .reply) ≡ false → servedFrom packed p bytes (take (h .items) (itemsOf requests)) 0 b answers ≡ (b, answers)
     unfolding servedFrom
@@ -145,7 +145,7 @@ module _ (p : Params) (b : Board) (requests bytes answers : List ℕ) (h : Head)
     -- the reply is the queue's, but for a list that is no multiple of three
     same-reply : badParameter p || eqb (length requests % 3) 0 ≡ true → flatReply p b (length requests) (length answers) ≡ replyOf p b call
     unfolding replyOf rowsOf flatReply
-    same-reply t = rw (items-length requests, length-replicate (length answers) (answerOf Accepted [])) (go (badParameter p) refl (eqb (length requests % 3) 0) refl)
+    same-reply t = rw (items-length requests, length-replicate (length answers) (answerOf Accepted [] 0)) (go (badParameter p) refl (eqb (length requests % 3) 0) refl)
       where
         go : (x : Bool) → badParameter p ≡ x → (y : Bool) → eqb (length requests % 3) 0 ≡ y
             → cond (badParameter p) BadParameter (cond (not (eqb (length requests % 3) 0)) WrongLength (firstRow Accepted (queueRows p b (length requests / 3) (length answers))))

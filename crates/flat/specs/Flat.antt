@@ -26,7 +26,7 @@ itemsOf (lba ∷ count ∷ first ∷ rest) = itemOf lba count first ∷ itemsOf 
 
 -- the queue of these requests, with as many answers lent; what they hold makes no difference
 abbrev pub flatQueue : List ℕ → List ℕ → List ℕ → Queue
-flatQueue requests bytes answers = queueOf (itemsOf requests) bytes (replicate (length answers) (answerOf Accepted []))
+flatQueue requests bytes answers = queueOf (itemsOf requests) bytes (replicate (length answers) (answerOf Accepted [] 0))
 
 -- the call's own number, the answer list, and chip and tables, as the call leaves them
 pub record FlatOutcome : Type 0 where
@@ -44,7 +44,7 @@ flatCall p b requests bytes answers =
     let o = outcomeOf p b c in
     cond (badParameter p || eqb (length requests % 3) 0)
     (flatOutcome (packed (o .answer)) (over (map packed (answersIn ((workOf p b c) .parts))) answers) (o .board))
-    (flatOutcome (packed (answerOf WrongLength [])) answers b)
+    (flatOutcome (packed (answerOf WrongLength [] 0)) answers b)
 
 -- ---- as the loop goes
 

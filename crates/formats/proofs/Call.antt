@@ -47,7 +47,7 @@ module _ (p : Params) (b : Board) (e : replyOf p b format ≡ Accepted) where
   -- every block formatted, every entry cleared and every mark gone
   pub format-done : (r : Reply) → r ≡ replyOf p b format → (chip ct bt fst bst wear marks : List ℕ) (k : ℕ) → ct ≡ replicate (length (b .ct)) none → bt ≡ replicate (length (b .bt)) none
       → fst ≡ replicate (length (b .fst)) none → marks ≡ replicate (length (b .marks)) 0 → BlocksDone p (b .chip) (b .wear) chip bst wear k
-      → outcome (record { reply = r; programs = 0; erases = k }) [] [] (boardOf chip ct bt fst bst wear marks) ≡ outcomeOf p b format
+      → outcome (record { reply = r; programs = 0; erases = k; looks = 0 }) [] [] (boardOf chip ct bt fst bst wear marks) ≡ outcomeOf p b format
   unfolding answerOf formatted
   format-done r er chip ct bt fst bst wear marks k ce be fe me d =
       let ct-is : ct ≡ replicate (p .C) none = ce ∙ rw (lens .ctLength) in
@@ -56,7 +56,7 @@ module _ (p : Params) (b : Board) (e : replyOf p b format ≡ Accepted) where
       let marks-is : marks ≡ marksOf p (formatted p b) = me ∙ rw (marks-fit p b (given .lengths)) (sym (formatted-marks p b e)) in
       (λ i.
       record {
-        answer = record { reply = (er ∙ e) i; programs = sym (format-programs p (b .chip)) i; erases = d .count i };
+        answer = record { reply = (er ∙ e) i; programs = sym (format-programs p (b .chip)) i; erases = d .count i; looks = 0 };
         bytes = [];
         answers = [];
         board = record { chip = d .chipIs i; ct = ct-is i; bt = bt-is i; fst = fst-is i; bst = d .bstIs i; wear = d .wearIs i; marks = marks-is i };

@@ -34,5 +34,6 @@ pub fn format(
         reply,
         programs: 0,
         erases: k as u32,
+        looks: 0,
     }
 }

@@ -43,13 +43,13 @@ module _ (p : Params) (ordered : Bool) (b : Board) (y : Ready p ordered b) (byte
     unfolding itemRequest
     is = replied b request (y .lengths) (y .order) refl refl (λ e. item-data p bytes it (y .fine) e ∙ ap not (sym fit))
 
-    pub item-refused : (n ≡ 0 → ⊥) → (a : Answer) → a ≡ answerOf r [] → ItemIs p ordered b bytes it a b
+    pub item-refused : (n ≡ 0 → ⊥) → (a : Answer) → a ≡ answerOf r [] 0 → ItemIs p ordered b bytes it a b
     unfolding itemOutcome
     item-refused ne a an =
         let no : isAccepted (replyOf p b (write request)) ≡ false = rw (← is) (is-refused r (λ (e : r ≡ Accepted). ne (m ∙ ap numberOf e))) in
         let o = call-refused p b (write request) no in
         record {
-          answered = an ∙ ap (λ (k : Reply). answerOf k []) is ∙ sym (ap (λ (k : Outcome). k .answer) o);
+          answered = an ∙ ap (λ (k : Reply). answerOf k [] 0) is ∙ sym (ap (λ (k : Outcome). k .answer) o);
           left = sym (ap (λ (k : Outcome). k .board) o);
           ready = y;
         }

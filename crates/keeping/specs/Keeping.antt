@@ -29,5 +29,5 @@ keptMarks m r v f copied erases kept u g =
     putMark (cond kept (putMark roomed r u g false) roomed) r v f true
 
 -- "A write reports α × (frames copied + 1) pages programmed"
-abbrev pub acceptedAnswer : Params → ℕ → ℕ → Answer
-acceptedAnswer p copied erases = record { reply = Accepted; programs = p .alpha * (copied + 1); erases = erases }
+abbrev pub acceptedAnswer : Params → ℕ → ℕ → ℕ → Answer
+acceptedAnswer p copied erases looks = record { reply = Accepted; programs = p .alpha * (copied + 1); erases = erases; looks = looks }

@@ -46,15 +46,16 @@ pub fn keep_marks(p: Params, marks: &mut [u64], r: usize, room: Room, old: Found
     marking::set_mark(p, marks, r, room.vblock, room.frame);
 }
 
-// What an accepted write answers that copied so many frames and erased so many blocks.
-pub fn answered(p: Params, copied: usize, erases: u32) -> Answer
+// What an accepted write answers that copied so many frames, erased so many blocks, and looked at so many spare areas for its cluster.
+pub fn answered(p: Params, copied: usize, erases: u32, looks: u32) -> Answer
     requires { ⌜ p .alpha ≤ 16 ⌝ }
     requires { ⌜ copied < 256 ⌝ }
-    ensures { λ a. ⌜ a ≡ acceptedAnswer p copied erases ⌝ }
+    ensures { λ a. ⌜ a ≡ acceptedAnswer p copied erases looks ⌝ }
 {
     Answer {
         reply: Reply::Accepted,
         programs: (p.alpha * (copied + 1)) as u32,
         erases,
+        looks,
     }
 }

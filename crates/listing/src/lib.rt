@@ -1,4 +1,4 @@
-// The answer of why as twelve numbers, as C gets it: in the lent list where it is told, and its reply.
+// The answer of why as thirteen numbers, as C gets it: in the lent list where it is told, and its reply.
 ghost use mathlib.Core.Path.{_≡_};
 ghost use mathlib.Core.Bool.{cond};
 ghost use lib.ListN.{getD, length};
@@ -20,18 +20,18 @@ fn forecast_numbers(fc: Forecast) -> [u32; 4]
 }
 
 // The numbers of an answer, in the order of the list.
-fn why_numbers(w: Why) -> [u32; 12]
+fn why_numbers(w: Why) -> [u32; 13]
     requires { ⌜ Small (numbersOf w) ⌝ }
     ensures { λ r. ⌜ r ≡ numbersOf w ⌝ }
 {
     match w {
-        Why::Refused(r) => [rules::number(r), 0, 0, 0, 0, 0, 0, 0, 0, 0, 0, 0],
-        Why::Disordered(k) => [7, broken::rule_number(k), 0, 0, 0, 0, 0, 0, 0, 0, 0, 0],
+        Why::Refused(r) => [rules::number(r), 0, 0, 0, 0, 0, 0, 0, 0, 0, 0, 0, 0],
+        Why::Disordered(k) => [7, broken::rule_number(k), 0, 0, 0, 0, 0, 0, 0, 0, 0, 0, 0],
         Why::Empty(fc) => {
             let f = forecast_numbers(fc);
-            [0, 0, 0, 0, 0, 0, 0, 0, f[0], f[1], f[2], f[3]]
+            [0, 0, 0, 0, 0, 0, 0, 0, f[0], f[1], f[2], f[3], 0]
         }
-        Why::Held(at, fc) => {
+        Why::Held(at, fc, looks) => {
             let f = forecast_numbers(fc);
             [
                 0,
@@ -46,6 +46,7 @@ fn why_numbers(w: Why) -> [u32; 12]
                 f[1],
                 f[2],
                 f[3],
+                looks,
             ]
         }
     }
@@ -66,7 +67,7 @@ fn put_list(to: &mut [u32], from: &[u32])
 // An answer in the lent list, where its reply is 0 or 7. The reply.
 pub fn tell(w: Why, list: &mut [u32]) -> u64
     requires { ⌜ Small (numbersOf w) ⌝ }
-    requires { ⌜ length (now list) ≡ 12 ⌝ }
+    requires { ⌜ length (now list) ≡ 13 ⌝ }
     ensures { λ word. ⌜ word ≡ getD (numbersOf w) 0 0 ⌝ }
     ensures { λ _. ⌜ now (list .exit) ≡ cond (tells (getD (numbersOf w) 0 0)) (numbersOf w) (now (list .entry)) ⌝ }
 {

@@ -1,8 +1,8 @@
 -- Laws of the parts of a list.
 -- Assumes nothing.
 use mathlib.Core.Path.{_≡_, refl, sym, ap, _∙_}
-use Prim.Native.Nat.{ℕ, zero, suc, _+_, _-_, _*_, _≤_, _<_}
-use native.Mathlib.Nat.{suc-mul, mul-le-mul-right}
+use Prim.Native.Nat.{ℕ, zero, suc, _+_, _-_, _*_, _/_, _≤_, _<_}
+use native.Mathlib.Nat.{add-zero, div-eq-of-lt, div-lt-iff-lt-mul, mul-add-div-right, suc-mul, mul-le-mul-right}
 use native.Mathlib.Omega.{arith}
 use native.Mathlib.Decide.{decLt}
 use mathlib.Core.List.{List, [], _∷_, _++_, append-assoc}
@@ -13,6 +13,22 @@ use Rattle.lists.specs.Parts.{part, putPart}
 -- the parts end where the next begins
 pub next : (w i j : ℕ) → i < j → i * w + w ≤ j * w
 next w i j h = rw suc-mul at (mul-le-mul-right w h)
+
+-- which part a place lies in: the one that it is not below, and not past
+pub in-place : (w k i : ℕ) → 1 ≤ w → k * w ≤ i → i < k * w + w → i / w ≡ k
+in-place w k i h x y =
+    let e : i ≡ k * w + (i - k * w) = omega arith in
+    let l : i - k * w < w = omega arith in
+    rw (e, mul-add-div-right h, div-eq-of-lt l) (add-zero k)
+
+pub over-place : (w k i : ℕ) → 1 ≤ w → k * w + w ≤ i → i / w ≡ k → ⊥
+over-place w k i h x e =
+    let l : i / w < k + 1 = omega arith in
+    let z : i < (k + 1) * w = div-lt-iff-lt-mul h .0 l in
+    omega (arith, z)
+
+pub under-place : (w k i : ℕ) → 1 ≤ w → i < k * w → i / w ≡ k → ⊥
+under-place w k i h x e = omega (arith, div-lt-iff-lt-mul {k = w} {x = i} {y = k} h .1 x)
 
 pub part-length : (w i : ℕ) (l : List ℕ) → i * w + w ≤ length l → length (part w i l) ≡ w
 unfolding part

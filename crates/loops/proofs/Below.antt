@@ -45,6 +45,16 @@ pub count-no : (i k : ℕ) (f : ℕ → Bool) → k ≡ countBelow i f → f i �
 unfolding countBelow
 count-no i k f h e = rw (add-one i, e, h, add-zero)
 
+-- those that do not pass do not count
+pub count-skip : (n m : ℕ) (f : ℕ → Bool) → m ≤ n → ((j : ℕ) → m ≤ j → j < n → f j ≡ false) → countBelow n f ≡ countBelow m f
+unfolding countBelow
+count-skip zero m f h k = let e : m ≡ 0 = omega arith in rw e
+count-skip (suc n) m f h k = go (decLt n m) (count-skip n m f)
+  where
+    go : Dec (n < m) → (m ≤ n → ((j : ℕ) → m ≤ j → j < n → f j ≡ false) → countBelow n f ≡ countBelow m f) → countBelow n f + cond (f n) 1 0 ≡ countBelow m f
+    go (yes a) rec = let e : m ≡ suc n = omega arith in rw e
+    go (no a) rec = rw (k n (omega arith) (omega arith), add-zero) (rec (omega arith) (λ j x y. k j x (omega arith)))
+
 -- ---- the last that passes, from above
 
 pub last-skip : (o n m : ℕ) (f : ℕ → Bool) → m ≤ n → ((j : ℕ) → m ≤ j → j < n → f j ≡ false) → lastBelow o n f ≡ lastBelow o m f

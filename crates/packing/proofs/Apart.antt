@@ -1,4 +1,4 @@
--- The number tells the reply and both counts.
+-- The number tells the reply and document 01's two counts.
 -- Assumes nothing.
 use mathlib.Core.Path.{_≡_}
 use Prim.Native.Nat.{_<_}

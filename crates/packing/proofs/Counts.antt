@@ -27,7 +27,7 @@ accepted-few p b (read q) e = rw (read-accepted p b q e) (omega arith)
 accepted-few p b (release c) e = rw (release-accepted p b c e) (omega arith)
 accepted-few p b (write q) e = rw (write-accepted p b q e) (omega (arith, (write-promise p b q e) .bounded .0, (sizes p ((write-checks p b q e) .fine)) .pagesHigh))
 accepted-few p b (queue l) e =
-    let own : (outcomeOf p b (queue l)) .answer ≡ answerOf Accepted [] =
+    let own : (outcomeOf p b (queue l)) .answer ≡ answerOf Accepted [] 0 =
     unfold outcomeOf in (ap (λ (w : Work). w .answer) (queue-accepted p b l e) ∙ all-answer p b (itemRequests p (l .bytes) (l .items)) l) in
     rw own (omega arith)
 

@@ -7,6 +7,7 @@ use mathlib.Core.List.{List, [], _∷_}
 use Prim.Native.Nat.{ℕ, _<_, _≤_}
 use native.Mathlib.Omega.{arith}
 use lib.ListN.{length, set}
+use borrow.Author.Tests.{le-leb, lt-leb}
 use Rattle.rules.specs.declared.Params.{Params}
 use Rattle.rules.specs.declared.Answer.{Answer}
 use Rattle.rules.specs.declared.Item.{Item}
@@ -60,14 +61,14 @@ module _ (p : Params) (x : Board) (a b : Item) (bytes : List ℕ) where
   pub few-two : (own first second : Answer) (x′ : Board) → outcome own bytes (first ∷ second ∷ []) x′ ≡ outcomeOf p x call → Few (outcome own bytes (first ∷ second ∷ []) x′)
   few-two own first second x′ e = subst Few (sym e) few-call
 
-pub placed-two : (first second : ℕ) (list : List ℕ) → 2 ≤ length list → set (set list 0 first) 1 second ≡ placed first second list
+pub placed-four : (a b c d : ℕ) (list : List ℕ) → 4 ≤ length list → set (set (set (set list 0 a) 1 b) 2 c) 3 d ≡ placed (a ∷ b ∷ c ∷ d ∷ []) list
 unfolding placed
-placed-two first second [] h = absurd (omega (arith, h))
-placed-two first second (x ∷ []) h = absurd (omega (arith, h))
-placed-two first second (x ∷ y ∷ rest) h = refl
+placed-four a b c d [] h = absurd (omega (arith, h))
+placed-four a b c d (x ∷ []) h = absurd (omega (arith, h))
+placed-four a b c d (x ∷ y ∷ []) h = absurd (omega (arith, h))
+placed-four a b c d (x ∷ y ∷ z ∷ []) h = absurd (omega (arith, h))
+placed-four a b c d (x ∷ y ∷ z ∷ w ∷ rest) h = rw (le-leb 4 (length (x ∷ y ∷ z ∷ w ∷ rest)) h)
 
-pub placed-none : (first second : ℕ) (list : List ℕ) → (2 ≤ length list → ⊥) → list ≡ placed first second list
+pub placed-none : (a b c d : ℕ) (list : List ℕ) → (4 ≤ length list → ⊥) → list ≡ placed (a ∷ b ∷ c ∷ d ∷ []) list
 unfolding placed
-placed-none first second [] h = refl
-placed-none first second (x ∷ []) h = refl
-placed-none first second (x ∷ y ∷ rest) h = absurd (h (omega arith))
+placed-none a b c d list h = rw (lt-leb 4 (length list) (omega arith))

@@ -9,7 +9,7 @@ use Rattle.rules.specs.Tables.{Board}
 use Rattle.rules.specs.Calls.{Outcome}
 use Rattle.ends.specs.Claims.{outcome}
 use Rattle.packing.specs.Packed.{packed}
-use Rattle.pair.specs.Two.{Two, placed, unset}
+use Rattle.pair.specs.Two.{Two, both, placed, unset}
 
 pub two-once : (o : Outcome) (before x x′ after after′ : List ℕ) (w w′ : ℕ) (b b′ : Board)
     → Two o x before w after b → Two o x′ before w′ after′ b′ → (w ≡ w′) × (x ≡ x′) × (after ≡ after′) × (b ≡ b′)
@@ -20,6 +20,6 @@ two-once o before x x′ after after′ w w′ b b′ t t′ =
     let second : t .second ≡ t′ .second = ap (λ (y : Outcome). getD (y .answers) 1 unset) e in (
       t .result ∙ ap packed own ∙ sym (t′ .result),
       ap (λ (y : Outcome). y .bytes) e,
-      t .list ∙ ap₂ (λ (f s : Answer). placed (packed f) (packed s) before) first second ∙ sym (t′ .list),
+      t .list ∙ ap₂ (λ (f s : Answer). placed (both f s) before) first second ∙ sym (t′ .list),
       ap (λ (y : Outcome). y .board) e,
     )

@@ -92,21 +92,24 @@ pub fn queue_two(
         reply: Reply::Accepted,
         programs: 0,
         erases: 0,
+        looks: 0,
     };
     two(p, chip, ct, bt, fst, bst, wear, marks, a, b, bytes, blank)
 }
 
-// Both numbers in their places, where there are two or more.
-fn put_two(answers: &mut [u64], first: u64, second: u64)
-    ensures { λ _. ⌜ now (answers .exit) ≡ placed first second (now (answers .entry)) ⌝ }
+// Both answers' numbers in the first places, and then their counts of spare areas, where there are four places or more.
+fn put_both(answers: &mut [u64], first: u64, second: u64, looks: u32, looks2: u32)
+    ensures { λ _. ⌜ now (answers .exit) ≡ placed (first ∷ second ∷ looks ∷ looks2 ∷ []) (now (answers .entry)) ⌝ }
 {
-    if answers.len() >= 2 {
+    if answers.len() >= 4 {
         answers[0] = first;
         answers[1] = second;
+        answers[2] = looks as u64;
+        answers[3] = looks2 as u64;
     }
 }
 
-// The same for C, with the parameters one by one and each answer as one number.
+// The same for C, with the parameters one by one, each answer as one number and then the count that is not in it.
 #[no_mangle]
 pub extern "C" fn cnftl_queue_two(
     s: u32,
@@ -165,6 +168,12 @@ pub extern "C" fn cnftl_queue_two(
     let own = r.own;
     let a = r.first;
     let b = r.second;
-    put_two(answers, packing::pack(a), packing::pack(b));
+    put_both(
+        answers,
+        packing::pack(a),
+        packing::pack(b),
+        a.looks,
+        b.looks,
+    );
     packing::pack(own)
 }

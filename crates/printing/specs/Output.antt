@@ -33,10 +33,17 @@ hex (b ∷ l) = digit (b / 16) ∷ digit (b % 16) ∷ hex l
 unfoldable pub sectors : ℕ → List ℕ → List ℕ
 sectors k l = joinBelow k (λ j. 9 ∷ hex (part 16 j l))
 
--- "letter, reply, programs, erases": for a format and a write. LF (10) ends a line
-unfoldable pub countsLine : ℕ → Answer → List ℕ
-countsLine letter a =
-    letter ∷ 9 ∷ decimal (numberOf (a .reply)) ++ (9 ∷ decimal (a .programs) ++ (9 ∷ decimal (a .erases) ++ (10 ∷ [])))
+-- "letter, reply, programs, erases"
+unfoldable pub counts : ℕ → Answer → List ℕ
+counts letter a = letter ∷ 9 ∷ decimal (numberOf (a .reply)) ++ (9 ∷ decimal (a .programs) ++ (9 ∷ decimal (a .erases)))
+
+-- for the format (`F`, 70). LF (10) ends a line
+unfoldable pub formatLine : Answer → List ℕ
+formatLine a = counts 70 a ++ (10 ∷ [])
+
+-- for a write (`W`, 87). T-08: "a fifth field, spare reads"
+unfoldable pub writeLine : Answer → List ℕ
+writeLine a = counts 87 a ++ (9 ∷ decimal (a .looks) ++ (10 ∷ []))
 
 -- "for `R` (82) letter, reply, then each sector in hex if the reply is 0"
 unfoldable pub readLine : Answer → ℕ → List ℕ → List ℕ

@@ -5,7 +5,7 @@ ghost use mathlib.Core.List.{[], _∷_};
 ghost use Prim.Native.Nat.{_+_, _*_, _/_, _≤_, _<_};
 ghost use lib.Dec.{eqb};
 ghost use lib.ListN.{length};
-ghost use Rattle.printing.specs.Output.{digit as digitOf, decimal as decimalOf, hex as hexOf, sectors as sectorsOf, countsLine, readLine, unknownLine, Put, Printed};
+ghost use Rattle.printing.specs.Output.{digit as digitOf, decimal as decimalOf, hex as hexOf, sectors as sectorsOf, counts, formatLine, writeLine, readLine, unknownLine, Put, Printed};
 use rules::Answer;
 
 // The character of a digit.
@@ -87,16 +87,36 @@ fn sectors_if(out: &mut [u8], at: usize, reply: u32, bytes: &[u8]) -> usize
     }
 }
 
-// Prints the line of a format or a write into a buffer, and returns its length.
-pub fn print_counts(out: &mut [u8], letter: u8, a: Answer) -> usize
-    requires { ⌜ 35 ≤ length (now out) ⌝ }
-    ensures { λ r. ⌜ Printed (countsLine letter a) (now (out .entry)) (now (out .exit)) r ⌝ }
+// Puts the letter, the reply and document 01's two counts at the start of a buffer.
+fn put_counts(out: &mut [u8], letter: u8, a: Answer) -> usize
+    requires { ⌜ 34 ≤ length (now out) ⌝ }
+    ensures { λ r. ⌜ Put (counts letter a) 0 (now (out .entry)) (now (out .exit)) r ⌝ }
+    ensures { λ r. ⌜ r ≤ 34 ⌝ }
 {
     let reply = a.reply;
     out[0] = letter;
     let programs = tabbed(out, 1, rules::number(reply));
     let erases = tabbed(out, programs, a.programs);
-    let end = tabbed(out, erases, a.erases);
+    tabbed(out, erases, a.erases)
+}
+
+// Prints the line of a format into a buffer, and returns its length.
+pub fn print_format(out: &mut [u8], a: Answer) -> usize
+    requires { ⌜ 35 ≤ length (now out) ⌝ }
+    ensures { λ r. ⌜ Printed (formatLine a) (now (out .entry)) (now (out .exit)) r ⌝ }
+{
+    let end = put_counts(out, b'F', a);
+    out[end] = b'\n';
+    end + 1
+}
+
+// Prints the line of a write, with the spare areas that it looked at as its last field.
+pub fn print_write(out: &mut [u8], a: Answer) -> usize
+    requires { ⌜ 46 ≤ length (now out) ⌝ }
+    ensures { λ r. ⌜ Printed (writeLine a) (now (out .entry)) (now (out .exit)) r ⌝ }
+{
+    let looks = put_counts(out, b'W', a);
+    let end = tabbed(out, looks, a.looks);
     out[end] = b'\n';
     end + 1
 }

@@ -41,7 +41,7 @@ module _ (p : Params) (bytes : List ℕ) where
 
   -- ---- the call
 
-  module _ (b : Board) (ys : List Item) (os : List Answer) (h : Head) (head : HeadIs p b (length ys) (length os) h) (a : Answer) (a-is : a ≡ answerOf (h .reply) [])
+  module _ (b : Board) (ys : List Item) (os : List Answer) (h : Head) (head : HeadIs p b (length ys) (length os) h) (a : Answer) (a-is : a ≡ answerOf (h .reply) [] 0)
       (b′ : Board) (os′ : List Answer) (fold : (b′, os′) ≡ servedFrom itself p bytes (take (h .items) ys) 0 b os) where
     replied : h .reply ≡ replyOf p b (queue (queueOf ys bytes os))
     unfolding replyOf rowsOf
@@ -58,8 +58,8 @@ module _ (p : Params) (bytes : List ℕ) where
         let l = queueOf ys bytes os in
         let done : _≡_ {A = Board × List Answer} (b′, os′) ((writeAll p b qs l) .left, over (map itself (answersIn ((writeAll p b qs l) .parts))) os) =
         fold ∙ ap (λ (its : List Item). servedFrom itself p bytes its 0 b os) taken ∙ served-all itself p bytes l ys b os (subst (λ (k : ℕ). k ≤ length os) all (head .room)) in
-        (λ j. outcome ((a-is ∙ ap (λ (r : Reply). answerOf r []) zero) j) bytes (done j .1) (done j .0))
-        ∙ rw (queue-accepted p b l e, all-answer p b qs l, all-bytes p b qs l, all-lent p b qs l) (ap (λ (x : List Answer). outcome (answerOf Accepted []) bytes (over x os) ((writeAll p b qs l) .left)) (map-id (answersIn ((writeAll p b qs l) .parts))))
+        (λ j. outcome ((a-is ∙ ap (λ (r : Reply). answerOf r [] 0) zero) j) bytes (done j .1) (done j .0))
+        ∙ rw (queue-accepted p b l e, all-answer p b qs l, all-bytes p b qs l, all-lent p b qs l) (ap (λ (x : List Answer). outcome (answerOf Accepted [] 0) bytes (over x os) ((writeAll p b qs l) .left)) (map-id (answersIn ((writeAll p b qs l) .parts))))
 
     -- refused, none is
     refused : isAccepted (replyOf p b (queue (queueOf ys bytes os))) ≡ false → outcome a bytes os′ b′ ≡ outcomeOf p b (queue (queueOf ys bytes os))
@@ -67,7 +67,7 @@ module _ (p : Params) (bytes : List ℕ) where
     refused e =
         let none : h .items ≡ 0 = head .counted ∙ ap (λ (r : Reply). cond (isAccepted r) (length ys) 0) replied ∙ ap (λ (t : Bool). cond t (length ys) 0) e in
         let done : _≡_ {A = Board × List Answer} (b′, os′) (b, os) = fold ∙ ap (λ (k : ℕ). servedFrom itself p bytes (take k ys) 0 b os) none in
-        (λ j. outcome ((a-is ∙ ap (λ (r : Reply). answerOf r []) replied) j) bytes (done j .1) (done j .0)) ∙ sym (call-refused p b (queue (queueOf ys bytes os)) e)
+        (λ j. outcome ((a-is ∙ ap (λ (r : Reply). answerOf r [] 0) replied) j) bytes (done j .1) (done j .0)) ∙ sym (call-refused p b (queue (queueOf ys bytes os)) e)
 
     pub fold-is : outcome a bytes os′ b′ ≡ outcomeOf p b (queue (queueOf ys bytes os))
     fold-is = go (reply-cases (replyOf p b (queue (queueOf ys bytes os))))

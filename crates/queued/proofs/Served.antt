@@ -72,8 +72,8 @@ unfolding writeWork outcomeOf workOf answersIn single refuses
 write-answers p b q = go (reply-cases (replyOf p b (write q)))
   where
     go : (replyOf p b (write q) ≡ Accepted) ⊎ (isAccepted (replyOf p b (write q)) ≡ false) → answersIn ((writeWork p b q) .parts) ≡ (writeWork p b q) .answer ∷ []
-    go (inl e) = unfold writeWork answersIn single in rw (work-accepted p b (write q) _ _ _ e)
-    go (inr e) = unfold writeWork answersIn single refuses in rw (work-refused p b (write q) _ _ _ e)
+    go (inl e) = unfold writeWork answersIn single in rw (work-accepted p b (write q) _ _ _ _ e)
+    go (inr e) = unfold writeWork answersIn single refuses in rw (work-refused p b (write q) _ _ _ _ e)
 
 -- the answers of a queue's parts, an item more
 pub answers-more : (p : Params) (b : Board) (q : Request) (qs : List Request) (l : Queue)

@@ -14,10 +14,11 @@ use Rattle.rules.specs.declared.Params.{Params}
 use Rattle.rules.specs.Parameters.{frames, chipBytes}
 use Rattle.rules.specs.Numbers.{regionOf, vblockOf, placeOf}
 use Rattle.rules.specs.Tables.{none, ctAt, btAt}
-use Rattle.rules.specs.Pages.{block, lastIn}
+use Rattle.rules.specs.Pages.{block, lastIn, programmedDownTo}
 use Rattle.rules.proofs.Sizes.{Sizes, sizes}
 use Rattle.rules.proofs.TableFacts.{chip-size}
-use Rattle.reading.specs.Lookup.{blockFor, lastFor, frameFor, Leads, Lookup, Stands, Within}
+use Rattle.reading.specs.Lookup.{blockFor, lastFor, frameFor, Leads, Looked, Lookup, Stands, Within}
+use Rattle.reading.proofs.Views.{looks-none, looks-there}
 
 module _ (p : Params) (chip ct bt : List ℕ) (c : ℕ) (l : Lookup p chip ct bt c) where
   pub chip-length : length chip ≡ chipBytes p
@@ -33,6 +34,9 @@ module _ (p : Params) (chip ct bt : List ℕ) (c : ℕ) (l : Lookup p chip ct bt
 
     pub nowhere : Within p chip ct bt c false 0 0
     nowhere = record { vblock = λ k. absurd (never k refl); inner = λ k. absurd (never k refl) }
+
+    pub no-looks : sg ≡ 65535 → Looked p chip ct bt c 0
+    no-looks e = record { is = λ fst. sym (looks-none p chip ct bt fst c (sym is ∙ e)); few = omega arith }
 
     module _ (ne : sg ≡ 65535 → ⊥) (r v : ℕ) (er : r ≡ regionOf p c) (ev : v ≡ vblockOf p sg) where
       there : Leads p chip ct bt c
@@ -68,3 +72,10 @@ module _ (p : Params) (chip ct bt : List ℕ) (c : ℕ) (l : Lookup p chip ct bt
 
           pub within : Within p chip ct bt c true v f
           within = record { vblock = λ k. rw is at ev; inner = λ k. last-is }
+
+          pub looked : (looks : ℕ) → looks ≤ p .beta → (f < frames p → looks ≡ programmedDownTo p blk k f) → Looked p chip ct bt c looks
+          looked looks few count =
+              record {
+                is = λ fst. count frame-low ∙ rw (eb, ek, last-is, block-is, is) (sym (looks-there p chip ct bt fst c (z .blocks) (λ y. ne (is ∙ y)) there));
+                few = omega (arith, few, z .betaHigh);
+              }

@@ -14,10 +14,10 @@ use Rattle.lists.specs.Parts.{part}
 use Rattle.lists.proofs.Parts.{next, part-part}
 use Rattle.rules.specs.declared.Params.{Params}
 use Rattle.rules.specs.Parameters.{allowed, frames, pageBytes, frameBytes, blockBytes}
-use Rattle.rules.specs.Numbers.{regionOf, vblockOf}
+use Rattle.rules.specs.Numbers.{placeOf, regionOf, vblockOf}
 use Rattle.rules.specs.Tables.{none, ctAt, btAt, btEntry}
-use Rattle.rules.specs.Pages.{block, frame, page}
-use Rattle.rules.specs.Regions.{View, viewOf, bodyAt, assigned, frameOf, sectorIn}
+use Rattle.rules.specs.Pages.{block, frame, page, programmedDownTo}
+use Rattle.rules.specs.Regions.{View, viewOf, bodyAt, assigned, frameOf, looksIn, sectorIn}
 use Rattle.rules.proofs.Sizes.{Sizes, sizes}
 use Rattle.rules.proofs.Isolation.{index-low}
 use Rattle.rules.proofs.RegionFacts.{Entry}
@@ -70,6 +70,20 @@ module _ (p : Params) (chip ct bt fst : List ℕ) (c : ℕ) where
       go : (vw .segOf c ≡ none) ⊎ Entry p vw c → (ctAt ct c ≡ none → ⊥) → Leads p chip ct bt c
       go (inl n) ne = absurd (ne (sym seg-is ∙ n))
       go (inr e) ne = leads (sizes p fine) names e
+
+  -- ---- what is looked at on the way
+
+  pub looks-none : ctAt ct c ≡ none → looksIn p vw c ≡ 0
+  unfolding looksIn
+  looks-none e = rw (seg-is, eq-eqb (ctAt ct c) none e)
+
+  -- the frames of the block that has the segment
+  pub looks-there : p .N ≤ 65535 → (ctAt ct c ≡ none → ⊥) → Leads p chip ct bt c
+      → looksIn p vw c ≡ programmedDownTo p (block p chip (blockFor p ct bt c)) (placeOf p (ctAt ct c)) (lastFor p chip ct bt c)
+  unfolding looksIn lastFor
+  looks-there few ne k =
+      let some : blockFor p ct bt c ≡ none → ⊥ = λ e. omega (arith, e, k .block, few) in
+      rw (seg-is, ne-eqb (ctAt ct c) none ne, body-some (k .vblock) some)
 
   -- ---- what is found is the valid frame
 

@@ -3,7 +3,7 @@
 use mathlib.Core.Path.{_≡_}
 use mathlib.Core.Bool.{Bool, true, not, cond}
 use mathlib.Core.List.{List}
-use Prim.Native.Nat.{ℕ, _+_, _*_, _<_}
+use Prim.Native.Nat.{ℕ, _+_, _*_, _≤_, _<_}
 use lib.Dec.{eqb}
 use lib.ListN.{length}
 use Rattle.rules.specs.declared.Params.{Params}
@@ -11,6 +11,7 @@ use Rattle.rules.specs.Parameters.{allowed, frames, blockBytes}
 use Rattle.rules.specs.Numbers.{regionOf, vblockOf, placeOf}
 use Rattle.rules.specs.Tables.{none, ctAt, btAt}
 use Rattle.rules.specs.Pages.{block, lastIn}
+use Rattle.rules.specs.Regions.{looksIn, viewOf}
 
 -- the physical block that has the segment which CT names for cluster c
 unfoldable pub blockFor : Params → List ℕ → List ℕ → ℕ → ℕ
@@ -48,3 +49,8 @@ pub record Stands (p : Params) (chip ct bt : List ℕ) (c : ℕ) (kept : Bool) (
 pub record Within (p : Params) (chip ct bt : List ℕ) (c : ℕ) (kept : Bool) (v f : ℕ) : Type 0 where
   pub vblock : kept ≡ true → v ≡ vblockOf p (ctAt ct c)
   pub inner : kept ≡ true → f ≡ lastFor p chip ct bt c
+
+-- and how many spare areas it looked at, which no FST entry matters for
+pub record Looked (p : Params) (chip ct bt : List ℕ) (c looks : ℕ) : Type 0 where
+  pub is : (fst : List ℕ) → looks ≡ looksIn p (viewOf p chip ct bt fst (regionOf p c)) c
+  pub few : looks ≤ 16

@@ -40,6 +40,6 @@ pub fn read(
     if rules::number(reply) != 0 {
         return refusals::idle(reply);
     }
-    reading::read_sectors(p, chip, ct, bt, lba as usize, count as usize, bytes);
-    refusals::idle(reply)
+    let looks = reading::read_sectors(p, chip, ct, bt, lba as usize, count as usize, bytes);
+    refusals::looked(reply, looks)
 }

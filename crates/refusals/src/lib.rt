@@ -81,13 +81,21 @@ pub fn item_reply(p: Params, ordered: bool, lba: u32, count: u32, fits: bool) ->
     }
 }
 
-// The answer of a call that programs and erases nothing: one that is refused, or a read.
-pub fn idle(r: Reply) -> Answer
-    ensures { λ a. ⌜ a ≡ answerOf r [] ⌝ }
+// The answer of a call that programs and erases nothing and looks at so many spare areas: a read.
+pub fn looked(r: Reply, looks: u32) -> Answer
+    ensures { λ a. ⌜ a ≡ answerOf r [] looks ⌝ }
 {
     Answer {
         reply: r,
         programs: 0,
         erases: 0,
+        looks,
     }
+}
+
+// The answer of a call that counts nothing: one that is refused, a release, or a queue's own.
+pub fn idle(r: Reply) -> Answer
+    ensures { λ a. ⌜ a ≡ answerOf r [] 0 ⌝ }
+{
+    looked(r, 0)
 }

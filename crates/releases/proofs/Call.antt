@@ -36,7 +36,7 @@ use Rattle.ends.specs.Claims.{outcome}
 use Rattle.ends.proofs.Ends.{refused-by, reply-zero}
 
 module _ (p : Params) (b : Board) (c : ℕ) (r : Reply) (e : r ≡ replyOf p b (release c)) (n : ℕ) (m : n ≡ numberOf r) where
-  pub release-refused : (n ≡ 0 → ⊥) → (a : Answer) → a ≡ answerOf r [] → outcome a [] [] b ≡ outcomeOf p b (release c)
+  pub release-refused : (n ≡ 0 → ⊥) → (a : Answer) → a ≡ answerOf r [] 0 → outcome a [] [] b ≡ outcomeOf p b (release c)
   unfolding lent lentAnswers
   release-refused = refused-by p b (release c) r e n m
 
@@ -79,5 +79,5 @@ module _ (p : Params) (b : Board) (c : ℕ) (r : Reply) (e : r ≡ replyOf p b (
       board-is ct marks x y = rw (y, x)
 
       pub release-done : (ct marks : List ℕ) → ct ≡ set (b .ct) c none → ((k : Marks) → b .marks ≡ tableOf p k → marks ≡ tableOf p (cond kept (putMark k r′ u g false) k))
-          → (a : Answer) → a ≡ answerOf r [] → outcome a [] [] (boardOf (b .chip) ct (b .bt) (b .fst) (b .bst) (b .wear) marks) ≡ outcomeOf p b (release c)
+          → (a : Answer) → a ≡ answerOf r [] 0 → outcome a [] [] (boardOf (b .chip) ct (b .bt) (b .fst) (b .bst) (b .wear) marks) ≡ outcomeOf p b (release c)
       release-done ct marks x h a y = rw (y, e, release-is, board-is ct marks x (marks-kept marks h)) (sym (release-accepted p b c release-is))

@@ -37,8 +37,8 @@ pub format-programs : (p : Params) (chip : List ℕ) → programsIn (formatOps p
 unfolding formatOps
 format-programs p chip = (erases-good p chip (p .N)) .0
 
-pub format-counts : (p : Params) (b : Board) → replyOf p b format ≡ Accepted → (outcomeOf p b format) .answer ≡ record { reply = Accepted; programs = 0; erases = goodBlocks p (b .chip) }
+pub format-counts : (p : Params) (b : Board) → replyOf p b format ≡ Accepted → (outcomeOf p b format) .answer ≡ record { reply = Accepted; programs = 0; erases = goodBlocks p (b .chip); looks = 0 }
 unfolding answerOf goodBlocks formatOps
 format-counts p b e =
     let k = erases-good p (b .chip) (p .N) in
-    ap (λ (o : Outcome). o .answer) (format-accepted p b e) ∙ (λ i. record { reply = Accepted; programs = k .0 i; erases = k .1 i })
+    ap (λ (o : Outcome). o .answer) (format-accepted p b e) ∙ (λ i. record { reply = Accepted; programs = k .0 i; erases = k .1 i; looks = 0 })

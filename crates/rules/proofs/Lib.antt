@@ -34,4 +34,5 @@ pub mod ItemData
 pub mod Words
 pub mod CopiesStand
 pub mod OrderlyWords
+pub mod LooksWords
 pub mod BadBlocks

@@ -13,8 +13,9 @@ use Rattle.rules.specs.declared.Reply.{Reply}
 use Rattle.rules.specs.declared.Reply.the-variants.{Accepted, BadParameter, WrongLength, BadCount, BadAddress, WrongData, TooFewBlocks, NotOrderly, TooFewAnswers}
 use Rattle.rules.specs.declared.Answer.{Answer}
 use Rattle.rules.specs.Tables.{Board}
+use Rattle.rules.specs.Regions.{looksAt}
 use Rattle.rules.specs.Traces.{Op}
-use Rattle.rules.specs.Requests.{Call, Queue, Request, format, itemRequests, lent, lentAnswers, queue, read, release, write}
+use Rattle.rules.specs.Requests.{Call, Queue, Request, format, itemRequests, lent, lentAnswers, queue, read, release, requestCluster, write}
 use Rattle.rules.specs.Format.{formatOps, formatted}
 use Rattle.rules.specs.Write.{writeOps, written}
 use Rattle.rules.specs.Release.{released}
@@ -65,17 +66,18 @@ is-refused r ne = go (reply-cases r)
 
 -- ---- works
 
-pub work-accepted : (p : Params) (b : Board) (c : Call) (ops : List Op) (bytes : List ℕ) (b′ : Board) → replyOf p b c ≡ Accepted
-    → does p b c ops bytes b′ ≡ single c (answerOf Accepted ops) bytes ops b′
+pub work-accepted : (p : Params) (b : Board) (c : Call) (ops : List Op) (looks : ℕ) (bytes : List ℕ) (b′ : Board) → replyOf p b c ≡ Accepted
+    → does p b c ops looks bytes b′ ≡ single c (answerOf Accepted ops looks) bytes ops b′
 unfolding does isAccepted
-work-accepted p b c ops bytes b′ e = rw e
+work-accepted p b c ops looks bytes b′ e = rw e
 
-pub work-refused : (p : Params) (b : Board) (c : Call) (ops : List Op) (bytes : List ℕ) (b′ : Board) → isAccepted (replyOf p b c) ≡ false → does p b c ops bytes b′ ≡ refuses p b c
+pub work-refused : (p : Params) (b : Board) (c : Call) (ops : List Op) (looks : ℕ) (bytes : List ℕ) (b′ : Board) → isAccepted (replyOf p b c) ≡ false
+    → does p b c ops looks bytes b′ ≡ refuses p b c
 unfolding does
-work-refused p b c ops bytes b′ e = rw e
+work-refused p b c ops looks bytes b′ e = rw e
 
 -- a queue's own answer, its data and its list, once it is accepted
-pub all-answer : (p : Params) (b : Board) (qs : List Request) (l : Queue) → (writeAll p b qs l) .answer ≡ answerOf Accepted []
+pub all-answer : (p : Params) (b : Board) (qs : List Request) (l : Queue) → (writeAll p b qs l) .answer ≡ answerOf Accepted [] 0
 unfolding writeAll
 all-answer p b [] l = refl
 all-answer p b (q ∷ qs) l = all-answer p ((writeWork p b q) .left) qs l
@@ -99,33 +101,33 @@ unfolding outcomeOf single over answersIn
 one-outcome p b c a bytes ops b′ e = rw e
 
 pub format-accepted : (p : Params) (b : Board) → replyOf p b format ≡ Accepted
-    → outcomeOf p b format ≡ record { answer = answerOf Accepted (formatOps p (b .chip)); bytes = []; answers = []; board = formatted p b }
+    → outcomeOf p b format ≡ record { answer = answerOf Accepted (formatOps p (b .chip)) 0; bytes = []; answers = []; board = formatted p b }
 unfolding workOf
-format-accepted p b e = one-outcome p b format _ _ _ _ (work-accepted p b format _ _ _ e)
+format-accepted p b e = one-outcome p b format _ _ _ _ (work-accepted p b format _ _ _ _ e)
 
 pub read-accepted : (p : Params) (b : Board) (q : Request) → replyOf p b (read q) ≡ Accepted
-    → outcomeOf p b (read q) ≡ record { answer = answerOf Accepted []; bytes = readBytes p b q; answers = []; board = b }
+    → outcomeOf p b (read q) ≡ record { answer = answerOf Accepted [] (looksAt p b (requestCluster p q)); bytes = readBytes p b q; answers = []; board = b }
 unfolding workOf
-read-accepted p b q e = one-outcome p b (read q) _ _ _ _ (work-accepted p b (read q) _ _ _ e)
+read-accepted p b q e = one-outcome p b (read q) _ _ _ _ (work-accepted p b (read q) _ _ _ _ e)
 
 pub write-accepted : (p : Params) (b : Board) (q : Request) → replyOf p b (write q) ≡ Accepted
-    → outcomeOf p b (write q) ≡ record { answer = answerOf Accepted (writeOps p b q); bytes = q .bytes; answers = []; board = written p b q }
+    → outcomeOf p b (write q) ≡ record { answer = answerOf Accepted (writeOps p b q) (looksAt p b (requestCluster p q)); bytes = q .bytes; answers = []; board = written p b q }
 unfolding workOf writeWork
-write-accepted p b q e = one-outcome p b (write q) _ _ _ _ (work-accepted p b (write q) _ _ _ e)
+write-accepted p b q e = one-outcome p b (write q) _ _ _ _ (work-accepted p b (write q) _ _ _ _ e)
 
 pub release-accepted : (p : Params) (b : Board) (c : ℕ) → replyOf p b (release c) ≡ Accepted
-    → outcomeOf p b (release c) ≡ record { answer = answerOf Accepted []; bytes = []; answers = []; board = released p b c }
+    → outcomeOf p b (release c) ≡ record { answer = answerOf Accepted [] 0; bytes = []; answers = []; board = released p b c }
 unfolding workOf
-release-accepted p b c e = one-outcome p b (release c) _ _ _ _ (work-accepted p b (release c) _ _ _ e)
+release-accepted p b c e = one-outcome p b (release c) _ _ _ _ (work-accepted p b (release c) _ _ _ _ e)
 
 -- a refusal, of any call
 pub call-refused : (p : Params) (b : Board) (c : Call) → isAccepted (replyOf p b c) ≡ false
-    → outcomeOf p b c ≡ record { answer = answerOf (replyOf p b c) []; bytes = lent c; answers = lentAnswers c; board = b }
+    → outcomeOf p b c ≡ record { answer = answerOf (replyOf p b c) [] 0; bytes = lent c; answers = lentAnswers c; board = b }
 unfolding workOf writeWork lentAnswers refuses
-call-refused p b format e = one-outcome p b format _ _ _ _ (work-refused p b format _ _ _ e)
-call-refused p b (read q) e = one-outcome p b (read q) _ _ _ _ (work-refused p b (read q) _ _ _ e)
-call-refused p b (write q) e = one-outcome p b (write q) _ _ _ _ (work-refused p b (write q) _ _ _ e)
-call-refused p b (release c) e = one-outcome p b (release c) _ _ _ _ (work-refused p b (release c) _ _ _ e)
+call-refused p b format e = one-outcome p b format _ _ _ _ (work-refused p b format _ _ _ _ e)
+call-refused p b (read q) e = one-outcome p b (read q) _ _ _ _ (work-refused p b (read q) _ _ _ _ e)
+call-refused p b (write q) e = one-outcome p b (write q) _ _ _ _ (work-refused p b (write q) _ _ _ _ e)
+call-refused p b (release c) e = one-outcome p b (release c) _ _ _ _ (work-refused p b (release c) _ _ _ _ e)
 call-refused p b (queue l) e = unfold outcomeOf queueWork over answersIn lent in rw e
 
 -- a queue that is accepted

@@ -24,7 +24,7 @@ module _ (p : Params) (z : Sizes p) (vw : View) (c : ℕ) (e : Entry p vw c) whe
   abbrev pub frame-of : ℕ
   frame-of = lastIn p (vw .body block-of) (placeOf p (vw .segOf c)) c
 
-  found : (frame-of / p .beta ≡ placeOf p (vw .segOf c)) × (holds p (frame p (vw .body block-of) frame-of) c ≡ true)
+  pub found : (frame-of / p .beta ≡ placeOf p (vw .segOf c)) × (holds p (frame p (vw .body block-of) frame-of) c ≡ true)
   found = last-holds p z (vw .body (vblockOf p (vw .segOf c))) (placeOf p (vw .segOf c)) c (e .held)
 
   pub held-is : held p (frame p (vw .body block-of) frame-of) ≡ c

@@ -58,10 +58,10 @@ inputT =
 unfoldable pub counted : Answer → List ℕ
 counted a = numberOf (a .reply) ∷ a .programs ∷ a .erases ∷ []
 
--- "letter, reply, programs, erases; for `R` letter, reply, then each sector .. if the reply is 0"
+-- "letter, reply, programs, erases; for `R` letter, reply, then each sector .. if the reply is 0"; T-08: "for `W` (a fifth field, spare reads)"
 unfoldable pub printed : Call → Outcome → List ℕ
 printed format o = counted (o .answer)
-printed (write q) o = counted (o .answer)
+printed (write q) o = counted (o .answer) ++ (o .answer .looks ∷ [])
 printed (release c) o = counted (o .answer)
 printed (queue l) o = counted (o .answer)
 printed (read q) o = numberOf (o .answer .reply) ∷ cond (isAccepted (o .answer .reply)) (o .bytes) []
@@ -76,20 +76,20 @@ sessionFrom b (c ∷ cs) =
 unfoldable pub sessionT : List (List ℕ)
 sessionT = sessionFrom (blankT 5 0 255) (format ∷ inputT)
 
--- "The whole output"
+-- "The whole output", with T-08's fifth field of `W`: 0 where the cluster has no frame yet, then 1, as a segment of Board T has one frame
 unfoldable pub outputT : List (List ℕ)
 outputT =
     (0 ∷ 0 ∷ 5 ∷ [])
-    ∷ (0 ∷ 2 ∷ 0 ∷ [])
-    ∷ (0 ∷ 2 ∷ 0 ∷ [])
-    ∷ (0 ∷ 2 ∷ 0 ∷ [])
-    ∷ (0 ∷ 2 ∷ 0 ∷ [])
-    ∷ (0 ∷ 2 ∷ 0 ∷ [])
-    ∷ (0 ∷ 4 ∷ 1 ∷ [])
-    ∷ (0 ∷ 4 ∷ 1 ∷ [])
+    ∷ (0 ∷ 2 ∷ 0 ∷ 0 ∷ [])
+    ∷ (0 ∷ 2 ∷ 0 ∷ 0 ∷ [])
+    ∷ (0 ∷ 2 ∷ 0 ∷ 0 ∷ [])
+    ∷ (0 ∷ 2 ∷ 0 ∷ 0 ∷ [])
+    ∷ (0 ∷ 2 ∷ 0 ∷ 1 ∷ [])
+    ∷ (0 ∷ 4 ∷ 1 ∷ 1 ∷ [])
+    ∷ (0 ∷ 4 ∷ 1 ∷ 1 ∷ [])
     ∷ (0 ∷ replicate 16 18 ++ replicate 16 22)
     ∷ (0 ∷ replicate 16 255)
-    ∷ (4 ∷ 0 ∷ 0 ∷ [])
+    ∷ (4 ∷ 0 ∷ 0 ∷ 0 ∷ [])
     ∷ (3 ∷ [])
     ∷ []
 

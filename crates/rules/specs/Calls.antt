@@ -11,7 +11,7 @@ use Rattle.rules.specs.declared.Reply.the-variants.{Accepted}
 use Rattle.rules.specs.declared.Answer.{Answer}
 use Rattle.rules.specs.Numbers.{sectorOf}
 use Rattle.rules.specs.Tables.{Board}
-use Rattle.rules.specs.Regions.{sector}
+use Rattle.rules.specs.Regions.{sector, looksAt}
 use Rattle.rules.specs.Traces.{Op, programsIn, erasesIn}
 use Rattle.rules.specs.Requests.{Request, requestCluster, Queue, itemRequests, Call, format, read, write, release, queue, lent}
 use Rattle.rules.specs.Format.{formatOps, formatted}
@@ -19,9 +19,9 @@ use Rattle.rules.specs.Write.{writeOps, written}
 use Rattle.rules.specs.Release.{released}
 use Rattle.rules.specs.Replies.{isAccepted, replyOf}
 
--- "An answer is one record that holds the reply, with its number, and both counts"
-unfoldable pub answerOf : Reply → List Op → Answer
-answerOf r ops = record { reply = r; programs = programsIn ops; erases = erasesIn ops }
+-- "An answer is one record that holds the reply, with its number, and both counts", and T-08's "third count"
+unfoldable pub answerOf : Reply → List Op → ℕ → Answer
+answerOf r ops looks = record { reply = r; programs = programsIn ops; erases = erasesIn ops; looks = looks }
 
 -- ---- a work
 
@@ -45,25 +45,26 @@ unfoldable pub single : Call → Answer → List ℕ → List Op → Board → W
 single c a bytes ops b =
     record { answer = a; bytes = bytes; answers = []; parts = record { asks = c; answer = a; bytes = bytes; ops = ops } ∷ []; left = b }
 
--- "A reply other than 0 changes no lent byte and reports 0 programs, 0 erases"
+-- "A reply other than 0 changes no lent byte and reports 0 programs, 0 erases"; T-08: 0 spare areas "on refusals"
 unfoldable pub refuses : Params → Board → Call → Work
-refuses p b c = single c (answerOf (replyOf p b c) []) (lent c) [] b
+refuses p b c = single c (answerOf (replyOf p b c) [] 0) (lent c) [] b
 
--- a call that, where it is accepted, makes these operations and leaves this data and this board
-unfoldable pub does : Params → Board → Call → List Op → List ℕ → Board → Work
-does p b c ops bytes b′ = cond (isAccepted (replyOf p b c)) (single c (answerOf Accepted ops) bytes ops b′) (refuses p b c)
+-- a call that, where it is accepted, makes these operations, looks at so many spare areas, and leaves this data and this board
+unfoldable pub does : Params → Board → Call → List Op → ℕ → List ℕ → Board → Work
+does p b c ops looks bytes b′ = cond (isAccepted (replyOf p b c)) (single c (answerOf Accepted ops looks) bytes ops b′) (refuses p b c)
 
 -- the sectors asked for, one after the other
 unfoldable pub readBytes : Params → Board → Request → List ℕ
 readBytes p b q = joinBelow (q .count) (λ i. sector p b (requestCluster p q) (sectorOf p (q .lba) + i))
 
+-- T-08: "for the host's own cluster in the state at entry, not for copies"
 unfoldable pub writeWork : Params → Board → Request → Work
-writeWork p b q = does p b (write q) (writeOps p b q) (q .bytes) (written p b q)
+writeWork p b q = does p b (write q) (writeOps p b q) (looksAt p b (requestCluster p q)) (q .bytes) (written p b q)
 
 -- T-01: "The chip, tables and answers equal those of single writes in list order; a refused item changes nothing and the next goes on"; "the call itself
 -- answers 0 with counts 0"
 unfoldable pub writeAll : Params → Board → List Request → Queue → Work
-writeAll p b [] l = record { answer = answerOf Accepted []; bytes = l .bytes; answers = l .answers; parts = []; left = b }
+writeAll p b [] l = record { answer = answerOf Accepted [] 0; bytes = l .bytes; answers = l .answers; parts = []; left = b }
 writeAll p b (q ∷ qs) l =
     let w = writeWork p b q in
     let ws = writeAll p (w .left) qs l in
@@ -73,14 +74,15 @@ writeAll p b (q ∷ qs) l =
 unfoldable pub queueWork : Params → Board → Queue → Work
 queueWork p b l =
     cond (isAccepted (replyOf p b (queue l))) (writeAll p b (itemRequests p (l .bytes) (l .items)) l)
-    (record { answer = answerOf (replyOf p b (queue l)) []; bytes = l .bytes; answers = l .answers; parts = []; left = b })
+    (record { answer = answerOf (replyOf p b (queue l)) [] 0; bytes = l .bytes; answers = l .answers; parts = []; left = b })
 
--- "a format reports 0 programs and one erase for each block not bad"; "A read reports 0 and 0 and writes only its data buffer"; T-03: "It reports 0 and 0"
+-- "a format reports 0 programs and one erase for each block not bad"; "A read reports 0 and 0 and writes only its data buffer"; T-03: "It reports 0 and 0".
+-- T-08: "Read and write now report how many", 0 "from other calls"
 unfoldable pub workOf : Params → Board → Call → Work
-workOf p b format = does p b format (formatOps p (b .chip)) [] (formatted p b)
-workOf p b (read q) = does p b (read q) [] (readBytes p b q) b
+workOf p b format = does p b format (formatOps p (b .chip)) 0 [] (formatted p b)
+workOf p b (read q) = does p b (read q) [] (looksAt p b (requestCluster p q)) (readBytes p b q) b
 workOf p b (write q) = writeWork p b q
-workOf p b (release c) = does p b (release c) [] [] (released p b c)
+workOf p b (release c) = does p b (release c) [] 0 [] (released p b c)
 workOf p b (queue l) = queueWork p b l
 
 -- the operations of its parts, in order

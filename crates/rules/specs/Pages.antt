@@ -4,7 +4,7 @@ use Prim.Native.Nat.{ℕ, _+_, _*_, _/_, _%_}
 use mathlib.Core.Bool.{Bool, _&&_}
 use mathlib.Core.List.{List, [], _∷_, _++_}
 use lib.ListN.{getD, drop, replicate}
-use lib.Dec.{eqb}
+use lib.Dec.{eqb, leb}
 use Rattle.lists.specs.Below.{countBelow, lastBelow}
 use Rattle.lists.specs.Parts.{part, allAre}
 use Rattle.rules.specs.declared.Params.{Params}
@@ -57,3 +57,7 @@ filled p blk = countBelow (frames p) (λ f. programmed p (frame p blk f))
 -- the last frame of the segment in place k of a block that holds cluster c
 unfoldable pub lastIn : Params → List ℕ → ℕ → ℕ → ℕ
 lastIn p blk k c = lastBelow notFound (frames p) (λ f. eqb (f / p .beta) k && holds p (frame p blk f) c)
+
+-- how many frames of the segment in place k are programmed, from the last one down to frame `to`, that one included
+unfoldable pub programmedDownTo : Params → List ℕ → ℕ → ℕ → ℕ
+programmedDownTo p blk k to = countBelow (frames p) (λ f. eqb (f / p .beta) k && (leb to f && programmed p (frame p blk f)))

@@ -1,4 +1,4 @@
--- A region's view of a board, the frames that are valid in it, and what its sectors read as. The plan of a write and the view after it are
+-- A region's view of a board, the frames that are valid in it, what its sectors read as, and what the search for a valid frame looks at. The plan of a write and the view after it are
 -- functions of the view alone, which is what condition 3 rests on.
 -- Assumes nothing.
 use Prim.Native.Nat.{ℕ, _/_}
@@ -11,7 +11,7 @@ use Rattle.rules.specs.declared.Params.{Params}
 use Rattle.rules.specs.Parameters.{frames}
 use Rattle.rules.specs.Numbers.{regionOf, vblockOf, placeOf, segmentOf}
 use Rattle.rules.specs.Tables.{Board, none, ctAt, btAt, fstAt}
-use Rattle.rules.specs.Pages.{block, frame, page, held, programmed, lastIn}
+use Rattle.rules.specs.Pages.{block, frame, page, held, programmed, lastIn, programmedDownTo}
 
 -- The CT entries of the region's clusters (none for another region's), its FST entry, and the bytes of its virtual blocks, [] for one without a
 -- physical block. No physical block number and no wear is in it.
@@ -58,3 +58,14 @@ sectorIn p vw c j = cond (eqb (vw .segOf c) none) (replicate (p .s) 255) (take (
 
 unfoldable pub sector : Params → Board → ℕ → ℕ → List ℕ
 sector p b c j = sectorIn p (view p b (regionOf p c)) c j
+
+-- T-08: "The search for a valid frame in a segment goes from the last programmed frame of that segment down and looks at one spare area a frame"; "0 where
+-- CT has none"
+unfoldable pub looksIn : Params → View → ℕ → ℕ
+looksIn p vw c =
+    let sg = vw .segOf c in
+    let blk = vw .body (vblockOf p sg) in
+    cond (eqb sg none) 0 (programmedDownTo p blk (placeOf p sg) (lastIn p blk (placeOf p sg) c))
+
+unfoldable pub looksAt : Params → Board → ℕ → ℕ
+looksAt p b c = looksIn p (view p b (regionOf p c)) c

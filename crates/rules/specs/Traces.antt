@@ -50,7 +50,7 @@ unfoldable pub isErase : Op → Bool
 isErase (program n q x) = false
 isErase (erase n) = true
 
--- the two counts of an answer
+-- the two counts of an answer that are of its operations
 unfoldable pub programsIn : List Op → ℕ
 programsIn [] = 0
 programsIn (o ∷ os) = cond (isErase o) 0 1 + programsIn os

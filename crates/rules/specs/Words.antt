@@ -1,5 +1,5 @@
 -- Words of documents 01 and 02 that elsewhere a definition alone says, once more in terms of their own: plain numbers, bytes and inequalities. No call is
--- defined by what stands here: proofs/Words.antt and proofs/OrderlyWords.antt show that the definitions say the same, no less and no more.
+-- defined by what stands here: proofs/Words.antt, proofs/OrderlyWords.antt and proofs/LooksWords.antt show that the definitions say the same, no less and no more.
 -- The last part is a law of a reclaim's operations, which proofs/CopiesStand.antt shows.
 -- Assumes nothing.
 use Prim.Native.Nat.{ℕ, _+_, _-_, _*_, _/_, _%_, _≤_, _<_, min}
@@ -13,9 +13,9 @@ use Rattle.lists.specs.Below.{countBelow}
 use Rattle.rules.specs.declared.Params.{Params}
 use Rattle.rules.specs.declared.Reply.the-variants.{Accepted}
 use Rattle.rules.specs.Parameters.{allowed, frames}
-use Rattle.rules.specs.Tables.{Board, btAt, btEntry, bstAt, wearAt}
+use Rattle.rules.specs.Tables.{Board, btAt, btEntry, bstAt, ctAt, wearAt}
 use Rattle.rules.specs.Pages.{block, erased, frame, held, page, programmed, spareBytes}
-use Rattle.rules.specs.Regions.{View, assigned, validFrames, view}
+use Rattle.rules.specs.Regions.{View, assigned, looksAt, valid, validFrames, view}
 use Rattle.rules.specs.Marks.{marksOf}
 use Rattle.rules.specs.Orderly.{orderly}
 use Rattle.rules.specs.Traces.{Op, program, erase, replayChip, replayWear}
@@ -194,6 +194,32 @@ pub record FreeListed (p : Params) (b : Board) (n : ℕ) : Type 0 where
 
 abbrev pub FreeExactly : Type 0
 FreeExactly = (p : Params) (b : Board) → OrderlyBoard p b → FreeListed p b (freeBlock p (b .bst) (b .wear))
+
+-- ---- T-08, "Spare areas read"
+
+-- the frames that are looked at for cluster c: `first` is "the last programmed frame of that segment", `last` the valid frame, where the search ends, and all
+-- between are programmed too. So they are as many as from the one down to the other, at least 1 and at most β
+pub record LooksListed (p : Params) (vw : View) (c looks : ℕ) : Type 0 where
+  pub v : ℕ
+  pub first : ℕ
+  pub last : ℕ
+  pub low : v < p .gamma
+  pub inside : first < p .beta * p .d
+  pub isValid : valid p vw v last ≡ true
+  pub holds : held p (frame p (vw .body v) last) ≡ c
+  pub names : vw .segOf c ≡ v * p .d + last / p .beta
+  pub segment : first / p .beta ≡ last / p .beta
+  pub written : (f : ℕ) → last ≤ f → f ≤ first → Written p vw v f
+  pub after : (f : ℕ) → first < f → f < p .beta * p .d → f / p .beta ≡ last / p .beta → erased (frame p (vw .body v) f) ≡ true
+  pub many : looks + last ≡ first + 1
+  pub some : 1 ≤ looks
+  pub most : looks ≤ p .beta
+
+-- "0 where CT has none"
+abbrev pub LooksExactly : Type 0
+LooksExactly =
+    (p : Params) (b : Board) → OrderlyBoard p b → (c : ℕ) → c < p .C
+    → ((ctAt (b .ct) c ≡ 65535) × (looksAt p b c ≡ 0)) ⊎ ((ctAt (b .ct) c ≡ 65535 → ⊥) × LooksListed p (view p b (c % p .mu)) c (looksAt p b c))
 
 -- ---- "Erasing the victim before its copies stand"
 

@@ -44,11 +44,12 @@ pub enum Reply {
     TooFewAnswers,
 }
 
-// One record that holds the reply, and both counts.
+// One record that holds the reply, both counts of document 01, and T-08's third: how many spare areas the search for the cluster's valid frame looks at.
 pub struct Answer {
     pub reply: Reply,
     pub programs: u32,
     pub erases: u32,
+    pub looks: u32,
 }
 
 // One write of a queue: its LBA, its count of sectors, and where its first byte stands in the data part that all items share.

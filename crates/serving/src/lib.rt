@@ -8,10 +8,17 @@ use libc::STDOUT_FILENO;
 use lines::Line;
 use rules::Answer;
 
-// Prints the line of a format or a write.
-fn say_counts(letter: u8, a: Answer) {
+// Prints the line of a format.
+fn say_format(a: Answer) {
     let mut out = printing::room();
-    let n = printing::print_counts(&mut out, letter, a);
+    let n = printing::print_format(&mut out, a);
+    io::write_all(STDOUT_FILENO, &out[..n]);
+}
+
+// Prints the line of a write.
+fn say_write(a: Answer) {
+    let mut out = printing::room();
+    let n = printing::print_write(&mut out, a);
     io::write_all(STDOUT_FILENO, &out[..n]);
 }
 
@@ -61,7 +68,7 @@ fn write(
         count,
         &bytes[..n],
     );
-    say_counts(b'W', a);
+    say_write(a);
 }
 
 // Reads sectors into the lent bytes, and prints the answer with them.
@@ -163,5 +170,5 @@ pub fn start(
     ensures { λ _. ⌜ Started (boardOf (now (chip .entry)) (now (ct .entry)) (now (bt .entry)) (now (fst .entry)) (now (bst .entry)) (now (wear .entry)) (now (marks .entry))) (boardOf (now (chip .exit)) (now (ct .exit)) (now (bt .exit)) (now (fst .exit)) (now (bst .exit)) (now (wear .exit)) (now (marks .exit))) ⌝ }
 {
     let a = layer::format(boardt::board(), chip, ct, bt, fst, bst, wear, marks);
-    say_counts(b'F', a);
+    say_format(a);
 }

@@ -2,9 +2,9 @@
 -- Assumes nothing.
 use Rattle.rules.proofs.Names.{all-boardT}
 use Rattle.lines.specs.Grammar.{firstField, laterFields, fields, fieldAt, isDigit, allDigits, valueFrom, valueOf, isNumber, isWrite, isRead, lineOf}
-use Rattle.printing.specs.Output.{digit, decimalUpTo, decimal, hex, sectors, countsLine, readLine, unknownLine}
+use Rattle.printing.specs.Output.{digit, decimalUpTo, decimal, hex, sectors, counts, formatLine, writeLine, readLine, unknownLine}
 use Rattle.session.specs.Session.{linesFrom, requested, turn, turns, bench, bytesOf, exampleInput, exampleOutput}
 
 unfoldable pub all-session : Unit {0}
-unfolding all-boardT firstField laterFields fields fieldAt isDigit allDigits valueFrom valueOf isNumber isWrite isRead lineOf digit decimalUpTo decimal hex sectors countsLine readLine unknownLine linesFrom requested turn turns bench bytesOf exampleInput exampleOutput
+unfolding all-boardT firstField laterFields fields fieldAt isDigit allDigits valueFrom valueOf isNumber isWrite isRead lineOf digit decimalUpTo decimal hex sectors counts formatLine writeLine readLine unknownLine linesFrom requested turn turns bench bytesOf exampleInput exampleOutput
 all-session = tt

@@ -15,7 +15,7 @@ use Rattle.rules.specs.BoardT.{boardT, blankT}
 use Rattle.lines.specs.declared.Line.{Line}
 use Rattle.lines.specs.declared.Line.the-variants.{Write, Read, Other}
 use Rattle.lines.specs.Grammar.{lineOf}
-use Rattle.printing.specs.Output.{countsLine, readLine, unknownLine}
+use Rattle.printing.specs.Output.{formatLine, readLine, unknownLine, writeLine}
 
 -- a stream of bytes cut at each LF (10), after the bytes l of a line begun; a last line without LF counts
 unfoldable pub linesFrom : List ℕ → List ℕ → List (List ℕ)
@@ -34,7 +34,7 @@ pub record Turn : Type 0 where
 unfoldable pub turn : Board → Line → Turn
 turn b (Write lba count x) =
     let o = outcomeOf boardT b (write (requested lba count x)) in
-    record { text = countsLine 87 (o .answer); board = o .board }
+    record { text = writeLine (o .answer); board = o .board }
 turn b (Read lba count) =
     let o = outcomeOf boardT b (read (requested lba count 0)) in
     record { text = readLine (o .answer) count (o .bytes); board = o .board }
@@ -46,11 +46,11 @@ turns b (s ∷ ss) =
     let t = turn b (lineOf s) in
     t .text ++ turns (t .board) ss
 
--- "The bench program formats Board T (chip all 255, wear all 0), then reads standard input": the line of the format (`F`, 70), then one a line
+-- "The bench program formats Board T (chip all 255, wear all 0), then reads standard input": the line of the format, then one a line
 unfoldable pub bench : List ℕ → List ℕ
 bench input =
     let o = outcomeOf boardT (blankT 5 0 255) format in
-    countsLine 70 (o .answer) ++ turns (o .board) (linesFrom [] input)
+    formatLine (o .answer) ++ turns (o .board) (linesFrom [] input)
 
 -- a text's bytes
 unfoldable pub bytesOf : String → List ℕ
@@ -62,7 +62,7 @@ unfoldable pub exampleInput : String
 exampleInput =
     "W\t0\t2\t17\nW\t4\t2\t18\nW\t2\t1\t19\nW\t8\t1\t20\nW\t0\t1\t21\nW\t5\t1\t22\nW\t0\t2\t23\nR\t4\t2\nR\t3\t1\nW\t12\t1\t5\nR\t1\t2\n"
 
--- "The whole output"
+-- "The whole output", with T-08's fifth field of `W`
 unfoldable pub exampleOutput : String
 exampleOutput =
-    "F\t0\t0\t5\nW\t0\t2\t0\nW\t0\t2\t0\nW\t0\t2\t0\nW\t0\t2\t0\nW\t0\t2\t0\nW\t0\t4\t1\nW\t0\t4\t1\nR\t0\t12121212121212121212121212121212\t16161616161616161616161616161616\nR\t0\tffffffffffffffffffffffffffffffff\nW\t4\t0\t0\nR\t3\n"
+    "F\t0\t0\t5\nW\t0\t2\t0\t0\nW\t0\t2\t0\t0\nW\t0\t2\t0\t0\nW\t0\t2\t0\t0\nW\t0\t2\t0\t1\nW\t0\t4\t1\t1\nW\t0\t4\t1\t1\nR\t0\t12121212121212121212121212121212\t16161616161616161616161616161616\nR\t0\tffffffffffffffffffffffffffffffff\nW\t4\t0\t0\t0\nR\t3\n"

@@ -1,7 +1,7 @@
 -- The numbers of an answer tell its case and the case's values.
 -- Assumes nothing.
 use mathlib.Core.Path.{_≡_, refl, sym, ap, ap₂, _∙_}
-use mathlib.Core.List.{List, [], _∷_}
+use mathlib.Core.List.{List, [], _∷_, _++_}
 use Prim.Native.Nat.{ℕ, _-_, _<_}
 use native.Mathlib.Omega.{arith}
 use lib.ListN.{drop, getD, take}
@@ -89,11 +89,30 @@ forecast-apart (Reclaims v n) (Continues v′ f′) e = absurd (omega (arith, at
 forecast-apart (Reclaims v n) (Opens v′) e = absurd (omega (arith, at _ _ 0 e))
 forecast-apart (Reclaims v n) (Reclaims v′ n′) e = ap₂ Reclaims (vblock-apart v v′ (at _ _ 1 e)) (at _ _ 3 e)
 
-forecast-some : (fc : Forecast) → 0 < getD (forecastNumbers fc) 0 0
+-- its four numbers in front of others; the first is not 0
+forecast-some : (fc : Forecast) (xs : List ℕ) → 0 < getD (forecastNumbers fc ++ xs) 0 0
 unfolding forecastNumbers
-forecast-some (Continues v f) = omega arith
-forecast-some (Opens v) = omega arith
-forecast-some (Reclaims v n) = omega arith
+forecast-some (Continues v f) xs = omega arith
+forecast-some (Opens v) xs = omega arith
+forecast-some (Reclaims v n) xs = omega arith
+
+forecast-front : (fc : Forecast) (xs : List ℕ) → take 4 (forecastNumbers fc ++ xs) ≡ forecastNumbers fc
+unfolding forecastNumbers
+forecast-front (Continues v f) xs = refl
+forecast-front (Opens v) xs = refl
+forecast-front (Reclaims v n) xs = refl
+
+forecast-after : (fc : Forecast) (xs : List ℕ) → drop 4 (forecastNumbers fc ++ xs) ≡ xs
+unfolding forecastNumbers
+forecast-after (Continues v f) xs = refl
+forecast-after (Opens v) xs = refl
+forecast-after (Reclaims v n) xs = refl
+
+fronts-apart : (fc fc′ : Forecast) (xs ys : List ℕ) → forecastNumbers fc ++ xs ≡ forecastNumbers fc′ ++ ys → fc ≡ fc′
+fronts-apart fc fc′ xs ys e = forecast-apart fc fc′ (sym (forecast-front fc xs) ∙ ap (take 4) e ∙ forecast-front fc′ ys)
+
+after-apart : (fc fc′ : Forecast) (xs ys : List ℕ) → forecastNumbers fc ++ xs ≡ forecastNumbers fc′ ++ ys → xs ≡ ys
+after-apart fc fc′ xs ys e = sym (forecast-after fc xs) ∙ ap (drop 4) e ∙ forecast-after fc′ ys
 
 place-apart : (x y : Place) → placeNumbers x ≡ placeNumbers y → x ≡ y
 unfolding placeNumbers
@@ -111,20 +130,26 @@ pub why-apart : WhyApart
 unfolding numbersOf
 why-apart (Refused r) (Refused r′) e = ap Refused (reply-apart r r′ (at _ _ 0 e))
 why-apart (Refused r) (Disordered k′) e = absurd (omega (arith, rule-some k′, at _ _ 1 e))
-why-apart (Refused r) (Empty fc′) e = absurd (omega (arith, forecast-some fc′, at _ _ 8 e))
-why-apart (Refused r) (Held y fc′) e = absurd (omega (arith, at _ _ 2 e))
+why-apart (Refused r) (Empty fc′) e = absurd (omega (arith, forecast-some fc′ (0 ∷ []), at _ _ 8 e))
+why-apart (Refused r) (Held y fc′ m) e = absurd (omega (arith, at _ _ 2 e))
 why-apart (Disordered k) (Refused r′) e = absurd (omega (arith, rule-some k, at _ _ 1 e))
 why-apart (Disordered k) (Disordered k′) e = ap Disordered (rule-apart k k′ (at _ _ 1 e))
 why-apart (Disordered k) (Empty fc′) e = absurd (omega (arith, at _ _ 0 e))
-why-apart (Disordered k) (Held y fc′) e = absurd (omega (arith, at _ _ 0 e))
-why-apart (Empty fc) (Refused r′) e = absurd (omega (arith, forecast-some fc, at _ _ 8 e))
+why-apart (Disordered k) (Held y fc′ m) e = absurd (omega (arith, at _ _ 0 e))
+why-apart (Empty fc) (Refused r′) e = absurd (omega (arith, forecast-some fc (0 ∷ []), at _ _ 8 e))
 why-apart (Empty fc) (Disordered k′) e = absurd (omega (arith, at _ _ 0 e))
-why-apart (Empty fc) (Empty fc′) e = ap Empty (forecast-apart fc fc′ (ap (λ (ns : List ℕ). drop 8 ns) e))
-why-apart (Empty fc) (Held y fc′) e = absurd (omega (arith, at _ _ 2 e))
-why-apart (Held x fc) (Refused r′) e = absurd (omega (arith, at _ _ 2 e))
-why-apart (Held x fc) (Disordered k′) e = absurd (omega (arith, at _ _ 0 e))
-why-apart (Held x fc) (Empty fc′) e = absurd (omega (arith, at _ _ 2 e))
-why-apart (Held x fc) (Held y fc′) e = unfold placeNumbers in ap₂ Held (place-apart x y (ap (λ (ns : List ℕ). take 5 (drop 3 ns)) e)) (forecast-apart fc fc′ (ap (λ (ns : List ℕ). drop 8 ns) e))
+why-apart (Empty fc) (Empty fc′) e = ap Empty (fronts-apart fc fc′ (0 ∷ []) (0 ∷ []) (ap (λ (ns : List ℕ). drop 8 ns) e))
+why-apart (Empty fc) (Held y fc′ m) e = absurd (omega (arith, at _ _ 2 e))
+why-apart (Held x fc n) (Refused r′) e = absurd (omega (arith, at _ _ 2 e))
+why-apart (Held x fc n) (Disordered k′) e = absurd (omega (arith, at _ _ 0 e))
+why-apart (Held x fc n) (Empty fc′) e = absurd (omega (arith, at _ _ 2 e))
+why-apart (Held x fc n) (Held y fc′ m) e =
+    unfold placeNumbers in
+    let k = ap (λ (ns : List ℕ). drop 8 ns) e in
+    let place = place-apart x y (ap (λ (ns : List ℕ). take 5 (drop 3 ns)) e) in
+    let forecast = fronts-apart fc fc′ (n ∷ []) (m ∷ []) k in
+    let looks = at _ _ 0 (after-apart fc fc′ (n ∷ []) (m ∷ []) k) in
+    λ i. Held (place i) (forecast i) (looks i)
 
 pub explain-once : ExplainOnce
 explain-once p b lba w w′ e e′ = why-apart w w′ (e ∙ sym e′)

@@ -4,8 +4,8 @@
 use mathlib.Core.Path.{_≡_, refl, sym, _∙_}
 use mathlib.Core.Logic.{_⊎_, inl, inr}
 use mathlib.Core.Bool.{cond, false, true}
-use mathlib.Core.List.{_++_, _∷_}
-use Prim.Native.Nat.{_*_, _+_, _/_, _<_, ℕ}
+use mathlib.Core.List.{List, [], _++_, _∷_}
+use Prim.Native.Nat.{_*_, _+_, _/_, _<_, ℕ, suc, zero}
 use native.Mathlib.Nat.{mod-lt}
 use native.Mathlib.Omega.{arith}
 use lib.Dec.{eqb}
@@ -15,7 +15,7 @@ use Rattle.rules.specs.declared.Reply.the-variants.{Accepted}
 use Rattle.rules.specs.Calls.{answerOf, outcomeOf}
 use Rattle.rules.specs.Numbers.{clusterOf, placeOf, segmentOf, vblockOf}
 use Rattle.rules.specs.Pages.{block, erased, lastIn}
-use Rattle.rules.specs.Regions.{View, validFrames, view, viewOf}
+use Rattle.rules.specs.Regions.{View, looksAt, validFrames, view, viewOf}
 use Rattle.rules.specs.Replies.{OrderlyBoard, badAddress, badParameter, firstRow, lentRows, notOrderly, numberOf, orderRow, replyOf, whyReply, whyRows, wrongLength}
 use Rattle.rules.specs.Requests.{Request, requestCluster, requestRegion, write}
 use Rattle.rules.specs.Tables.{Board, bstAt, btAt, ctAt, none}
@@ -46,7 +46,25 @@ use Rattle.truths.proofs.Told.{told-held}
 unfoldable pub planAt : Params → View → Plan → ℕ → ℕ
 planAt p vw pl i = getD (planNumbers p vw pl) i 0
 
--- the last four of the numbers n are those of the plan
+-- they are four, and a number may follow them
+front-at : (l : List ℕ) (x i : ℕ) → i < length l → getD (l ++ (x ∷ [])) i 0 ≡ getD l i 0
+front-at [] x i h = absurd (omega (arith, h))
+front-at (y ∷ l) x zero h = refl
+front-at (y ∷ l) x (suc i) h = front-at l x i (omega (arith, h))
+
+pub plan-front : (p : Params) (vw : View) (pl : Plan) (x i : ℕ) → i < 4 → getD (planNumbers p vw pl ++ (x ∷ [])) i 0 ≡ planAt p vw pl i
+unfolding planAt planNumbers
+plan-front p vw (continues v f) x i h = front-at (planNumbers p vw (continues v f)) x i h
+plan-front p vw (opens v) x i h = front-at (planNumbers p vw (opens v)) x i h
+plan-front p vw (reclaims v) x i h = front-at (planNumbers p vw (reclaims v)) x i h
+
+pub plan-last : (p : Params) (vw : View) (pl : Plan) (x : ℕ) → getD (planNumbers p vw pl ++ (x ∷ [])) 4 0 ≡ x
+unfolding planNumbers
+plan-last p vw (continues v f) x = refl
+plan-last p vw (opens v) x = refl
+plan-last p vw (reclaims v) x = refl
+
+-- the last but one of the numbers n are those of the plan
 pub record Planned (p : Params) (vw : View) (pl : Plan) (n : ℕ → ℕ) : Type 0 where
   pub kind : n 8 ≡ planAt p vw pl 0
   pub vblock : n 9 ≡ planAt p vw pl 1
@@ -190,14 +208,16 @@ module _ (p : Params) (b : Board) (q : Request) (e : replyOf p b (write q) ≡ A
 
   -- ---- what is told of a sector of the cluster, before and after
 
-  module _ (lba : ℕ) (in-range : badAddress p lba ≡ false) (is : requestCluster p q ≡ clusterOf p lba) (n : ℕ → ℕ) (h : Planned p vw pl n) where
+  module _ (lba : ℕ) (in-range : badAddress p lba ≡ false) (is : requestCluster p q ≡ clusterOf p lba) (n : ℕ → ℕ) (h : Planned p vw pl n)
+      (seen : n 12 ≡ looksAt p b (requestCluster p q)) where
     -- the board that is left is orderly, so why answers 0
     accepted : numberOf (whyReply p (written p b q) lba) ≡ 0
     unfolding whyReply whyRows lentRows orderRow firstRow badParameter wrongLength notOrderly
     accepted = rw (ordered .fine, ordered .lengths, in-range, ordered .tidy)
 
     -- and tells the place where the cluster is now
-    told : whyOf p (written p b q) lba ≡ 0 ∷ 0 ∷ 1 ∷ holderOf p (written p b q) (requestCluster p q) ++ forecastOf p (written p b q) (requestCluster p q)
+    told : whyOf p (written p b q) lba
+        ≡ 0 ∷ 0 ∷ 1 ∷ holderOf p (written p b q) (requestCluster p q) ++ (forecastOf p (written p b q) (requestCluster p q) ++ (looksAt p (written p b q) (requestCluster p q) ∷ []))
     told = rw is (told-held p (written p b q) lba accepted (rw is at some-after))
 
     pub forecast-true : ForecastTrue p b lba n (outcomeOf p b (write q))
@@ -216,4 +236,5 @@ module _ (p : Params) (b : Board) (q : Request) (e : replyOf p b (write q) ≡ A
           copied = λ k. rw (← is, h .vblock, h .count) (plan-valid p vw pl (sym (h .kind) ∙ k));
           programs = rw (h .count) (promise .programs ∙ rw (plan-copies p vw pl));
           erases = rw (h .kind) (promise .erases ∙ plan-erases p vw pl);
+          looks = sym seen;
         })

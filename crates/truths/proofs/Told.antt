@@ -1,8 +1,9 @@
--- The numbers of an answer by the reply: its own number first; with 7 the rule's; with 0 the place's, where the cluster is held, and the forecast's.
+-- The numbers of an answer by the reply: its own number first; with 7 the rule's; with 0 the place's, where the cluster is held, the forecast's, and what is
+-- looked at.
 -- Assumes nothing.
 use mathlib.Core.Path.{_≡_, refl}
 use mathlib.Core.Bool.{Bool, cond, false, true}
-use mathlib.Core.List.{List, _++_, _∷_}
+use mathlib.Core.List.{List, [], _++_, _∷_}
 use Prim.Native.Nat.{ℕ}
 use native.Mathlib.Decide.{ℕ-discrete}
 use lib.Dec.{eqb}
@@ -10,6 +11,7 @@ use lib.ListN.{getD, replicate}
 use borrow.Author.Tests.{eq-eqb, ne-eqb}
 use Rattle.rules.specs.declared.Params.{Params}
 use Rattle.rules.specs.Numbers.{clusterOf}
+use Rattle.rules.specs.Regions.{looksAt}
 use Rattle.rules.specs.Replies.{isAccepted, numberOf, whyReply}
 use Rattle.rules.specs.Tables.{Board, ctAt, none}
 use Rattle.broken.specs.Broken.{brokenRule, ruleNumber}
@@ -27,7 +29,7 @@ module _ (p : Params) (b : Board) (lba : ℕ) where
       found false ns = refl
 
       go : Dec (numberOf (whyReply p b lba) ≡ 0) → Dec (numberOf (whyReply p b lba) ≡ 7) → toldAt p b lba 0 ≡ numberOf (whyReply p b lba)
-      go (yes e) s = rw e (unfold foundOf in found (eqb (ctAt (b .ct) (clusterOf p lba)) none) (forecastOf p b (clusterOf p lba)))
+      go (yes e) s = rw e (unfold foundOf in found (eqb (ctAt (b .ct) (clusterOf p lba)) none) (forecastOf p b (clusterOf p lba) ++ (looksAt p b (clusterOf p lba) ∷ [])))
       go (no e) (yes s) = rw s
       go (no e) (no s) = rw (ne-eqb (numberOf (whyReply p b lba)) 0 e, ne-eqb (numberOf (whyReply p b lba)) 7 s)
 
@@ -42,10 +44,11 @@ module _ (p : Params) (b : Board) (lba : ℕ) where
     unfolding whyOf isAccepted
     found = rw e
 
-    pub told-none : ctAt (b .ct) (clusterOf p lba) ≡ none → whyOf p b lba ≡ replicate 8 0 ++ forecastOf p b (clusterOf p lba)
+    pub told-none : ctAt (b .ct) (clusterOf p lba) ≡ none → whyOf p b lba ≡ replicate 8 0 ++ (forecastOf p b (clusterOf p lba) ++ (looksAt p b (clusterOf p lba) ∷ []))
     unfolding foundOf
     told-none n = rw (found, eq-eqb (ctAt (b .ct) (clusterOf p lba)) none n)
 
-    pub told-held : (ctAt (b .ct) (clusterOf p lba) ≡ none → ⊥) → whyOf p b lba ≡ 0 ∷ 0 ∷ 1 ∷ holderOf p b (clusterOf p lba) ++ forecastOf p b (clusterOf p lba)
+    pub told-held : (ctAt (b .ct) (clusterOf p lba) ≡ none → ⊥)
+        → whyOf p b lba ≡ 0 ∷ 0 ∷ 1 ∷ holderOf p b (clusterOf p lba) ++ (forecastOf p b (clusterOf p lba) ++ (looksAt p b (clusterOf p lba) ∷ []))
     unfolding foundOf
     told-held n = rw (found, ne-eqb (ctAt (b .ct) (clusterOf p lba)) none n)

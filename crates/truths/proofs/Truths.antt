@@ -2,7 +2,7 @@
 -- Assumes nothing.
 use mathlib.Core.Path.{_≡_, refl, subst, sym, ap, _∙_}
 use mathlib.Core.Logic.{_⊎_, inl, inr}
-use mathlib.Core.List.{List}
+use mathlib.Core.List.{List, [], _∷_, _++_}
 use Prim.Native.Nat.{_<_, _-_, ℕ}
 use native.Mathlib.Nat.{div-lt-iff-lt-mul}
 use native.Mathlib.Decide.{ℕ-discrete}
@@ -11,17 +11,18 @@ use lib.ListN.{getD, take}
 use borrow.Author.Tests.{eq-eqb, leb-false, ne-eqb}
 use Rattle.rules.specs.declared.Params.{Params}
 use Rattle.rules.specs.declared.Reply.the-variants.{Accepted}
-use Rattle.rules.specs.Calls.{outcomeOf}
+use Rattle.rules.specs.Calls.{answerOf, outcomeOf}
 use Rattle.rules.specs.Numbers.{clusterOf, regionOf, sectorOf}
 use Rattle.rules.specs.Orderly.{rulesOf}
 use Rattle.rules.specs.Pages.{block, frame, page}
-use Rattle.rules.specs.Regions.{frameOf, sector, sectorIn, view}
+use Rattle.rules.specs.Regions.{View, frameOf, looksAt, sector, sectorIn, view}
 use Rattle.rules.specs.Replies.{OrderlyBoard, badAddress, numberOf, replyOf, whyReply}
-use Rattle.rules.specs.Requests.{Request, requestCluster, write}
+use Rattle.rules.specs.Requests.{Request, read, requestCluster, write}
 use Rattle.rules.specs.Tables.{Board, ctAt, none}
 use Rattle.rules.specs.Write.{planOf}
 use Rattle.rules.proofs.Continues.{segs-in}
 use Rattle.rules.proofs.Frames.{seg-low}
+use Rattle.rules.proofs.Outcomes.{read-accepted}
 use Rattle.rules.proofs.Sizes.{Sizes, sizes}
 use Rattle.rules.proofs.Victims.{valid-in}
 use Rattle.broken.specs.Broken.{FirstFails}
@@ -31,7 +32,7 @@ use Rattle.why.specs.Why.{forecastOf, holderOf}
 use Rattle.why.proofs.Holder.{body-is, holder-true}
 use Rattle.why.proofs.Replies.{answered, disorder}
 use Rattle.truths.specs.Truths.{ForecastTrue, HeldTrue, NotHeldTrue, WhyTrue, toldAt}
-use Rattle.truths.proofs.Forecasts.{Planned, forecast-true, planAt}
+use Rattle.truths.proofs.Forecasts.{Planned, forecast-true, plan-front, plan-last, planAt}
 use Rattle.truths.proofs.Told.{told-held, told-none, told-reply, told-rule}
 
 module _ (p : Params) (b : Board) (lba : ℕ) where
@@ -121,16 +122,40 @@ module _ (p : Params) (b : Board) (lba : ℕ) where
 
     -- ---- the forecast
 
-    planned : Planned p (view p b (regionOf p (clusterOf p lba))) (planOf p (view p b (regionOf p (clusterOf p lba)))) (toldAt p b lba)
-    unfolding toldAt planAt forecastOf holderOf
+    abbrev vw : View
+    vw = view p b (regionOf p (clusterOf p lba))
+
+    -- the last number is that of the search
+    seen : toldAt p b lba 12 ≡ looksAt p b (clusterOf p lba)
+    unfolding toldAt forecastOf holderOf
+    seen = go (ℕ-discrete (ctAt (b .ct) (clusterOf p lba)) none)
+      where
+        go : Dec (ctAt (b .ct) (clusterOf p lba) ≡ none) → toldAt p b lba 12 ≡ looksAt p b (clusterOf p lba)
+        go (yes n) = rw (told-none p b lba accepted n) (plan-last p vw (planOf p vw) (looksAt p b (clusterOf p lba)))
+        go (no n) = rw (told-held p b lba accepted n) (plan-last p vw (planOf p vw) (looksAt p b (clusterOf p lba)))
+
+    looks-true : (q : Request) → requestCluster p q ≡ clusterOf p lba → replyOf p b (read q) ≡ Accepted → (outcomeOf p b (read q)) .answer .looks ≡ toldAt p b lba 12
+    unfolding answerOf
+    looks-true q is a = rw (read-accepted p b q a, is) (sym seen)
+
+    planned : Planned p vw (planOf p vw) (toldAt p b lba)
     planned = go (ℕ-discrete (ctAt (b .ct) (clusterOf p lba)) none)
       where
-        go : Dec (ctAt (b .ct) (clusterOf p lba) ≡ none) → Planned p (view p b (regionOf p (clusterOf p lba))) (planOf p (view p b (regionOf p (clusterOf p lba)))) (toldAt p b lba)
-        go (yes n) = let w = told-none p b lba accepted n in record { kind = rw w; vblock = rw w; frame = rw w; count = rw w }
-        go (no n) = let w = told-held p b lba accepted n in record { kind = rw w; vblock = rw w; frame = rw w; count = rw w }
+        front : (i : ℕ) → i < 4 → getD (forecastOf p b (clusterOf p lba) ++ (looksAt p b (clusterOf p lba) ∷ [])) i 0 ≡ planAt p vw (planOf p vw) i
+        front i h = unfold forecastOf in plan-front p vw (planOf p vw) (looksAt p b (clusterOf p lba)) i h
+
+        go : Dec (ctAt (b .ct) (clusterOf p lba) ≡ none) → Planned p vw (planOf p vw) (toldAt p b lba)
+        go (yes n) =
+            unfold toldAt in
+            let w = told-none p b lba accepted n in
+            record { kind = rw w (front 0 (omega arith)); vblock = rw w (front 1 (omega arith)); frame = rw w (front 2 (omega arith)); count = rw w (front 3 (omega arith)) }
+        go (no n) =
+            unfold toldAt holderOf in
+            let w = told-held p b lba accepted n in
+            record { kind = rw w (front 0 (omega arith)); vblock = rw w (front 1 (omega arith)); frame = rw w (front 2 (omega arith)); count = rw w (front 3 (omega arith)) }
 
     forecast : (q : Request) → requestCluster p q ≡ clusterOf p lba → replyOf p b (write q) ≡ Accepted → ForecastTrue p b lba (toldAt p b lba) (outcomeOf p b (write q))
-    forecast q is a = forecast-true p b q a lba ((answered p b lba accepted) .low) is (toldAt p b lba) (rw is planned)
+    forecast q is a = forecast-true p b q a lba ((answered p b lba accepted) .low) is (toldAt p b lba) (rw is planned) (rw is seen)
 
 pub why-true : (p : Params) (b : Board) (lba : ℕ) → WhyTrue p b lba
-why-true p b lba = record { reply = told-reply p b lba; rule = rule-true p b lba; kind = kind p b lba; held = held-true p b lba; notHeld = not-held-true p b lba; forecast = forecast p b lba }
+why-true p b lba = record { reply = told-reply p b lba; rule = rule-true p b lba; kind = kind p b lba; held = held-true p b lba; notHeld = not-held-true p b lba; forecast = forecast p b lba; looks = looks-true p b lba }

@@ -1,5 +1,6 @@
--- Document 02, T-05: "Each answer is proved true, and the forecast to be what a write then does". What is true of the twelve numbers that `why` tells: reply,
--- rule, held, region, segment, virtual block, physical block and frame; then the forecast's kind, its virtual block, its frame, and how many it copies.
+-- Document 02, T-05: "Each answer is proved true, and the forecast to be what a write then does". What is true of the thirteen numbers that `why` tells: reply,
+-- rule, held, region, segment, virtual block, physical block and frame; then the forecast's kind, its virtual block, its frame, and how many it copies; then
+-- T-08's count, the spare areas that a read or a write of the cluster looks at.
 -- Assumes nothing.
 use mathlib.Core.Path.{_≡_}
 use mathlib.Core.Logic.{_⊎_}
@@ -16,7 +17,7 @@ use Rattle.rules.specs.Pages.{block, erased, frame, held, page}
 use Rattle.rules.specs.Parameters.{frames}
 use Rattle.rules.specs.Regions.{sector, valid, validFrames, view}
 use Rattle.rules.specs.Replies.{numberOf, replyOf, whyReply}
-use Rattle.rules.specs.Requests.{Request, requestCluster, write}
+use Rattle.rules.specs.Requests.{Request, read, requestCluster, write}
 use Rattle.rules.specs.Tables.{Board, btAt, ctAt, fstAt, none}
 use Rattle.broken.specs.Broken.{FirstFails}
 use Rattle.why.specs.Why.{whyOf}
@@ -63,6 +64,8 @@ pub record ForecastTrue (p : Params) (b : Board) (lba : ℕ) (n : ℕ → ℕ) (
   -- "α × (frames copied + 1) pages programmed, and 1 erase if it reclaimed, else 0"
   pub programs : o .answer .programs ≡ p .alpha * (n 11 + 1)
   pub erases : o .answer .erases ≡ cond (eqb (n 8) 3) 1 0
+  -- T-08: the spare areas that it looks at
+  pub looks : o .answer .looks ≡ n 12
 
 -- one answer, n its numbers
 pub record AnswerTrue (p : Params) (b : Board) (lba : ℕ) (n : ℕ → ℕ) : Type 0 where
@@ -78,6 +81,8 @@ pub record AnswerTrue (p : Params) (b : Board) (lba : ℕ) (n : ℕ → ℕ) : T
   pub notHeld : n 0 ≡ 0 → n 2 ≡ 0 → NotHeldTrue p b (clusterOf p lba) (sectorOf p lba)
   -- "what a write would do": any write of the cluster that is accepted
   pub forecast : n 0 ≡ 0 → (q : Request) → requestCluster p q ≡ clusterOf p lba → replyOf p b (write q) ≡ Accepted → ForecastTrue p b lba n (outcomeOf p b (write q))
+  -- T-08: and any read of it
+  pub looks : n 0 ≡ 0 → (q : Request) → requestCluster p q ≡ clusterOf p lba → replyOf p b (read q) ≡ Accepted → (outcomeOf p b (read q)) .answer .looks ≡ n 12
 
 -- of the numbers that `why` tells
 abbrev pub WhyTrue : Params → Board → ℕ → Type 0

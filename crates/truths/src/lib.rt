@@ -1,1 +1,1 @@
-// What is true of the twelve numbers of `why::explain` (specs/), and its theorems (proofs/); no code.
+// What is true of the thirteen numbers of `why::explain` (specs/), and its theorems (proofs/); no code.

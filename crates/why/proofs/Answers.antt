@@ -8,13 +8,13 @@ use native.Mathlib.Nat.{mod-lt, one-mul}
 use native.Mathlib.Omega.{arith}
 use lib.Dec.{eqb}
 use lib.ListN.{length-replicate, replicate}
-use borrow.Author.Tests.{eq-eqb, eqb-false, le-ltb, ne-eqb, not-false, not-true}
+use borrow.Author.Tests.{eq-eqb, eqb-false, eqb-true, le-ltb, ne-eqb, not-false, not-true}
 use Rattle.rules.specs.declared.Params.{Params}
 use Rattle.rules.specs.declared.Reply.{Reply}
 use Rattle.rules.specs.declared.Reply.the-variants.{Accepted}
 use Rattle.rules.specs.Marks.{marksOf}
 use Rattle.rules.specs.Numbers.{clusterOf, regionOf, sectorOf}
-use Rattle.rules.specs.Regions.{view}
+use Rattle.rules.specs.Regions.{looksAt, view}
 use Rattle.rules.specs.Replies.{accessRows, badCount, badParameter, firstRow, isAccepted, lentRows, notOrderly, numberOf, orderRow, replyOf, rowsOf, whyReply, wrongData, wrongLength}
 use Rattle.rules.specs.Requests.{Request, write}
 use Rattle.rules.specs.Tables.{Board, btAt, ctAt, none}
@@ -29,7 +29,8 @@ use Rattle.agree.specs.Check.{Lengths}
 use Rattle.agree.proofs.Agree.{lengths-in}
 use Rattle.broken.specs.declared.Rule.{Rule}
 use Rattle.broken.specs.Broken.{brokenRule, ruleNumber}
-use Rattle.reading.specs.Lookup.{Lookup, Stands, Within, blockFor, lastFor}
+use Rattle.reading.specs.Lookup.{Looked, Lookup, Stands, Within, blockFor, lastFor}
+use Rattle.reading.proofs.Views.{looks-none}
 use Rattle.reading.proofs.Requests.{lookup-admitted}
 use Rattle.writing.proofs.Writes.{plan-asked}
 use Rattle.why.specs.Asked.{ForecastAsked, PlaceAsked}
@@ -44,11 +45,11 @@ module _ (p : Params) (b : Board) (lba : ℕ) (r : Reply) (e : r ≡ whyReply p 
   pub lengths-at : n ≡ 7 → Lengths p (b .chip) (b .ct) (b .bt) (b .fst) (b .bst)
   lengths-at z = let w = disorder p b lba (sym (ap numberOf e) ∙ sym m ∙ z) in lengths-in p b (w .fine) (w .fits)
 
-  pub why-7 : n ≡ 7 → (k : Rule) → k ≡ brokenRule p b → 7 ∷ ruleNumber k ∷ replicate 10 0 ≡ whyOf p b lba
+  pub why-7 : n ≡ 7 → (k : Rule) → k ≡ brokenRule p b → 7 ∷ ruleNumber k ∷ replicate 11 0 ≡ whyOf p b lba
   unfolding whyOf isAccepted
   why-7 z k is = rw (← e, ← m, z, is)
 
-  pub why-refused : (n ≡ 7 → ⊥) → (n ≡ 0 → ⊥) → numberOf r ∷ replicate 11 0 ≡ whyOf p b lba
+  pub why-refused : (n ≡ 7 → ⊥) → (n ≡ 0 → ⊥) → numberOf r ∷ replicate 12 0 ≡ whyOf p b lba
   unfolding whyOf isAccepted
   why-refused ne some = rw (← e, ← m, ne-eqb n 0 some, ne-eqb n 7 ne)
 
@@ -107,9 +108,11 @@ unfolding forecastOf
 forecast-is p b c r e fc is = rw e at is
 
 module _ (p : Params) (b : Board) (c : ℕ) (kept : Bool) (frame : ℕ) (s : Stands p (b .chip) (b .ct) (b .bt) c kept frame) where
-  pub empty : not kept ≡ true → (fc : List ℕ) → fc ≡ forecastOf p b c → replicate 8 0 ++ fc ≡ foundOf p b c
-  unfolding foundOf
-  empty k fc is = rw (not-false (eqb (ctAt (b .ct) c) none) (sym (s .has) ∙ not-true kept k), is)
+  pub empty : not kept ≡ true → (fc : List ℕ) → fc ≡ forecastOf p b c → replicate 8 0 ++ (fc ++ (0 ∷ [])) ≡ foundOf p b c
+  unfolding foundOf looksAt
+  empty k fc is =
+      let gone : eqb (ctAt (b .ct) c) none ≡ true = not-false (eqb (ctAt (b .ct) c) none) (sym (s .has) ∙ not-true kept k) in
+      rw (gone, is, looks-none p (b .chip) (b .ct) (b .bt) (b .fst) c (eqb-true _ _ gone))
 
   module _ (k : not kept ≡ false) where
     there : eqb (ctAt (b .ct) c) none ≡ false
@@ -124,9 +127,10 @@ module _ (p : Params) (b : Board) (c : ℕ) (kept : Bool) (frame : ℕ) (s : Sta
           low = rw (w .vblock (not-false kept k)) ((look .leads (eqb-false _ _ there)) .vblock);
         }
 
-    pub held : (ns fc : List ℕ) → ns ≡ holderOf p b c → fc ≡ forecastOf p b c → 0 ∷ 0 ∷ 1 ∷ ns ++ fc ≡ foundOf p b c
-    unfolding foundOf
-    held ns fc is f = rw (there, is, f)
+    pub held : (ns fc : List ℕ) (looks : ℕ) → ns ≡ holderOf p b c → fc ≡ forecastOf p b c → Looked p (b .chip) (b .ct) (b .bt) c looks
+        → 0 ∷ 0 ∷ 1 ∷ ns ++ (fc ++ (looks ∷ [])) ≡ foundOf p b c
+    unfolding foundOf looksAt
+    held ns fc looks is f l = rw (there, is, f, l .is (b .fst))
 
 -- the place that the lookup found
 pub holder-is : (p : Params) (b : Board) (c : ℕ) (kept : Bool) (v f : ℕ) → kept ≡ true → Within p (b .chip) (b .ct) (b .bt) c kept v f

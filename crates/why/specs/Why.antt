@@ -9,7 +9,7 @@ use lib.ListN.{length, replicate}
 use Rattle.rules.specs.declared.Params.{Params}
 use Rattle.rules.specs.Numbers.{clusterOf, placeOf, regionOf, vblockOf}
 use Rattle.rules.specs.Pages.{block, lastIn}
-use Rattle.rules.specs.Regions.{View, validFrames, view}
+use Rattle.rules.specs.Regions.{View, looksAt, validFrames, view}
 use Rattle.rules.specs.Replies.{isAccepted, numberOf, whyReply}
 use Rattle.rules.specs.Tables.{Board, btAt, ctAt, none}
 use Rattle.rules.specs.Write.{Plan, continues, opens, planOf, reclaims}
@@ -20,7 +20,7 @@ use Rattle.why.specs.declared.Place.{Place}
 use Rattle.why.specs.declared.Why.{Why}
 use Rattle.why.specs.declared.Why.the-variants.{Refused, Disordered, Empty, Held}
 
--- ---- the answer's numbers: reply, rule, held, region, segment, virtual block, physical block, frame; then the forecast's four
+-- ---- the answer's numbers: reply, rule, held, region, segment, virtual block, physical block, frame; then the forecast's four; then the spare areas looked at
 
 -- 1, 2 or 3 for a write that continues, opens or reclaims; its virtual block; the frame that it takes; the valid frames that it copies
 unfoldable pub forecastNumbers : Forecast → List ℕ
@@ -33,10 +33,10 @@ unfoldable pub placeNumbers : Place → List ℕ
 placeNumbers at = at .region ∷ at .segment .0 ∷ at .vblock .0 ∷ at .pblock .0 ∷ at .frame ∷ []
 
 unfoldable pub numbersOf : Why → List ℕ
-numbersOf (Refused r) = numberOf r ∷ replicate 11 0
-numbersOf (Disordered k) = 7 ∷ ruleNumber k ∷ replicate 10 0
-numbersOf (Empty fc) = replicate 8 0 ++ forecastNumbers fc
-numbersOf (Held at fc) = 0 ∷ 0 ∷ 1 ∷ placeNumbers at ++ forecastNumbers fc
+numbersOf (Refused r) = numberOf r ∷ replicate 12 0
+numbersOf (Disordered k) = 7 ∷ ruleNumber k ∷ replicate 11 0
+numbersOf (Empty fc) = replicate 8 0 ++ (forecastNumbers fc ++ (0 ∷ []))
+numbersOf (Held at fc looks) = 0 ∷ 0 ∷ 1 ∷ placeNumbers at ++ (forecastNumbers fc ++ (looks ∷ []))
 
 -- each number fits 32 bits
 abbrev pub Small : List ℕ → Type 0
@@ -63,13 +63,13 @@ forecastOf p b c =
     let vw = view p b (regionOf p c) in
     planNumbers p vw (planOf p vw)
 
--- of an orderly board: no frame is held, or one is
+-- of an orderly board: no frame is held, or one is; the forecast; and T-08's count of a read or a write of the cluster
 unfoldable pub foundOf : Params → Board → ℕ → List ℕ
-foundOf p b c = cond (eqb (ctAt (b .ct) c) none) (replicate 8 0) (0 ∷ 0 ∷ 1 ∷ holderOf p b c) ++ forecastOf p b c
+foundOf p b c = cond (eqb (ctAt (b .ct) c) none) (replicate 8 0) (0 ∷ 0 ∷ 1 ∷ holderOf p b c) ++ (forecastOf p b c ++ (looksAt p b c ∷ []))
 
 -- "which reply, and with 7 the first orderly rule broken, in 01's order"; T-06: "7 also for a wrong mark", and then the rule of the marks is told, the tenth
 unfoldable pub whyOf : Params → Board → ℕ → List ℕ
 whyOf p b lba =
     let r = whyReply p b lba in
     cond (isAccepted r) (foundOf p b (clusterOf p lba))
-    (cond (eqb (numberOf r) 7) (7 ∷ ruleNumber (brokenRule p b) ∷ replicate 10 0) (numberOf r ∷ replicate 11 0))
+    (cond (eqb (numberOf r) 7) (7 ∷ ruleNumber (brokenRule p b) ∷ replicate 11 0) (numberOf r ∷ replicate 12 0))

@@ -36,12 +36,13 @@ pub enum Forecast {
     Reclaims(VBlock, usize),
 }
 
-// Why a sector reads so: the call is refused, or the state or its marks are not in order, by the first broken rule; or no frame is held, or one is held there.
+// Why a sector reads so: the call is refused, or the state or its marks are not in order, by the first broken rule; or no frame is held, or one is held there,
+// which a read or a write finds with so many looks at spare areas.
 pub enum Why {
     Refused(Reply),
     Disordered(Rule),
     Empty(Forecast),
-    Held(Place, Forecast),
+    Held(Place, Forecast, u32),
 }
 
 // What a write to region r would do, on a state that is known to be orderly: where it reclaims, the marks of the virtual block are counted.
@@ -103,5 +104,5 @@ pub fn explain(
     if !at.kept {
         return Why::Empty(fc);
     }
-    Why::Held(place_at(p, ct, bt, c, at), fc)
+    Why::Held(place_at(p, ct, bt, c, at), fc, at.looks)
 }

@@ -1,2 +1,3 @@
 pub mod Made
+pub mod Stays
 pub mod Writes

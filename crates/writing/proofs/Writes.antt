@@ -17,12 +17,12 @@ use Rattle.rules.specs.declared.Params.{Params}
 use Rattle.rules.specs.declared.Answer.{Answer}
 use Rattle.rules.specs.declared.Reply.the-variants.{Accepted}
 use Rattle.rules.specs.Parameters.{frames}
-use Rattle.rules.specs.Numbers.{placeOf, segmentOf, vblockOf}
-use Rattle.rules.specs.Tables.{Board, boardOf, none, btAt, fstAt, marksLength}
+use Rattle.rules.specs.Numbers.{placeOf, regionOf, segmentOf, vblockOf}
+use Rattle.rules.specs.Tables.{Board, boardOf, none, btAt, ctAt, fstAt, marksLength}
 use Rattle.rules.specs.Pages.{block, filled, frame, programmed}
-use Rattle.rules.specs.Regions.{View, view, viewOf, assigned}
+use Rattle.rules.specs.Regions.{View, view, viewOf, assigned, looksAt}
 use Rattle.rules.specs.Traces.{programsIn, erasesIn}
-use Rattle.rules.specs.Write.{Plan, continues, opens, reclaims, hasRoom, lowestUnassigned, planOf, planVBlock, planFrame, freeBlock, planOps, writeOps, written, writtenBy}
+use Rattle.rules.specs.Write.{Plan, continues, opens, reclaims, hasRoom, lowestUnassigned, planOf, planVBlock, planFrame, eraseOps, freeBlock, planOps, writeOps, written, writtenBy}
 use Rattle.rules.specs.Replies.{replyOf}
 use Rattle.rules.specs.Calls.{Outcome, answerOf, outcomeOf}
 use Rattle.rules.proofs.Sizes.{Sizes}
@@ -47,7 +47,10 @@ use Rattle.rules.proofs.Victims.{good-at}
 use Rattle.rules.proofs.WritePromise.{makes, counts, copies-few, erase-counts}
 use Rattle.choose.specs.Search.{Pool}
 use Rattle.reclaim.specs.Moves.{FromTo}
-use Rattle.reading.specs.Lookup.{Lookup, Stands, Within}
+use Rattle.rules.specs.Words.{PlanListed}
+use Rattle.rules.proofs.Words.{plan-exactly}
+use Rattle.reading.specs.Lookup.{blockFor, Looked, Lookup, Stands, Within}
+use Rattle.reading.proofs.Requests.{lookup-admitted}
 use Rattle.planning.specs.Plans.{OpenFrames, PlanAsked}
 use Rattle.rooms.specs.Rooms.{OpenAsked, RoomAsked, RoomMade}
 use Rattle.placing.specs.Clusters.{Standing, ClusterPut}
@@ -55,6 +58,7 @@ use Rattle.ends.specs.Claims.{outcome}
 use Rattle.keeping.specs.Keeping.{UnmarkAsked, keptMarks, acceptedAnswer}
 use Rattle.keeping.proofs.Keeping.{old-is, room-is, unmark-asked}
 use Rattle.writing.proofs.Made as made
+use Rattle.writing.proofs.Stays.{chip-same, ct-same, entry-same, stands-same, within-same}
 use Rattle.placing.proofs.Put.{lookup}
 
 -- a plan that reclaims: the open block has no room, and every virtual block has a block
@@ -205,6 +209,10 @@ module _ (p : Params) (b : Board) (q : Request) (e : replyOf p b (write q) ≡ A
           good = λ f m. rw (acc .tables .ctLength) ((good f m) .low);
         }
 
+  -- the cluster is looked up at entry
+  pub lookup-entry : (c : ℕ) → c ≡ requestCluster p q → Lookup p (b .chip) (b .ct) (b .bt) c
+  lookup-entry c ec = rw ec (lookup-admitted p b q acc)
+
   -- the plan that was found by the marks, which are the board's
   abbrev Found : ℕ → Plan → Type 0
   Found r′ pl = (ct : List ℕ) → b .marks ≡ marksOf p (boardOf (b .chip) ct (b .bt) (b .fst) [] [] []) → pl ≡ planOf p (viewOf p (b .chip) ct (b .bt) (b .fst) r′)
@@ -236,6 +244,9 @@ module _ (p : Params) (b : Board) (q : Request) (e : replyOf p b (write q) ≡ A
     mk : Makes p b r pl
     mk = rw ep-r all-make
 
+    listed : PlanListed p vw pl
+    listed = rw ep-r (plan-exactly p b (record { fine = acc .fine; lengths = checks .lengths; tidy = checks .tidy }) r region-in)
+
     m-r : RoomMade p b r pl v f copied erases chip₁ ct₁ bt₁ bst₁ wear₁
     m-r = rw er at (m (b .fst) marks-are)
 
@@ -245,6 +256,29 @@ module _ (p : Params) (b : Board) (q : Request) (e : replyOf p b (write q) ≡ A
     -- the old cluster is looked up on the board with room
     pub lookup-made : (c : ℕ) → c ≡ requestCluster p q → Lookup p chip₁ ct₁ bt₁ c
     lookup-made c ec = rw ec (lookup p (boardOf chip₁ ct₁ bt₁ (b .fst) [] [] []) q v f standing)
+
+    -- where nothing is erased, it stands where it was found at entry
+    module _ (c : ℕ) (ec : c ≡ requestCluster p q) (still : erases ≡ 0) (kept : Bool) where
+      none-erased : erasesIn (eraseOps p b r pl) ≡ 0
+      none-erased = sym (m-r .erases) ∙ still
+
+      same-block : (ctAt (b .ct) c ≡ none → ⊥) → blockFor p (b .ct) bt₁ c ≡ blockFor p (b .ct) (b .bt) c
+      unfolding blockFor
+      same-block ne =
+          let k = (lookup-entry c ec) .leads ne in
+          let at : regionOf p c ≡ r = rw ec in
+          let some : btAt p (b .bt) r (vblockOf p (ctAt (b .ct) c)) ≡ none → ⊥ = λ n. omega (arith, rw at at (k .block), n, z .blocks) in
+          rw (at, m-r .btIs) (entry-same p z b (acc .tables) r region-in pl none-erased listed (mk .base .ready .mine) (vblockOf p (ctAt (b .ct) c)) some)
+
+      pub stays : (fr : ℕ) → Stands p (b .chip) (b .ct) (b .bt) c kept fr → Stands p chip₁ ct₁ bt₁ c kept fr
+      stays fr s =
+          rw (m-r .chipIs, m-r .ctIs, chip-same p b r pl none-erased, ct-same p b r pl none-erased)
+          (stands-same p (b .chip) (b .ct) (b .bt) bt₁ c (lookup-entry c ec) same-block kept fr s)
+
+      pub stays-within : (u g fr : ℕ) → Stands p (b .chip) (b .ct) (b .bt) c kept fr → Within p (b .chip) (b .ct) (b .bt) c kept u g → Within p chip₁ ct₁ bt₁ c kept u g
+      stays-within u g fr s w =
+          rw (m-r .chipIs, m-r .ctIs, chip-same p b r pl none-erased, ct-same p b r pl none-erased)
+          (within-same p (b .chip) (b .ct) (b .bt) bt₁ c (lookup-entry c ec) same-block kept u g (s .has) w)
 
     pub copied-few : copied < 256
     copied-few = rw (m-r .count) (omega (arith, copies-few p vw pl, mk .base .ready .low, z .short))
@@ -256,13 +290,13 @@ module _ (p : Params) (b : Board) (q : Request) (e : replyOf p b (write q) ≡ A
         let y = made.done p b q acc pl mk chip ct fst bst₁ wear₁ marks (rw (m-r .chipIs, m-r .ctIs, m-r .btIs, m-r .vblock, m-r .frame) at x) (m-r .bstIs) (m-r .wearIs) (em ∙ sym (ap (λ (l : Plan). (writtenBy p b r q l) .marks) ep-r)) in
         rw (m-r .btIs) (y ∙ ap (writtenBy p b r q) ep-r)
 
-    answer-is : acceptedAnswer p copied erases ≡ answerOf Accepted (writeOps p b q)
+    answer-is : (looks : ℕ) → looks ≡ looksAt p b (requestCluster p q) → acceptedAnswer p copied erases looks ≡ answerOf Accepted (writeOps p b q) (looksAt p b (requestCluster p q))
     unfolding answerOf writeOps
-    answer-is =
+    answer-is looks el =
         let k = counts p b r q pl in
         let x : p .alpha * (copied + 1) ≡ programsIn (planOps p b r q (planOf p vw)) = rw (m-r .count) (sym (k .0)) ∙ ap (λ (l : Plan). programsIn (planOps p b r q l)) ep-r in
         let y : erases ≡ erasesIn (planOps p b r q (planOf p vw)) = m-r .erases ∙ (erase-counts p b r pl) .1 ∙ sym (k .1) ∙ ap (λ (l : Plan). erasesIn (planOps p b r q l)) ep-r in
-        ap₂ {C = Answer} (λ (i j : ℕ). record { reply = Accepted; programs = i; erases = j }) x y
+        λ i. record { reply = Accepted; programs = x i; erases = y i; looks = el i }
 
     -- ---- and the marks
 
@@ -293,8 +327,9 @@ module _ (p : Params) (b : Board) (q : Request) (e : replyOf p b (write q) ≡ A
           ∙ sym (written-marks p b q e)
           ∙ unfold written in sym (write-marks p b r q (planOf p vw))
 
-      pub gives : (chip ct fst marks : List ℕ) (a : Answer) → ClusterPut p (boardOf chip₁ ct₁ bt₁ (b .fst) [] [] []) q v f chip ct fst
-          → ((m : Marks) → b .marks ≡ tableOf p m → marks ≡ tableOf p (keptMarks m r′ v f copied erases kept u g)) → a ≡ acceptedAnswer p copied erases
+      pub gives : (looks : ℕ) → Looked p (b .chip) (b .ct) (b .bt) c looks → (chip ct fst marks : List ℕ) (a : Answer) → ClusterPut p (boardOf chip₁ ct₁ bt₁ (b .fst) [] [] []) q v f chip ct fst
+          → ((m : Marks) → b .marks ≡ tableOf p m → marks ≡ tableOf p (keptMarks m r′ v f copied erases kept u g)) → a ≡ acceptedAnswer p copied erases looks
           → outcome a (q .bytes) [] (boardOf chip ct bt₁ fst bst₁ wear₁ marks) ≡ outcomeOf p b (write q)
-      gives chip ct fst marks a x h y =
-          ap₂ {C = Outcome} (λ (i : Answer) (j : Board). outcome i (q .bytes) [] j) (y ∙ answer-is) (board-is chip ct fst marks x (marks-kept marks h)) ∙ sym (write-accepted p b q e)
+      gives looks k chip ct fst marks a x h y =
+          let el : looks ≡ looksAt p b (requestCluster p q) = unfold looksAt in (rw ec at (k .is (b .fst))) in
+          ap₂ {C = Outcome} (λ (i : Answer) (j : Board). outcome i (q .bytes) [] j) (y ∙ answer-is looks el) (board-is chip ct fst marks x (marks-kept marks h)) ∙ sym (write-accepted p b q e)

@@ -12,7 +12,7 @@ use rules::Params;
 use rules::Reply;
 
 // The work of a write that has passed its checks: the state is not checked again.
-// The old cluster is looked up after the room is made, since a reclaim may have moved it.
+// The search that is counted is that of the state at entry; after a reclaim, which may have moved the old cluster, it is looked up again.
 pub fn write_orderly(
     p: Params,
     chip: &mut [u8],
@@ -31,9 +31,10 @@ pub fn write_orderly(
 {
     let c = rules::cluster_of(p, lba);
     let r = rules::region_of(p, c);
+    let at = reading::find_frame(p, chip, ct, bt, c);
     let pl = planning::plan_of(p, chip, bt, fst, marks, r);
     let room = rooms::make_room(p, chip, ct, bt, bst, wear, marks, r, pl);
-    let old = reading::find_frame(p, chip, ct, bt, c);
+    let old = reading::find_again(p, chip, ct, bt, c, at, room.erases);
     placing::put_cluster(
         p,
         chip,
@@ -48,5 +49,5 @@ pub fn write_orderly(
         room.frame,
     );
     keeping::keep_marks(p, marks, r, room, old);
-    keeping::answered(p, room.copied, room.erases)
+    keeping::answered(p, room.copied, room.erases, at.looks)
 }

@@ -60,8 +60,17 @@ last-in-requires c κs = let a = c .before .before .before .before .before .befo
 returns-3 : tie.Need-returns-3
 unfolding segmentOk
 returns-3 c =
-    rw
-    (lt-ltb _ _ (c .before .before .before .before .before .before .before .before .if1 .left), ← (c .before .before .before .before .before .before .before .vblock-of .ensures), ← (c .before .before .before .before .before .before .bt-at .ensures .0), ne-eqb (c .before .before .before .before .before .before .bt-at .result .0) none (c .before .before .before .before .if2 .left), ← (c .before .block-of .ensures .0), ← (c .before .before .before .place-of .ensures), ← (c .last-in .ensures), ← (c .before .before .frames .ensures))
+    let d = c .before in
+    rw (
+      lt-ltb _ _ (d .before .before .before .before .before .before .before .before .if1 .left),
+      ← (d .before .before .before .before .before .before .before .vblock-of .ensures),
+      ← (d .before .before .before .before .before .before .bt-at .ensures .0),
+      ne-eqb (d .before .before .before .before .before .before .bt-at .result .0) none (d .before .before .before .before .if2 .left),
+      ← (d .before .block-of .ensures .0),
+      ← (d .before .before .before .place-of .ensures),
+      ← (d .last-in .ensures .0),
+      ← (d .before .before .frames .ensures),
+    )
 
 pub segment-ok-spec : {M : Type 1} → statement M
 segment-ok-spec =

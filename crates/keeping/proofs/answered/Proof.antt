@@ -12,14 +12,14 @@ product a =
     let k : a .args .copied + 1 ≤ 256 = omega (arith, a .pre .1) in
     mul-le-mul (a .pre .0) k
 
-add-t5 : tie.Need-add-t5
-add-t5 c = search needs
+add-t6 : tie.Need-add-t6
+add-t6 c = search needs
 
-mul-t6 : tie.Need-mul-t6
-mul-t6 c = record { fits = lt-of-le-of-lt (product (c .before)) (omega arith) }
+mul-t7 : tie.Need-mul-t7
+mul-t7 c = record { fits = lt-of-le-of-lt (product (c .before)) (omega arith) }
 
-cast-t7 : tie.Need-cast-t7
-cast-t7 c = record { fits = lt-of-le-of-lt (product (c .before)) (omega arith) }
+cast-t8 : tie.Need-cast-t8
+cast-t8 c = record { fits = lt-of-le-of-lt (product (c .before)) (omega arith) }
 
 returns : tie.Need-returns
 returns c = search needs
@@ -28,7 +28,7 @@ pub answered-spec : {M : Type 1} → statement M
 answered-spec =
     tie.close
     (tie.spec
-    add-t5
-    mul-t6
-    cast-t7
+    add-t6
+    mul-t7
+    cast-t8
     returns)

@@ -7,7 +7,7 @@ use Prim.Native.Nat.{ℕ}
 use lib.ListN.{getD, length}
 use borrow.Author.Needs.{needs}
 use Rattle.listing.specs.Told.{tells}
-use Rattle.listing.proofs.Numbers.{twelve}
+use Rattle.listing.proofs.Numbers.{thirteen}
 use Rattle.listing.proofs.tell.Statement.{statement}
 use Rattle.listing.proofs.tell.Tie as tie
 
@@ -21,7 +21,7 @@ slice-aggregate-put-list : tie.Need-slice-aggregate-put-list
 slice-aggregate-put-list c = search needs
 
 put-list-requires : tie.Need-put-list-requires
-put-list-requires c κs = c .before .before .before .before .before .pre .1 ∙ sym (ap length (c .before .before .before .why-numbers .ensures) ∙ twelve (c .before .before .before .before .before .args .w))
+put-list-requires c κs = c .before .before .before .before .before .pre .1 ∙ sym (ap length (c .before .before .before .why-numbers .ensures) ∙ thirteen (c .before .before .before .before .before .args .w))
 
 cast-result : tie.Need-cast-result
 cast-result c = search needs

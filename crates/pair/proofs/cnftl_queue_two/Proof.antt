@@ -1,6 +1,7 @@
 -- `pair::cnftl_queue_two`: two writes as one queue, each answer packed.
 -- Assumes nothing.
 use mathlib.Core.Path.{ap₂, _∙_}
+use mathlib.Core.List.{[], _∷_}
 use Prim.Native.Nat.{ℕ}
 use borrow.Author.Needs.{needs}
 use Rattle.rules.specs.Tables.{Board, boardOf}
@@ -16,16 +17,22 @@ queue-two-requires : tie.Need-queue-two-requires
 queue-two-requires c κs = search needs
 
 pack-requires : tie.Need-pack-requires
-pack-requires c κs = (few-two _ (board (c .before .before .before .before .before .before .before .before .before .before .before .before .before .before .before .before .before .before .before .before .before .before .before .before .before .before .before .before .before .before .before .before .before .before .before)) _ _ _ _ _ _ _ (c .before .before .before .before .before .before .before .before .before .before .before .before .before .before .before .before .before .before .queue-two .ensures)) .1 .0
+pack-requires c κs =
+    let two = c .before .before .before .before .before .before .before .before .before .before .before .before .before .before .before .before .before .before in
+    (few-two _ (board (two .before .before .before .before .before .before .before .before .before .before .before .before .before .before .before .before .before)) _ _ _ _ _ _ _ (two .queue-two .ensures)) .1 .0
 
 pack-requires-2 : tie.Need-pack-requires-2
-pack-requires-2 c κs = (few-two _ (board (c .before .before .before .before .before .before .before .before .before .before .before .before .before .before .before .before .before .before .before .before .before .before .before .before .before .before .before .before .before .before .before .before .before .before .before .before)) _ _ _ _ _ _ _ (c .before .before .before .before .before .before .before .before .before .before .before .before .before .before .before .before .before .before .before .queue-two .ensures)) .1 .1 .0
+pack-requires-2 c κs =
+    let two = c .before .before .before .before .before .before .before .before .before .before .before .before .before .before .before .before .before .before .before in
+    (few-two _ (board (two .before .before .before .before .before .before .before .before .before .before .before .before .before .before .before .before .before)) _ _ _ _ _ _ _ (two .queue-two .ensures)) .1 .1 .0
 
-put-two-requires : tie.Need-put-two-requires
-put-two-requires c κs = search needs
+put-both-requires : tie.Need-put-both-requires
+put-both-requires c κs = search needs
 
 pack-requires-3 : tie.Need-pack-requires-3
-pack-requires-3 c κs = (few-two _ (board (c .before .before .before .before .before .before .before .before .before .before .before .before .before .before .before .before .before .before .before .before .before .before .before .before .before .before .before .before .before .before .before .before .before .before .before .before .before .before .before .before)) _ _ _ _ _ _ _ (c .before .before .before .before .before .before .before .before .before .before .before .before .before .before .before .before .before .before .before .before .before .before .before .queue-two .ensures)) .0
+pack-requires-3 c κs =
+    let two = c .before .before .before .before .before .before .before .before .before .before .before .before .before .before .before .before .before .before .before .before .before .before .before in
+    (few-two _ (board (two .before .before .before .before .before .before .before .before .before .before .before .before .before .before .before .before .before)) _ _ _ _ _ _ _ (two .queue-two .ensures)) .0
 
 same-length : tie.Need-same-length
 same-length c = search needs
@@ -53,13 +60,18 @@ same-length-8 c = search needs
 
 returns : tie.Need-returns
 returns c =
+    let two = c .before .before .before .before .before .before .before .before .before .before .before .before .before .before .before .before .before .before .before .before .before .before .before .before .queue-two in
+    let entry = c .before .before .before .before .before .before .before .before .before .before .before .before .before .before .before .before .before .before .before .before .before .before .before .before .before .before .before .before .before .before .before .before .before .before .before .before .before .before .before .before .before in
     record {
-      own = c .before .before .before .before .before .before .before .before .before .before .before .before .before .before .before .before .before .before .before .before .before .before .before .before .queue-two .result .own;
-      first = c .before .before .before .before .before .before .before .before .before .before .before .before .before .before .before .before .before .before .before .before .before .before .before .before .queue-two .result .first;
-      second = c .before .before .before .before .before .before .before .before .before .before .before .before .before .before .before .before .before .before .before .before .before .before .before .before .queue-two .result .second;
-      whole = c .before .before .before .before .before .before .before .before .before .before .before .before .before .before .before .before .before .before .before .before .before .before .before .before .queue-two .ensures;
+      own = two .result .own;
+      first = two .result .first;
+      second = two .result .second;
+      whole = two .ensures;
       result = c .pack3 .ensures;
-      list = c .before .before .before .put-two .ensures ∙ ap₂ (λ (first second : ℕ). placed first second (c .before .before .before .before .before .before .before .before .before .before .before .before .before .before .before .before .before .before .before .before .before .before .before .before .before .before .before .before .before .before .before .before .before .before .before .before .before .before .before .before .before .args .answers .now)) (c .before .before .before .before .before .pack .ensures) (c .before .before .before .before .pack2 .ensures);
+      list =
+          c .before .before .before .put-both .ensures
+          ∙ ap₂ (λ (first second : ℕ). placed (first ∷ second ∷ two .result .first .looks ∷ two .result .second .looks ∷ []) (entry .args .answers .now))
+          (c .before .before .before .before .before .pack .ensures) (c .before .before .before .before .pack2 .ensures);
     }
 
 pub cnftl-queue-two-spec : {M : Type 1} → statement M
@@ -69,7 +81,7 @@ cnftl-queue-two-spec =
     queue-two-requires
     pack-requires
     pack-requires-2
-    put-two-requires
+    put-both-requires
     pack-requires-3
     same-length
     same-length-2

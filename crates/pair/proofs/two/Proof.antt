@@ -470,7 +470,7 @@ module _ {M : Type 1} (𝓤 : URA M) (H : Heap 𝓤) (A : Atoms 𝓤) (W : Given
         elem-back ! Ans.the-row fullShare (answers zs) 0 blank (LL.vals Ans.the-type Ans′.the-laws (getD (answers zs) 0 blank)) l₁₄ 0 (first-in _ eo) $
         -- _37 = &_14
         assigns ! (addr ! (from ! (stop !))) (from ! (stop !)) (init ! 11 refl (tt, tt)) $
-        -- _38 = _37 + 12
+        -- _38 = _37 + 16
         assigns ! (bin ! (load ! (from ! (stop !)) (look ! 11 refl)) (lit ! tt) tt) (from ! (stop !)) (init ! 9 refl (tt, tt)) $
         elem-out ! Ans.the-row (Is Ans.the-row) (shows 𝓤 H A Ans.the-row) (LL.vals Ans.the-type Ans′.the-laws) (LL.tells Ans.the-type Ans′.the-laws)
         fullShare (answers zs) 1 blank l₁₄ 0 (second-in _ eo) (λ g₂.

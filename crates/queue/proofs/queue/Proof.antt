@@ -122,8 +122,12 @@ fails : (t : Bool) → (Holds t → ⊥) → t ≡ false
 fails true f = absurd (f tt)
 fails false _ = refl
 
+-- the places of request i, of 12 bytes, and of answer i, of 16
 place-fits : (i k n : ℕ) → i < k → k ≤ n → n * 12 < 2 ^ 63 → i * 12 < 2 ^ 64
 place-fits i k n l h g = omega (arith, l, h, g)
+
+answer-fits : (i k n : ℕ) → i < k → k ≤ n → n * 12 < 2 ^ 63 → i * 16 < 2 ^ 64
+answer-fits i k n l h g = omega (arith, l, h, g)
 
 next-fits : (i k : ℕ) → i < k → k < 2 ^ 64 → i + 1 < 2 ^ 64
 next-fits i k l g = omega (arith, l, g)
@@ -145,7 +149,7 @@ abbrev none : Item
 none = itemOf 0 0 0
 
 abbrev no-answer : Answer
-no-answer = answerOf Accepted []
+no-answer = answerOf Accepted [] 0
 
 -- ---- the parameters, and what is had of them
 module _ {M : Type 1} (𝓤 : URA M) (H : Heap 𝓤) (A : Atoms 𝓤) (W : Given 𝓤 H A) (mem : Memory → SProp 𝓤) (rn : Routine → Fun 𝓤) (p : Params)
@@ -617,13 +621,13 @@ module _ {M : Type 1} (𝓤 : URA M) (H : Heap 𝓤) (A : Atoms 𝓤) (W : Given
             (backs-all 𝓤 H A W ds (s .ls) p′ (lists zs) BytesTok ItemNil (s .long) gs) $
             await ! tt $ learn ! (λ es. split ! $ move ! (1 ∷ []) $ fsplit ! $ move ! (1 ∷ []) $ drop ! $
             -- [bytes' token; the tables; the answer; …]
-            -- _33 = _13 * 12: the place of answers[i]
-            assigns ! (bin ! (load ! (from ! (stop !)) (look ! 45 refl)) (lit ! tt) (record { fits = place-fits (s .i) k n lt (head .fits) (gr .1) }))
-            (from ! (stop !)) (store ! 25 refl (tt, record { fits = place-fits (s .i) k n lt (head .fits) (gr .1) })) $
+            -- _33 = _13 * 16: the place of answers[i]
+            assigns ! (bin ! (load ! (from ! (stop !)) (look ! 45 refl)) (lit ! tt) (record { fits = answer-fits (s .i) k n lt (head .fits) (gr .1) }))
+            (from ! (stop !)) (store ! 25 refl (tt, record { fits = answer-fits (s .i) k n lt (head .fits) (gr .1) })) $
             -- _50 = _11.0 + _33
             assigns ! (bin ! (load ! (from ! (fld ! refl (stop !))) (look-in ! 47 (sub ! 0 refl (whole !)))) (load ! (from ! (stop !)) (look ! 25 refl))
             tt) (from ! (stop !)) (init ! 8 refl (tt, tt)) $
-            rewrite ! 8 (λ (p″ : ℕ). ‵ (fat fullShare tyPtr l₅₀ 0 (vptr bo p″))) (sym (place-is 12 oo (s .i))) refl $
+            rewrite ! 8 (λ (p″ : ℕ). ‵ (fat fullShare tyPtr l₅₀ 0 (vptr bo p″))) (sym (place-is 16 oo (s .i))) refl $
             -- answers is opened, and its element i taken out
             move ! (6 ∷ []) $ fsplit ! $ drop ! $ fsplit ! $ move ! (0 ∷ 1 ∷ 8 ∷ []) $ opens-slice ! tt Ans.the-row (s .os) bo oo $
             elem-out ! Ans.the-row (Is Ans.the-row) (shows 𝓤 H A Ans.the-row) (LL.vals Ans.the-type Ans′.the-laws) (LL.tells Ans.the-type Ans′.the-laws)
@@ -689,8 +693,8 @@ module _ {M : Type 1} (𝓤 : URA M) (H : Heap 𝓤) (A : Atoms 𝓤) (W : Given
             (ensured 𝓤 H A idle.ended (idle.clauses 𝓤 H A mem rn) (to-idle h .0 .0) (to-idle h .0 .3) tt r)))) (id⊢ 𝓤 _) $
             await ! tt $ pick ! (λ r.
             split ! $ move ! (1 ∷ []) $
-            use1 W (some (λ (zs : Unit {0} × Unit {0}). ‵ (fsep ftrue ftrue) ⊛ raw (fact 𝓤 (r ≡ answerOf (h .reply) [])))) (id⊢ 𝓤 _) $ pick ! (λ zs.
-            split ! $ move ! (1 ∷ []) $ heard ! (r ≡ answerOf (h .reply) []) (λ e. drop ! $ split ! $ drop ! $
+            use1 W (some (λ (zs : Unit {0} × Unit {0}). ‵ (fsep ftrue ftrue) ⊛ raw (fact 𝓤 (r ≡ answerOf (h .reply) [] 0)))) (id⊢ 𝓤 _) $ pick ! (λ zs.
+            split ! $ move ! (1 ∷ []) $ heard ! (r ≡ answerOf (h .reply) [] 0) (λ e. drop ! $ split ! $ drop ! $
             peeks ! Ans.the-row (Is Ans.the-row) (shows 𝓤 H A Ans.the-row) r (v ∷ []) (λ is.
             land ! (from ! (stop !)) (init ! 58 refl (LL.lawful Ans.the-type Ans′.the-laws 𝓤 H A W .typed r _ is .0)) $
             -- the locals die

@@ -23,7 +23,14 @@ same-length : tie.Need-same-length
 same-length c = search needs
 
 returns : tie.Need-returns
-returns c = λ fst bst wear marks. c .before .before .read-run .ensures ∙ read-is _ _ _ _ _ _ _ (c .before .before .before .before .before .before .before .before .before .before .before .pre) _ _ (rw (c .before .before .before .before .before .before .cluster-of .ensures) at (c .before .before .before .before .find-frame .ensures .0)) _ (c .before .before .before .before .before .sector-of .ensures) fst bst wear marks
+returns c =
+    let pre = c .before .before .before .before .before .before .before .before .before .before .before .pre in
+    let cluster = c .before .before .before .before .before .before .cluster-of .ensures in
+    let found = c .before .before .before .before .find-frame .ensures in (
+      λ fst bst wear marks.
+          c .before .before .read-run .ensures ∙ read-is _ _ _ _ _ _ _ pre _ _ (rw cluster at (found .0)) _ (c .before .before .before .before .before .sector-of .ensures) fst bst wear marks,
+      rw cluster at (found .1 .1),
+    )
 
 pub read-sectors-spec : {M : Type 1} → statement M
 read-sectors-spec = tie.close (tie.spec cluster-of-requires sector-of-requires find-frame-requires read-run-requires same-length returns)

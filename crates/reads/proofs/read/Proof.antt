@@ -35,8 +35,8 @@ read-sectors-requires c κs =
     let a = c .before .before .before .before .before .before .before .before .before .before .before .before in
     asked _ (board a) (request a) (reply-zero _ (board a) (read (request a)) _ (c .before .before .before .access-reply .ensures .0 (request a) refl refl refl) _ (c .before .before .number .ensures) (c .before .if1 .left))
 
-idle-requires-2 : tie.Need-idle-requires-2
-idle-requires-2 c κs = search needs
+looked-requires : tie.Need-looked-requires
+looked-requires c κs = search needs
 
 same-length : tie.Need-same-length
 same-length c = search needs
@@ -45,7 +45,9 @@ returns-2 : tie.Need-returns-2
 returns-2 c =
     let a = c .before .before .before .before .before .before .before .before .before .before .before .before .before .before .before .before in
     let e = c .before .before .before .before .before .before .before .access-reply .ensures .0 (request a) refl refl refl in
-    read-done _ (board a) (request a) (reply-zero _ (board a) (read (request a)) _ e _ (c .before .before .before .before .before .before .number .ensures) (c .before .before .before .before .before .if1 .left)) _ (c .before .before .before .read-sectors .ensures _ _ _ _) _ e _ (c .idle2 .ensures)
+    let zero = reply-zero _ (board a) (read (request a)) _ e _ (c .before .before .before .before .before .before .number .ensures) (c .before .before .before .before .before .if1 .left) in
+    let done = c .before .before .before .read-sectors .ensures in
+    read-done _ (board a) (request a) zero _ (done .0 _ _ _ _) _ (done .1) _ e _ (c .looked .ensures)
 
 pub read-spec : {M : Type 1} → statement M
-read-spec = tie.close (tie.spec access-reply-requires number-requires idle-requires returns read-sectors-requires idle-requires-2 same-length returns-2)
+read-spec = tie.close (tie.spec access-reply-requires number-requires idle-requires returns read-sectors-requires looked-requires same-length returns-2)

@@ -36,7 +36,7 @@ region-of-requires : tie.Need-region-of-requires
 region-of-requires c κs = regions _ (board (c .before .before .before .before .before .before .before .before .before .before .before .before .before .before .before)) _ _ (c .before .before .before .before .before .release-reply .ensures) _ (c .before .before .before .before .number .ensures) (c .before .before .before .if1 .left)
 
 unmark-requires : tie.Need-unmark-requires
-unmark-requires c κs = release-unmark _ (board (c .before .before .before .before .before .before .before .before .before .before .before .before .before .before .before .before)) _ _ (c .before .before .before .before .before .before .release-reply .ensures) _ (c .before .before .before .before .before .number .ensures) (c .before .before .before .before .if1 .left) _ _ _ _ (c .before .before .find-frame .ensures .0) (c .before .before .find-frame .ensures .1) _ (c .region-of .ensures)
+unmark-requires c κs = release-unmark _ (board (c .before .before .before .before .before .before .before .before .before .before .before .before .before .before .before .before)) _ _ (c .before .before .before .before .before .before .release-reply .ensures) _ (c .before .before .before .before .before .number .ensures) (c .before .before .before .before .if1 .left) _ _ _ _ (c .before .before .find-frame .ensures .0) (c .before .before .find-frame .ensures .1 .0) _ (c .region-of .ensures)
 
 set-ct-requires : tie.Need-set-ct-requires
 set-ct-requires c κs = (entry-there _ (board (c .before .before .before .before .before .before .before .before .before .before .before .before .before .before .before .before .before .before .before .before)) _ _ (c .before .before .before .before .before .before .before .before .before .before .release-reply .ensures) _ (c .before .before .before .before .before .before .before .before .before .number .ensures) (c .before .before .before .before .before .before .before .before .if1 .left), omega arith)
@@ -51,7 +51,7 @@ same-length-4 : tie.Need-same-length-4
 same-length-4 c = search needs
 
 returns-2 : tie.Need-returns-2
-returns-2 c = release-done _ (board (c .before .before .before .before .before .before .before .before .before .before .before .before .before .before .before .before .before .before .before .before .before .before .before .before)) _ _ (c .before .before .before .before .before .before .before .before .before .before .before .before .before .before .release-reply .ensures) _ (c .before .before .before .before .before .before .before .before .before .before .before .before .before .number .ensures) (c .before .before .before .before .before .before .before .before .before .before .before .before .if1 .left) _ _ _ _ (c .before .before .before .before .before .before .before .before .before .before .find-frame .ensures .0) (c .before .before .before .before .before .before .before .before .before .before .find-frame .ensures .1) _ (c .before .before .before .before .before .before .before .before .region-of .ensures) _ _ (c .before .before .before .set-ct .ensures) (c .before .before .before .before .before .before .before .unmark .ensures) _ (c .idle2 .ensures)
+returns-2 c = release-done _ (board (c .before .before .before .before .before .before .before .before .before .before .before .before .before .before .before .before .before .before .before .before .before .before .before .before)) _ _ (c .before .before .before .before .before .before .before .before .before .before .before .before .before .before .release-reply .ensures) _ (c .before .before .before .before .before .before .before .before .before .before .before .before .before .number .ensures) (c .before .before .before .before .before .before .before .before .before .before .before .before .if1 .left) _ _ _ _ (c .before .before .before .before .before .before .before .before .before .before .find-frame .ensures .0) (c .before .before .before .before .before .before .before .before .before .before .find-frame .ensures .1 .0) _ (c .before .before .before .before .before .before .before .before .region-of .ensures) _ _ (c .before .before .before .set-ct .ensures) (c .before .before .before .before .before .before .before .unmark .ensures) _ (c .idle2 .ensures)
 
 pub release-spec : {M : Type 1} → statement M
 release-spec = tie.close (tie.spec release-reply-requires number-requires idle-requires same-length same-length-2 returns find-frame-requires region-of-requires unmark-requires set-ct-requires idle-requires-2 same-length-3 same-length-4 returns-2)

@@ -11,8 +11,8 @@ board-requires c κs = search needs
 format-requires : tie.Need-format-requires
 format-requires c κs = search needs
 
-say-counts-requires : tie.Need-say-counts-requires
-say-counts-requires c κs = search needs
+say-format-requires : tie.Need-say-format-requires
+say-format-requires c κs = search needs
 
 same-length : tie.Need-same-length
 same-length c = search needs
@@ -44,7 +44,7 @@ start-spec =
     (tie.spec
     board-requires
     format-requires
-    say-counts-requires
+    say-format-requires
     same-length
     same-length-2
     same-length-3

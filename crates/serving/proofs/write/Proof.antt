@@ -28,8 +28,8 @@ slice-aggregate-write c = sym (length-take-le _ _ (rw (c .before .before .before
 write-requires : tie.Need-write-requires
 write-requires c κs = search needs
 
-say-counts-requires : tie.Need-say-counts-requires
-say-counts-requires c κs = search needs
+say-write-requires : tie.Need-say-write-requires
+say-write-requires c κs = search needs
 
 same-length : tie.Need-same-length
 same-length c = search needs
@@ -68,7 +68,7 @@ write-spec =
     array-share-prefix-bytes
     slice-aggregate-write
     write-requires
-    say-counts-requires
+    say-write-requires
     same-length
     same-length-2
     same-length-3

@@ -53,15 +53,15 @@ returns-3 c =
 place-at-requires : tie.Need-place-at-requires
 place-at-requires c κs =
     place-asked _ (board (c .before .before .before .before .before .before .before .before .before .before .before .before .before .before .before .before .before)) _ _ _ (c .before .before .find-frame .ensures .0) (c .if3 .left)
-    (looked _ (board (c .before .before .before .before .before .before .before .before .before .before .before .before .before .before .before .before .before)) _ (passed _ (board (c .before .before .before .before .before .before .before .before .before .before .before .before .before .before .before .before .before)) _ _ (c .before .before .before .before .before .before .before .before .before .why-reply .ensures) _ (c .before .before .before .before .before .before .before .before .number .ensures) (c .before .before .before .before .before .before .if2 .left)) _ (c .before .before .before .before .before .cluster-of .ensures)) _ _ (c .before .before .find-frame .ensures .1)
+    (looked _ (board (c .before .before .before .before .before .before .before .before .before .before .before .before .before .before .before .before .before)) _ (passed _ (board (c .before .before .before .before .before .before .before .before .before .before .before .before .before .before .before .before .before)) _ _ (c .before .before .before .before .before .before .before .before .before .why-reply .ensures) _ (c .before .before .before .before .before .before .before .before .number .ensures) (c .before .before .before .before .before .before .if2 .left)) _ (c .before .before .before .before .before .cluster-of .ensures)) _ _ (c .before .before .find-frame .ensures .1 .0)
 
 returns-4 : tie.Need-returns-4
 unfolding numbersOf
 returns-4 c =
     let h = (passed _ (board (c .before .before .before .before .before .before .before .before .before .before .before .before .before .before .before .before .before .before)) _ _ (c .before .before .before .before .before .before .before .before .before .before .why-reply .ensures) _ (c .before .before .before .before .before .before .before .before .before .number .ensures) (c .before .before .before .before .before .before .before .if2 .left)) in
     let fc = forecast-is _ (board (c .before .before .before .before .before .before .before .before .before .before .before .before .before .before .before .before .before .before)) _ _ (c .before .before .before .before .before .region-of .ensures) _ (c .before .before .before .before .forecast-of .ensures _ (marks-right _ (board (c .before .before .before .before .before .before .before .before .before .before .before .before .before .before .before .before .before .before)) _ h)) in
-    let at = c .place-at .ensures _ _ _ _ _ (not-false _ (c .before .if3 .left)) (c .before .before .before .find-frame .ensures .1) in
-    let e = held _ (board (c .before .before .before .before .before .before .before .before .before .before .before .before .before .before .before .before .before .before)) _ _ _ (c .before .before .before .find-frame .ensures .0) (c .before .if3 .left) _ _ at fc in
+    let at = c .place-at .ensures _ _ _ _ _ (not-false _ (c .before .if3 .left)) (c .before .before .before .find-frame .ensures .1 .0) in
+    let e = held _ (board (c .before .before .before .before .before .before .before .before .before .before .before .before .before .before .before .before .before .before)) _ _ _ (c .before .before .before .find-frame .ensures .0) (c .before .if3 .left) _ _ _ at fc (c .before .before .before .find-frame .ensures .1 .1) in
     (why-found _ (board (c .before .before .before .before .before .before .before .before .before .before .before .before .before .before .before .before .before .before)) _ h _ (c .before .before .before .before .before .before .cluster-of .ensures) _ e, small _ (board (c .before .before .before .before .before .before .before .before .before .before .before .before .before .before .before .before .before .before)) _ h _ (c .before .before .before .before .before .before .cluster-of .ensures) _ e)
 
 pub explain-spec : {M : Type 1} → statement M
