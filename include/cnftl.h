@@ -135,7 +135,9 @@ enum cnftl_why_entry {
     CNFTL_WHY_TARGET = 9,   /*   the virtual block it would do it with      */
     CNFTL_WHY_TAKES = 10,   /*   the frame that the write would take        */
     CNFTL_WHY_COPIES = 11,  /*   valid frames that it would copy first      */
-    CNFTL_WHY_ENTRIES = 12
+    CNFTL_WHY_LOOKS = 12,   /* spare areas that a read or a write looks at
+                               to find the frame; 0 unless held             */
+    CNFTL_WHY_ENTRIES = 13
 };
 
 /*
@@ -285,7 +287,11 @@ uint64_t cnftl_release(uint32_t s, uint32_t alpha, uint32_t beta, uint32_t d,
  * of this cluster that is accepted as the next call takes frame
  * CNFTL_WHY_TAKES of virtual block CNFTL_WHY_TARGET, programs
  * alpha*(CNFTL_WHY_COPIES + 1) pages, and erases 1 block exactly if
- * CNFTL_WHY_WRITE is CNFTL_WRITE_RECLAIMS.
+ * CNFTL_WHY_WRITE is CNFTL_WRITE_RECLAIMS.  CNFTL_WHY_LOOKS is the number of
+ * spare areas that such a write, or a cnftl_read of this cluster as the next
+ * call, looks at to find the frame that holds it: those of the programmed
+ * frames of segment CNFTL_WHY_SEGMENT from the last one down to that frame, it
+ * included.  Copies are not counted, and it is 0 where no frame is held.
  * Replies 1, 2, 4, 7, 0.  Counts: 0 and 0.  Writes list only, and that only
  * with reply 0 and 7.
  */
@@ -303,7 +309,9 @@ uint64_t cnftl_why(uint32_t s, uint32_t alpha, uint32_t beta, uint32_t d,
 
 /*
  * An answer is reply + 65,536 * programs + 4,294,967,296 * erases.
- * These take it apart.
+ * These take it apart.  The third count of a read and a write, the spare areas
+ * looked at (document 02, T-08), is not in it: a cnftl_why tells it beforehand,
+ * in entry CNFTL_WHY_LOOKS.
  */
 static inline uint32_t cnftl_reply_of(uint64_t answer)
 {

@@ -9,26 +9,26 @@
 #include <stdio.h>
 #include <string.h>
 
-/* One line of the printed session. */
+/* One line of the printed session; a why tells its looks beforehand. */
 struct line {
     char kind;
     uint32_t lba, count;
     uint8_t value;
-    uint32_t reply, programs, erases;
+    uint32_t reply, programs, erases, looks;
 };
 
 static const struct line session[] = {
-    { 'W', 0, 2, 17, 0, 2, 0 },
-    { 'W', 4, 2, 18, 0, 2, 0 },
-    { 'W', 2, 1, 19, 0, 2, 0 },
-    { 'W', 8, 1, 20, 0, 2, 0 },
-    { 'W', 0, 1, 21, 0, 2, 0 },
-    { 'W', 5, 1, 22, 0, 4, 1 },
-    { 'W', 0, 2, 23, 0, 4, 1 },
-    { 'R', 4, 2, 0, 0, 0, 0 },
-    { 'R', 3, 1, 0, 0, 0, 0 },
-    { 'W', 12, 1, 5, 4, 0, 0 },
-    { 'R', 1, 2, 0, 3, 0, 0 }
+    { 'W', 0, 2, 17, 0, 2, 0, 0 },
+    { 'W', 4, 2, 18, 0, 2, 0, 0 },
+    { 'W', 2, 1, 19, 0, 2, 0, 0 },
+    { 'W', 8, 1, 20, 0, 2, 0, 0 },
+    { 'W', 0, 1, 21, 0, 2, 0, 1 },
+    { 'W', 5, 1, 22, 0, 4, 1, 1 },
+    { 'W', 0, 2, 23, 0, 4, 1, 1 },
+    { 'R', 4, 2, 0, 0, 0, 0, 1 },
+    { 'R', 3, 1, 0, 0, 0, 0, 1 },
+    { 'W', 12, 1, 5, 4, 0, 0, 0 },
+    { 'R', 1, 2, 0, 3, 0, 0, 0 }
 };
 
 /* Room for Board T, and one CT entry more for case (d). */
@@ -56,15 +56,29 @@ static void new_board(void)
     memset(chip, 255, sizeof chip);
     memset(wear, 0, sizeof wear);
     memset(marks, 85, sizeof marks);
+    board.params.beta = 1;
+    board.params.d = 2;
     board.params.c = 6;
     board.params.n = 5;
 }
 
-/* Makes one line's call and checks its answer. */
+/* Whether a why of this sector is accepted and tells so many looks. */
+static int looks_are(uint32_t lba, uint32_t looks)
+{
+    uint32_t list[CNFTL_WHY_ENTRIES];
+
+    return is(cnftl_board_why(&board, lba, list), CNFTL_ACCEPTED, 0, 0)
+        && list[CNFTL_WHY_LOOKS] == looks;
+}
+
+/* Makes one line's call and checks its answer and, if it is accepted, that its
+   looks were told. */
 static void run_line(const struct line *l)
 {
     size_t len = (size_t)l->count * 16;
 
+    if (l->reply == CNFTL_ACCEPTED)
+        assert(looks_are(l->lba, l->looks));
     memset(data, l->value, sizeof data);
     if (l->kind == 'W')
         assert(is(cnftl_board_write(&board, l->lba, l->count, data, len),
@@ -209,20 +223,21 @@ static void check_queue(void)
 }
 
 /* Why, on the way of a region of Board T through all that a write can do: it
-   opens, continues and reclaims; then reply 4, and 7 with its rule. */
+   opens, continues and reclaims; then reply 4, 2 for other lists, and 7 with
+   its rule. */
 static void check_why(void)
 {
     static const uint32_t never[CNFTL_WHY_ENTRIES] = {
-        0, 0, 0, 0, 0, 0, 0, 0, CNFTL_WRITE_OPENS, 0, 0, 0
+        0, 0, 0, 0, 0, 0, 0, 0, CNFTL_WRITE_OPENS, 0, 0, 0, 0
     };
     static const uint32_t once[CNFTL_WHY_ENTRIES] = {
-        0, 0, 1, 1, 0, 0, 0, 0, CNFTL_WRITE_CONTINUES, 0, 1, 0
+        0, 0, 1, 1, 0, 0, 0, 0, CNFTL_WRITE_CONTINUES, 0, 1, 0, 1
     };
     static const uint32_t full[CNFTL_WHY_ENTRIES] = {
-        0, 0, 1, 1, 3, 1, 1, 1, CNFTL_WRITE_RECLAIMS, 0, 0, 0
+        0, 0, 1, 1, 3, 1, 1, 1, CNFTL_WRITE_RECLAIMS, 0, 0, 0, 1
     };
     static const uint32_t broken[CNFTL_WHY_ENTRIES] = {
-        CNFTL_NOT_ORDERLY, CNFTL_RULE_FST, 0, 0, 0, 0, 0, 0, 0, 0, 0, 0
+        CNFTL_NOT_ORDERLY, CNFTL_RULE_FST, 0, 0, 0, 0, 0, 0, 0, 0, 0, 0, 0
     };
     uint32_t list[CNFTL_WHY_ENTRIES];
 
@@ -240,10 +255,34 @@ static void check_why(void)
     assert(is(cnftl_board_why(&board, 3, list), CNFTL_ACCEPTED, 0, 0));
     assert(memcmp(list, full, sizeof list) == 0);
     assert(is(cnftl_board_why(&board, 12, list), CNFTL_BAD_ADDRESS, 0, 0));
+    assert(is(cnftl_why(CNFTL_BOARD(&board), 12, list, CNFTL_WHY_ENTRIES - 1),
+              CNFTL_WRONG_LENGTH, 0, 0));
     assert(memcmp(list, full, sizeof list) == 0);
     fst[1] = CNFTL_NONE;
     assert(is(cnftl_board_why(&board, 3, list), CNFTL_NOT_ORDERLY, 0, 0));
     assert(memcmp(list, broken, sizeof list) == 0);
+}
+
+/* The looks, on Board T with both frames of a block in one segment: none before
+   a write and after a release, else from the last programmed frame down. */
+static void check_looks(void)
+{
+    new_board();
+    board.params.beta = 2;
+    board.params.d = 1;
+    assert(is(cnftl_board_format(&board), CNFTL_ACCEPTED, 0, 5));
+    assert(looks_are(0, 0));
+    assert(is(cnftl_board_write(&board, 0, 2, data, 32), CNFTL_ACCEPTED,
+              2, 0));
+    assert(looks_are(0, 1) && looks_are(1, 1) && looks_are(4, 0));
+    assert(is(cnftl_board_write(&board, 4, 1, data, 16), CNFTL_ACCEPTED,
+              2, 0));
+    assert(looks_are(0, 2) && looks_are(4, 1) && looks_are(2, 0));
+    assert(is(cnftl_board_release(&board, 2), CNFTL_ACCEPTED, 0, 0));
+    assert(looks_are(0, 2) && looks_are(4, 0));
+    assert(is(cnftl_board_write(&board, 0, 1, data, 16), CNFTL_ACCEPTED,
+              2, 0));
+    assert(looks_are(0, 1));
 }
 
 /* The marks: a write sets one and clears one, a release clears one, and a call
@@ -328,6 +367,7 @@ int main(void)
     check_release();
     check_queue();
     check_why();
+    check_looks();
     check_marks();
     check_replies();
     printf("header: Board T answers as printed\n");
