@@ -3,9 +3,11 @@
  *
  * Both sides own a copy of one board.  Each call is made on both; then the
  * answers, every byte of chip, tables, data and lists, and the guard bytes
- * around each slice must be equal.  The model of a queue is single writes.  Accepted reads are also compared with a
- * plain record of the bytes last accepted for each sector (the shadow), and
- * what a why has told with the read and the write that follow it.
+ * around each slice must be equal.  The model of a queue is single writes.
+ * Accepted reads are also compared with a plain record of the bytes last
+ * accepted for each sector (the shadow), and what a why has told with the read
+ * and the write that follow it; their third count, which C does not get, is the
+ * model's.
  *
  *   fuzz [--calls N] [--seed S] [--mutant K]    compare
  *   fuzz --mutants                              list the model's mutants
@@ -235,6 +237,7 @@ static uint64_t items_seen[REPLIES]; /* replies to the items of queues */
 static uint64_t broken[RULES];   /* rules that a why has told */
 static uint64_t forecasts[4];    /* writes as a why has forecast them */
 static uint64_t held_reads;      /* reads of a frame that a why has told */
+static uint64_t looks_told[3];   /* third counts as told: 0, 1, and 2 or more */
 
 #define PARAMETERS(k)                                                          \
     (k)->p.s, (k)->p.alpha, (k)->p.beta, (k)->p.d, (k)->p.mu, (k)->p.gamma,    \
@@ -1208,6 +1211,21 @@ static bool is_marked(uint32_t cluster, uint32_t virtual_block, uint32_t frame)
     return (*mark_word(entry, frame) & mark_bit(frame)) != 0;
 }
 
+/* Compares the model's third count of the read or write just made with what a
+   why has told. */
+static void looked_as_told(const struct call *k, const uint32_t *list,
+                           uint64_t a)
+{
+    uint32_t looks = list[CNFTL_WHY_LOOKS];
+
+    if (looks != model_looks) {
+        printf("fuzz: %" PRIu32 " looks told, %" PRIu32 " by the model\n",
+               looks, model_looks);
+        differ(k, "the looks told", a, a);
+    }
+    looks_told[looks < 2 ? looks : 2]++;
+}
+
 /* Reads one sector, and compares it with the frame that a why has told. */
 static void read_as_told(struct call k, const uint32_t *list)
 {
@@ -1224,6 +1242,7 @@ static void read_as_told(struct call k, const uint32_t *list)
         && !is_marked(k.lba / par.alpha, list[CNFTL_WHY_VIRTUAL],
                       list[CNFTL_WHY_FRAME]))
         differ(&k, "the mark of the frame told", a, a);
+    looked_as_told(&k, list, a);
     held_reads += list[CNFTL_WHY_HELD];
 }
 
@@ -1248,6 +1267,7 @@ static void write_as_told(struct call k, const uint32_t *list)
         || !counted || !is_marked(cluster, list[CNFTL_WHY_TARGET],
                                   list[CNFTL_WHY_TAKES]))
         differ(&k, "the forecast", a, a);
+    looked_as_told(&k, list, a);
     forecasts[list[CNFTL_WHY_WRITE] % 4]++;
 }
 
@@ -1580,6 +1600,10 @@ static bool report(void)
            forecasts[3]);
     for (int i = 1; i < 4; i++)
         all = all && forecasts[i] > 0;
+    printf("fuzz: spare areas looked at, as told: none %" PRIu64 " times, one %"
+           PRIu64 " times, more %" PRIu64 " times\n", looks_told[0],
+           looks_told[1], looks_told[2]);
+    all = all && looks_told[0] > 0 && looks_told[1] > 0 && looks_told[2] > 0;
     for (int i = 1; i < RULES; i++) {
         printf("fuzz: rule %d told broken: %" PRIu64 " times\n", i, broken[i]);
         all = all && broken[i] > 0;
@@ -1587,10 +1611,10 @@ static bool report(void)
     return all;
 }
 
-/* The model's mutants, one a line: number, tab, name. */
+/* The model's mutants that calls from C show, one a line: number, tab, name. */
 static int list_mutants(void)
 {
-    for (int i = 1; i < MODEL_MUTANT_COUNT; i++)
+    for (int i = 1; i < MODEL_SEEN_FROM_C; i++)
         printf("%d\t%s\n", i, MODEL_MUTANTS[i]);
     return 0;
 }

@@ -13,11 +13,13 @@
 #include <string.h>
 
 int model_mutant = MODEL_RIGHT;
+uint32_t model_looks, model_item_looks[MODEL_ITEMS];
 
 #define MODEL_MUTANT_NAME(id, name) name,
 const char *const MODEL_MUTANTS[MODEL_MUTANT_COUNT] = {
     "the right model",
     MODEL_MUTANT_LIST(MODEL_MUTANT_NAME)
+    MODEL_ITEM_MUTANT_LIST(MODEL_MUTANT_NAME)
 };
 
 #define MUTANT(id) (model_mutant == MODEL_##id)
@@ -762,6 +764,32 @@ static struct spot valid_frame(const struct view *v, uint32_t cluster)
     return at;
 }
 
+/* The last programmed frame of a segment that has one, in its block. */
+static uint32_t last_taken(const struct view *v, uint32_t block,
+                           uint32_t segment)
+{
+    uint32_t frame = first_frame_of(&v->p, segment) + v->p.beta - 1;
+
+    while (!frame_taken(v, block, frame) && !MUTANT(LOOKS_ERASED))
+        frame--;
+    return frame;
+}
+
+/* T-08: "The search for a valid frame in a segment goes from the last
+   programmed frame of that segment down and looks at one spare area a frame."
+   How many it looks at for this cluster; "0 where CT has none". */
+static uint32_t looks_for(const struct view *v, uint32_t cluster)
+{
+    struct spot at = valid_frame(v, cluster);
+    uint32_t segment = v->ct[cluster];
+
+    if (!at.found)
+        return MUTANT(LOOKS_NONE);
+    if (MUTANT(LOOKS_UPWARD))
+        return at.frame - first_frame_of(&v->p, segment) + 1;
+    return last_taken(v, at.block, segment) - at.frame + !MUTANT(LOOKS_SHORT);
+}
+
 /* Read. "For each sector, the bytes at its place in the cluster's valid frame;
    255 if CT has none." */
 static void read_steps(const struct view *v, uint32_t lba, uint32_t count,
@@ -974,9 +1002,10 @@ static struct spot new_frame(struct lent *l, uint32_t region)
     return at;
 }
 
-/* What a write has done: the frames it copied and the blocks it erased. */
+/* What a write has done: the frames it copied, the blocks it erased, and the
+   spare areas it looked at. */
 struct work {
-    uint32_t copied, erases;
+    uint32_t copied, erases, looks;
 };
 
 /* "If there is no open block or it is full: the lowest virtual block without a
@@ -1017,20 +1046,34 @@ static void marks_after_write(struct lent *l, uint32_t region,
         word[w] |= before[w];
 }
 
+/* The looks of a write, from those in the state at entry, spoilt as the
+   mutants of T-08 would spoil them once the write has its frame. */
+static uint32_t looks_of_write(const struct view *v, uint32_t cluster,
+                               uint32_t count, const struct work *work)
+{
+    if (MUTANT(LOOKS_AFTER_RECLAIM))
+        return looks_for(v, cluster);
+    if (MUTANT(LOOKS_WHOLE) && count == v->p.alpha)
+        return 0;
+    return work->looks + (MUTANT(LOOKS_COPIES) ? work->copied : 0);
+}
+
 /* Write. "The new cluster is the old one ... with the given sectors replaced.
-   ... Then CT and FST name the segment just written." */
+   ... Then CT and FST name the segment just written."  T-08 counts the looks
+   "for the host's own cluster in the state at entry, not for copies". */
 static struct work write_steps(struct lent *l, uint32_t lba, uint32_t count,
                                const uint8_t *data)
 {
     const struct params *p = &l->v.p;
     uint32_t cluster = cluster_of(p, lba);
     struct spot old = valid_frame(&l->v, cluster), at;
-    struct work work = { 0, 0 };
+    struct work work = { 0, 0, looks_for(&l->v, cluster) };
     uint8_t bytes[16 * 512];
     uint32_t segment;
 
     load_old(&l->v, &old, bytes);
     at = take_frame(l, cluster, &work);
+    work.looks = looks_of_write(&l->v, cluster, count, &work);
     if (MUTANT(OLD_AFTER_ERASE))
         load_old(&l->v, &old, bytes);
     memcpy(bytes + lba % p->alpha * p->s, data, (size_t)count * p->s);
@@ -1054,12 +1097,15 @@ enum {
 enum {
     WHY_REPLY, WHY_RULE, WHY_HELD, WHY_REGION, WHY_SEGMENT, WHY_VIRTUAL,
     WHY_PHYSICAL, WHY_FRAME, WHY_WRITE, WHY_TARGET, WHY_TAKES, WHY_COPIES,
-    WHY_ENTRIES
+    WHY_LOOKS, WHY_ENTRIES
 };
 
-/* "reply + 65,536 * programs + 4,294,967,296 * erases" */
-static uint64_t answer(uint32_t reply, uint32_t programs, uint32_t erases)
+/* "reply + 65,536 * programs + 4,294,967,296 * erases .. Counts added later are
+   not in it": T-08's goes beside it. */
+static uint64_t answer(uint32_t reply, uint32_t programs, uint32_t erases,
+                       uint32_t looks)
 {
+    model_looks = looks;
     return reply + 65536 * (uint64_t)programs + 4294967296 * (uint64_t)erases;
 }
 
@@ -1146,19 +1192,20 @@ uint64_t model_format(uint32_t s, uint32_t alpha, uint32_t beta, uint32_t d,
     uint32_t reply = refuse_board(&p, &len), good;
 
     if (reply != ACCEPTED)
-        return answer(reply, 0, 0);
+        return answer(reply, 0, 0, 0);
     good = good_blocks(&l.v);
     if (good < mu * gamma + !MUTANT(FORMAT_BLOCKS_EXACT))
-        return answer(TOO_FEW_BLOCKS, 0, 0);
+        return answer(TOO_FEW_BLOCKS, 0, 0, 0);
     format_steps(&l);
     if (MUTANT(FORMAT_NO_ERASES))
         good = 0;
     if (MUTANT(FORMAT_COUNTS_BAD))
         good = n;
-    return answer(ACCEPTED, 0, good);
+    return answer(ACCEPTED, 0, good, 0);
 }
 
-/* "A read reports 0 and 0 and writes only its data buffer" */
+/* "A read reports 0 and 0 and writes only its data buffer".  T-08's looks come
+   as the third count. */
 uint64_t model_read(uint32_t s, uint32_t alpha, uint32_t beta, uint32_t d,
                     uint32_t mu, uint32_t gamma, uint32_t c, uint32_t n,
                     const uint8_t *chip, size_t chip_len,
@@ -1182,13 +1229,23 @@ uint64_t model_read(uint32_t s, uint32_t alpha, uint32_t beta, uint32_t d,
         reply = refuse_request(&v, lba, count, data_len);
     if (reply == NOT_ORDERLY && MUTANT(REFUSED_READ_CLEARS))
         memset(data, 255, data_len);
-    if (reply == ACCEPTED)
-        read_steps(&v, lba, count, data);
-    return answer(reply, 0, 0);
+    if (reply != ACCEPTED)
+        return answer(reply, 0, 0, 0);
+    read_steps(&v, lba, count, data);
+    return answer(ACCEPTED, 0, 0, looks_for(&v, cluster_of(&p, lba)));
+}
+
+/* The looks for a sector in any state, as mutants count them: none where it is
+   past the end or the state is not orderly. */
+static uint32_t looks_at(const struct view *v, uint32_t lba)
+{
+    if (address_bad(&v->p, lba) || !orderly(v))
+        return 0;
+    return looks_for(v, cluster_of(&v->p, lba));
 }
 
 /* "A write reports alpha x (frames copied + 1) pages programmed, and 1 erase
-   if it reclaimed, else 0." */
+   if it reclaimed, else 0."  T-08's looks come as the third count. */
 uint64_t model_write(uint32_t s, uint32_t alpha, uint32_t beta, uint32_t d,
                      uint32_t mu, uint32_t gamma, uint32_t c, uint32_t n,
                      uint8_t *chip, size_t chip_len,
@@ -1214,14 +1271,17 @@ uint64_t model_write(uint32_t s, uint32_t alpha, uint32_t beta, uint32_t d,
 
     if (reply == ACCEPTED)
         reply = refuse_request(&l.v, lba, count, data_len);
+    if (reply == WRONG_DATA && MUTANT(LOOKS_REFUSED))
+        return answer(reply, 0, 0, looks_at(&l.v, lba));
     if (reply != ACCEPTED)
-        return answer(reply, 0, 0);
+        return answer(reply, 0, 0, 0);
     work = write_steps(&l, lba, count, data);
     if (MUTANT(PROGRAMS_ALPHA))
         work.copied = 0;
     if (MUTANT(ERASE_UNCOUNTED))
         work.erases = 0;
-    return answer(ACCEPTED, alpha * (work.copied + 1), work.erases);
+    return answer(ACCEPTED, alpha * (work.copied + 1), work.erases,
+                  work.looks);
 }
 
 /* T-01: "8, after 2, when the answer list is shorter than the request list".
@@ -1260,13 +1320,22 @@ static uint64_t write_item(const struct lent *l, const struct lengths *len,
                  ? item[2] : 0;
 
     if (MUTANT(QUEUE_DATA_FIRST) && !lies)
-        return answer(WRONG_DATA, 0, 0);
+        return answer(WRONG_DATA, 0, 0, 0);
     return model_write(p->s, p->alpha, p->beta, p->d, p->mu, p->gamma, p->c,
                        p->n, l->chip, len->chip, l->ct, len->ct,
                        l->bt, len->bt, l->fst, len->fst, l->bst, len->bst,
                        l->wear, len->wear, l->marks, len->marks,
                        item[0], item[1], data + first,
                        lies ? (size_t)item[1] * p->s : 0);
+}
+
+/* Keeps the third count of an item that was just written. */
+static void keep_looks(size_t item, uint64_t answered, uint32_t at_entry)
+{
+    if (MUTANT(LOOKS_QUEUE_ENTRY) && answered % 65536 == ACCEPTED)
+        model_looks = at_entry;
+    if (item < MODEL_ITEMS)
+        model_item_looks[item] = model_looks;
 }
 
 /* "The chip, tables and answers equal those of single writes in list order; a
@@ -1277,14 +1346,19 @@ static void write_items(const struct lent *l, const struct lengths *len,
                         uint64_t *answers, size_t answers_len)
 {
     uint16_t before[MOST_REGIONS];
+    uint32_t at_entry[MODEL_ITEMS] = { 0 };
 
     memcpy(before, l->fst, len->fst * sizeof *before);
+    for (size_t i = 0; i < items && i < MODEL_ITEMS; i++)
+        if (MUTANT(LOOKS_QUEUE_ENTRY))
+            at_entry[i] = looks_at(&l->v, requests[3 * i]);
     for (size_t i = 0; i < items; i++) {
         size_t at = MUTANT(QUEUE_LATE) && i + 1 < answers_len ? i + 1 : i;
 
         if (MUTANT(QUEUE_OLD_STATE))
             memcpy(l->fst, before, len->fst * sizeof *before);
         answers[at] = write_item(l, len, requests + 3 * i, data, data_len);
+        keep_looks(i, answers[at], at_entry[i % MODEL_ITEMS]);
         if (MUTANT(QUEUE_STOPS) && answers[at] % 65536 != ACCEPTED)
             break;
     }
@@ -1316,21 +1390,22 @@ uint64_t model_queue(uint32_t s, uint32_t alpha, uint32_t beta, uint32_t d,
     uint32_t reply = refuse_board(&p, &len);
     uint32_t by_lists = refuse_queue(requests_len, answers_len);
 
+    memset(model_item_looks, 0, sizeof model_item_looks);
     if (reply == ACCEPTED
         || (reply == WRONG_LENGTH && by_lists == TOO_FEW_ANSWERS
             && MUTANT(QUEUE_8_FIRST)))
         reply = by_lists;
     if (reply != ACCEPTED && MUTANT(QUEUE_REFUSAL_FILLS) && answers_len > 0)
-        answers[0] = answer(reply, 0, 0);
+        answers[0] = answer(reply, 0, 0, 0);
     if (reply != ACCEPTED)
-        return answer(reply, 0, 0);
+        return answer(reply, 0, 0, 0);
     write_items(&l, &len, requests, requests_len / 3, data, data_len, answers,
                 answers_len);
     if (MUTANT(QUEUE_FILLS_PAST) && answers_len > requests_len / 3)
         answers[requests_len / 3] = 0;
     if (MUTANT(QUEUE_REPLIES_7) && !orderly(&l.v))
-        return answer(NOT_ORDERLY, 0, 0);
-    return answer(ACCEPTED, 0, 0);
+        return answer(NOT_ORDERLY, 0, 0, 0);
+    return answer(ACCEPTED, 0, 0, 0);
 }
 
 /* T-03: "Refusals: 1, 2, then 4 for a cluster not below C, then 7." */
@@ -1367,7 +1442,7 @@ uint64_t model_release(uint32_t s, uint32_t alpha, uint32_t beta, uint32_t d,
     if (reply == ACCEPTED)
         reply = refuse_release(&v, cluster);
     if (reply != ACCEPTED)
-        return answer(reply, 0, 0);
+        return answer(reply, 0, 0, 0);
     if (MUTANT(RELEASE_NEXT))
         cluster = (cluster + 1) % c;
     if (MUTANT(RELEASE_REGION))
@@ -1377,7 +1452,7 @@ uint64_t model_release(uint32_t s, uint32_t alpha, uint32_t beta, uint32_t d,
         ct[cluster] = NONE;
     if (!MUTANT(RELEASE_KEEPS_MARK))
         work_out_marks(&v, marks);
-    return answer(ACCEPTED, 0, MUTANT(RELEASE_COUNTS));
+    return answer(ACCEPTED, 0, MUTANT(RELEASE_COUNTS), 0);
 }
 
 /* T-05: "Refusals: 1, 2, 4, 7."  The list counts as one more length. */
@@ -1466,7 +1541,7 @@ static void tell_write(const struct view *v, uint32_t cluster, uint32_t *list)
 }
 
 /* T-05: "for one LBA, why it reads so and what a write would do: which reply"
-   and then the rest. */
+   and then the rest, and the looks that T-08 counts for both. */
 uint64_t model_why(uint32_t s, uint32_t alpha, uint32_t beta, uint32_t d,
                    uint32_t mu, uint32_t gamma, uint32_t c, uint32_t n,
                    const uint8_t *chip, size_t chip_len,
@@ -1490,7 +1565,7 @@ uint64_t model_why(uint32_t s, uint32_t alpha, uint32_t beta, uint32_t d,
         reply = refuse_why(&v, lba, list_len);
     if (reply != ACCEPTED && reply != NOT_ORDERLY
         && !(reply == BAD_ADDRESS && MUTANT(WHY_FILLS_4)))
-        return answer(reply, 0, 0);
+        return answer(reply, 0, 0, 0);
     for (int i = 0; i < WHY_ENTRIES; i++)
         list[i] = 0;
     list[WHY_REPLY] = reply;
@@ -1499,6 +1574,7 @@ uint64_t model_why(uint32_t s, uint32_t alpha, uint32_t beta, uint32_t d,
     if (reply == ACCEPTED) {
         tell_frame(&v, cluster_of(&p, lba), list);
         tell_write(&v, cluster_of(&p, lba), list);
+        list[WHY_LOOKS] = looks_for(&v, cluster_of(&p, lba));
     }
-    return answer(reply, 0, 0);
+    return answer(reply, 0, 0, 0);
 }

@@ -4,7 +4,8 @@
  *
  * The calls have the signatures of cnftl.h under the prefix model_.
  * A slice passes as a pointer and a length in elements, and the answer is
- * reply + 65,536 * programs + 4,294,967,296 * erases.
+ * reply + 65,536 * programs + 4,294,967,296 * erases.  The third count, the
+ * spare areas looked at, stands beside it in model_looks.
  */
 #ifndef MODEL_H
 #define MODEL_H
@@ -12,11 +13,15 @@
 #include "cnftl.h"
 #include "mutants.h"
 
-/* The numbers of the mutants: MODEL_RIGHT is 0, the others follow the list. */
+/* The numbers of the mutants: MODEL_RIGHT is 0, the others follow the lists.
+   Those from MODEL_SEEN_FROM_C on are of the second list. */
 #define MODEL_MUTANT_NUMBER(id, name) MODEL_##id,
 enum model_mutant_number {
     MODEL_RIGHT,
     MODEL_MUTANT_LIST(MODEL_MUTANT_NUMBER)
+    MODEL_SEEN_FROM_C,
+    MODEL_LAST_SEEN_FROM_C = MODEL_SEEN_FROM_C - 1,
+    MODEL_ITEM_MUTANT_LIST(MODEL_MUTANT_NUMBER)
     MODEL_MUTANT_COUNT
 };
 
@@ -25,6 +30,11 @@ extern int model_mutant;
 
 /* The names of the mutants by number. */
 extern const char *const MODEL_MUTANTS[MODEL_MUTANT_COUNT];
+
+/* The third count of the last call, and those of the first items of the last
+   queue. */
+enum { MODEL_ITEMS = 8 };
+extern uint32_t model_looks, model_item_looks[MODEL_ITEMS];
 
 extern __typeof__(cnftl_format) model_format;
 extern __typeof__(cnftl_read) model_read;

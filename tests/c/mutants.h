@@ -3,7 +3,7 @@
  * on.
  *
  * Mutant 0 is the right model.  Each of the others is switched on by its
- * number, counted from 1 in the order of this list, to show that a comparison
+ * number, counted from 1 in the order of these lists, to show that a comparison
  * with the model notices it.
  */
 #ifndef MUTANTS_H
@@ -132,6 +132,20 @@
     X(QUEUE_DATA_FIRST, "queue: 5 tested before 3 and 4")                      \
     X(QUEUE_SUM_WRAPS, "queue: first + count x s in 32 bits")                  \
     X(QUEUE_ONE_PAST, "queue: a byte past the data part")                      \
-    X(QUEUE_FIRST_ZERO, "queue: the bytes from the start of the data")
+    X(QUEUE_FIRST_ZERO, "queue: the bytes from the start of the data")         \
+    /* spare areas looked at */                                                \
+    X(LOOKS_UPWARD, "looks: counted from the segment's first frame up")        \
+    X(LOOKS_SHORT, "looks: the valid frame is not counted")                    \
+    X(LOOKS_ERASED, "looks: erased frames of the segment counted too")         \
+    X(LOOKS_NONE, "looks: one counted where CT has none")                      \
+    X(LOOKS_AFTER_RECLAIM, "looks: counted in the state after the reclaim")    \
+    X(LOOKS_COPIES, "looks: one counted for each copy too")                    \
+    X(LOOKS_WHOLE, "looks: none counted for a write of a whole cluster")
+
+/* Those that only the third counts of a queue's items show.  C does not get
+   them, so the test of crate pair alone notices these. */
+#define MODEL_ITEM_MUTANT_LIST(X)                                              \
+    X(LOOKS_REFUSED, "looks: counted for a write refused with 5 too")          \
+    X(LOOKS_QUEUE_ENTRY, "looks: an item's in the state before the queue")
 
 #endif
