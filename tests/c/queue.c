@@ -4,11 +4,14 @@
  *
  * C lends no such list, so the archive of crate pair makes one of two requests.
  * Each pair of writes goes to a copy of one board on both sides; then the
- * answers and every byte of chip and tables, and past their ends, must be equal.
+ * answers with their third counts, which C gets nowhere else, and every byte of
+ * chip and tables, and past their ends, must be equal.
  *
- *   queue PAIRS SEED
+ *   queue PAIRS SEED [MUTANT]    compare
+ *   queue --mutants              list the model's mutants of the third count
  *
- * Exit status: 0 all agree, 1 a difference or something never seen.
+ * Exit status: 0 all agree, 1 a difference or something never seen, 2 wrong
+ * use, 3 a difference while a mutant is on.
  */
 #include "model.h"
 
@@ -20,7 +23,8 @@
 #include <string.h>
 
 /* Two writes as one queue: returns the queue's own answer, and puts those of
-   the writes into a list of two places or more. */
+   the writes, and then their third counts, into a list of four places or
+   more. */
 uint64_t cnftl_queue_two(uint32_t s, uint32_t alpha, uint32_t beta, uint32_t d,
                          uint32_t mu, uint32_t gamma, uint32_t c, uint32_t n,
                          uint8_t *chip, size_t chip_len,
@@ -36,7 +40,7 @@ uint64_t cnftl_queue_two(uint32_t s, uint32_t alpha, uint32_t beta, uint32_t d,
                          uint64_t *answers, size_t answers_len);
 
 enum { CHIP, CT, BT, FST, BST, WEAR, MARKS, TABLES };
-enum { ROOM = 1 << 16, REPLIES = 9, PLACES = 4, MOST_DATA = 200 };
+enum { ROOM = 1 << 16, REPLIES = 9, PLACES = 6, FILLED = 4, MOST_DATA = 200 };
 
 static const size_t width[TABLES] = { 1, 2, 2, 2, 1, 4, 8 };
 /* Both sides' chip and tables: the product's, and the model's. */
@@ -45,6 +49,8 @@ static uint8_t data[MOST_DATA];
 static struct cnftl_params p;
 static size_t len[TABLES];
 static uint64_t own_seen[REPLIES], seen[REPLIES], reclaims;
+/* Writes that looked at two or more spare areas; that looked and reclaimed. */
+static uint64_t long_looks, reclaim_looks;
 
 static uint64_t rnd_state;
 
@@ -107,13 +113,40 @@ static void choose(uint32_t *request)
         request[below(3)] = UINT32_MAX - below(3);
 }
 
+/* Makes a list as lent into the one that the model's queue leaves: the two
+   answers and their third counts in front of four places or more. */
+static void put_answers(uint64_t *list, size_t places,
+                        const uint64_t *answers)
+{
+    if (places < FILLED)
+        return;
+    for (int i = 0; i < 2; i++) {
+        list[i] = answers[i];
+        list[2 + i] = model_item_looks[i];
+    }
+}
+
+/* Counts what was seen of two writes. */
+static void count_writes(const uint64_t *list)
+{
+    for (int i = 0; i < 2; i++) {
+        bool reclaimed = cnftl_erases_of(list[i]) == 1;
+
+        seen[cnftl_reply_of(list[i]) % REPLIES]++;
+        reclaims += reclaimed;
+        long_looks += list[2 + i] >= 2;
+        reclaim_looks += reclaimed && list[2 + i] >= 1;
+    }
+}
+
 /* One pair of writes on both sides. */
 static void compare(uint64_t pair)
 {
     uint32_t r[6], wrong = below(200);
-    uint64_t by_product[PLACES], by_model[PLACES] = { 0, 0 }, own;
+    uint64_t by_product[PLACES], by_model[PLACES], answers[2] = { 0, 0 }, own;
     size_t data_len = below(20) == 0 ? below(MOST_DATA) : MOST_DATA;
-    size_t places = below(PLACES + 1);
+    size_t places = below(10) == 0 ? below(FILLED)
+                                   : FILLED + below(PLACES - FILLED + 1);
     struct cnftl_params right = p;
     size_t right_len[TABLES];
     bool same;
@@ -128,31 +161,45 @@ static void compare(uint64_t pair)
     if (wrong == 1)
         len[below(TABLES)]--;
     memset(by_product, 170, sizeof by_product);
+    memset(by_model, 170, sizeof by_model);
     own = cnftl_queue_two(LENT(0), r[0], r[1], r[2], r[3], r[4], r[5],
                           data, data_len, by_product, places);
-    same = own == model_queue(LENT(1), r, 6, data, data_len, by_model, 2);
-    if (places < 2)
-        memset(by_model, 170, sizeof by_model);
-    memset(by_model + 2, 170, sizeof by_model - 2 * sizeof *by_model);
+    same = own == model_queue(LENT(1), r, 6, data, data_len, answers, 2);
+    put_answers(by_model, places, answers);
     if (!same || memcmp(by_product, by_model, sizeof by_model) != 0
         || memcmp(lent[0], lent[1], sizeof lent[0]) != 0) {
         printf("queue: difference at pair %" PRIu64 "\n", pair);
-        exit(1);
+        exit(model_mutant == MODEL_RIGHT ? 1 : 3);
     }
     own_seen[cnftl_reply_of(own) % REPLIES]++;
-    for (int i = 0; places >= 2 && cnftl_reply_of(own) == 0 && i < 2; i++) {
-        seen[cnftl_reply_of(by_product[i]) % REPLIES]++;
-        reclaims += cnftl_erases_of(by_product[i]);
-    }
+    if (places >= FILLED && cnftl_reply_of(own) == CNFTL_ACCEPTED)
+        count_writes(by_product);
     p = right;
     memcpy(len, right_len, sizeof len);
+}
+
+/* The model's mutants of T-08, one a line: number, tab, name. */
+static int list_mutants(void)
+{
+    for (int i = 1; i < MODEL_MUTANT_COUNT; i++)
+        if (strncmp(MODEL_MUTANTS[i], "looks: ", 7) == 0)
+            printf("%d\t%s\n", i, MODEL_MUTANTS[i]);
+    return 0;
 }
 
 int main(int argc, char **argv)
 {
     uint64_t pairs, boards = 0;
 
-    assert(argc == 3);
+    if (argc == 2 && strcmp(argv[1], "--mutants") == 0)
+        return list_mutants();
+    if (argc == 4)
+        model_mutant = (int)strtoul(argv[3], NULL, 10);
+    if (argc < 3 || argc > 4 || model_mutant >= MODEL_MUTANT_COUNT) {
+        fprintf(stderr, "use: queue PAIRS SEED [MUTANT]\n"
+                        "     queue --mutants\n");
+        return 2;
+    }
     pairs = strtoull(argv[1], NULL, 10);
     rnd_state = strtoull(argv[2], NULL, 10);
     for (uint64_t i = 0; i < pairs; i++) {
@@ -169,6 +216,9 @@ int main(int argc, char **argv)
     for (int i = 0; i < REPLIES; i++)
         printf("  reply %d: %" PRIu64 " queues, %" PRIu64 " writes\n", i,
                own_seen[i], seen[i]);
+    printf("  %" PRIu64 " writes looked at two spare areas or more, %" PRIu64
+           " at one or more and reclaimed\n", long_looks, reclaim_looks);
     return !(own_seen[0] && own_seen[1] && own_seen[2] && seen[0] && seen[3]
-             && seen[4] && seen[5] && seen[7] && reclaims);
+             && seen[4] && seen[5] && seen[7] && reclaims && long_looks
+             && reclaim_looks);
 }
