@@ -163,6 +163,24 @@ static void tell_rule(const uint32_t *list)
            rule_text(list[CNFTL_WHY_RULE]));
 }
 
+/* Tells how many spare areas the search for the sector's frame looks at, and of
+   which frames: from the last programmed one of its segment down. */
+static void tell_looks(const uint32_t *list)
+{
+    uint32_t looks = list[CNFTL_WHY_LOOKS], frame = list[CNFTL_WHY_FRAME];
+
+    if (looks == 0)
+        printf("A read or a write of it looks at no spare area.\n");
+    else if (looks == 1)
+        printf("A read or a write of it looks at 1 spare area: that of frame "
+               "%lu.\n", (unsigned long)frame);
+    else
+        printf("A read or a write of it looks at %lu spare areas: those of "
+               "frames %lu%s%lu.\n", (unsigned long)looks,
+               (unsigned long)(frame + looks - 1),
+               looks == 2 ? " and " : " down to ", (unsigned long)frame);
+}
+
 /* Tells where the sector is held, if it is. */
 static void tell_read(const struct cnftl_board *b, const uint32_t *list)
 {
@@ -240,6 +258,7 @@ int main(int argc, char **argv)
         tell_rule(list);
     } else {
         tell_read(&b, list);
+        tell_looks(list);
         tell_write(&b, cluster % b.params.mu, list);
     }
     image_free_board(&b);

@@ -36,11 +36,13 @@ complains() {
     [ "$status" -eq "$expected" ] && [ ! -s "$room/out" ] && [ "$(wc -l <"$room/err")" -eq 1 ] && grep -q -F -e "$text" "$room/err"
 }
 
-# `broken COPY OFFSET BYTES` copies the image and puts bytes, as printf takes them, at an offset (docs/IMAGE.md).
-broken() {
-    cp "$room/board" "$1" && printf "$3" | dd of="$1" bs=1 seek="$2" conv=notrunc 2>"$room/err"
-}
-fst=3936 bst=3940 marks=3990 # where these tables begin in control's images
+# `put IMAGE OFFSET BYTES` puts bytes, as printf takes them, at an offset (docs/IMAGE.md).
+put() { printf "$3" | dd of="$1" bs=1 seek="$2" conv=notrunc 2>"$room/err"; }
+
+# `broken COPY OFFSET BYTES` copies the image and does so with the copy.
+broken() { cp "$room/board" "$1" && put "$1" "$2" "$3"; }
+ct=3884 fst=3936 bst=3940 marks=3990 # where these tables begin in control's images
+page=48 spare=32                     # bytes of a page, and where its spare area begins; the chip begins at 44
 
 check "control builds" build control
 check "cnftl-why builds" build cnftl-why
@@ -52,6 +54,7 @@ It reads from frame 1 of physical block 0,
   which is virtual block 0 of region 0; segment 0 there:
     segment     0  SV
                     ^
+A read or a write of it looks at 1 spare area: that of frame 1.
 A write continues the open block: it takes frame 2 of virtual block 0,
   physical block 0, and programs 2 pages:
     segment     0  SV
@@ -60,10 +63,52 @@ A write continues the open block: it takes frame 2 of virtual block 0,
 V valid, S stale, E erased, one letter a frame; ^ the frame meant
 END
 
+# Frame 1 holds cluster 2 in place of cluster 0, so that the two clusters share segment 0.
+shared() {
+    broken "$1" $((44 + 2 * page + spare)) '\002' && put "$1" $((44 + 3 * page + spare)) '\002' &&
+        put "$1" $((ct + 2 * 2)) '\000\000' && put "$1" "$marks" '\003'
+}
+check "two clusters in one segment" shared "$room/shared"
+check "the frame below the last one" tells 0 "$room/shared" 0 <<'END'
+Sector 0 is at place 0 of cluster 0, in region 0.
+It reads from frame 0 of physical block 0,
+  which is virtual block 0 of region 0; segment 0 there:
+    segment     0  VV
+                   ^
+A read or a write of it looks at 2 spare areas: those of frames 1 and 0.
+A write continues the open block: it takes frame 2 of virtual block 0,
+  physical block 0, and programs 2 pages:
+    segment     0  VV
+    segment     1  EE
+                   ^
+V valid, S stale, E erased, one letter a frame; ^ the frame meant
+END
+check "the last one needs one look" grep -q '^A read or a write of it looks at 1 spare area: that of frame 1.$' \
+    <(run "$room/cnftl-why" "$room/shared" 5)
+
+# Frame 1 is erased, and cluster 0 reads from frame 0 again.
+halved() { broken "$1" $((44 + 2 * page)) "$(printf '\\377%.0s' $(seq $((2 * page))))" && put "$1" "$marks" '\001'; }
+check "a segment whose second frame is erased" halved "$room/halved"
+check "an erased frame is not looked at" tells 0 "$room/halved" 1 <<'END'
+Sector 1 is at place 1 of cluster 0, in region 0.
+It reads from frame 0 of physical block 0,
+  which is virtual block 0 of region 0; segment 0 there:
+    segment     0  VE
+                   ^
+A read or a write of it looks at 1 spare area: that of frame 0.
+A write continues the open block: it takes frame 1 of virtual block 0,
+  physical block 0, and programs 2 pages:
+    segment     0  VE
+                    ^
+    segment     1  EE
+V valid, S stale, E erased, one letter a frame; ^ the frame meant
+END
+
 check "two blocks full" control 2
 check "a sector that was not written, and the write opens a block" tells 0 "$room/board" 39 <<'END'
 Sector 39 is at place 1 of cluster 19, in region 1.
 It reads as 255 throughout: no frame holds its cluster.
+A read or a write of it looks at no spare area.
 A write opens virtual block 1: it takes frame 0 of a free block,
   and programs 2 pages:
     segment     2  EE
@@ -107,6 +152,7 @@ It reads from frame 3 of physical block 5,
   which is virtual block 2 of region 1; segment 5 there:
     segment     5  SV
                     ^
+A read or a write of it looks at 1 spare area: that of frame 3.
 A write reclaims virtual block 0: it copies 2 valid frames to a free block,
   takes frame 2 there, programs 6 pages, and erases physical block 1:
     segment     0  SV
