@@ -1,3 +1,5 @@
 pub mod Shares
 pub mod Rows
 pub mod Copied
+pub mod Sums
+pub mod Room

@@ -1,0 +1,166 @@
+-- The room of a region, the frames of its virtual blocks that are not programmed, and what an accepted write does to it: one that continues or opens a block takes one
+-- frame of it; one that reclaims finds none, since every block is full, and leaves G − 1 frames or more, since it copies at most a γ-th of L.
+-- Assumes nothing.
+use Prim.Native.Nat.{ℕ, suc, _+_, _-_, _*_, _≤_, _<_}
+use mathlib.Core.Path.{_≡_, refl, sym, ap, _∙_}
+use mathlib.Core.Logic.{_⊎_, inl, inr}
+use mathlib.Core.Bool.{true, false}
+use mathlib.Core.List.{List, [], _∷_}
+use native.Mathlib.Decide.{ℕ-discrete}
+use native.Mathlib.Nat.{mod-lt}
+use native.Mathlib.Omega.{arith}
+use lib.Dec.{eqb, ltb}
+use lib.ListN.{length}
+use borrow.Author.Tests.{ltb-false}
+use Rattle.lists.specs.Parts.{allAre}
+use Rattle.lists.proofs.Joins.{allAre-part}
+use Rattle.lists.proofs.Tests.{count-is, so}
+use Rattle.rules.specs.declared.Params.{Params}
+use Rattle.rules.specs.declared.Reply.the-variants.{Accepted}
+use Rattle.rules.specs.Parameters.{frameBytes, frames}
+use Rattle.rules.specs.Numbers.{regionOf}
+use Rattle.rules.specs.Tables.{Board, none}
+use Rattle.rules.specs.Pages.{filled, frame, programmed}
+use Rattle.rules.specs.Regions.{View, assigned, validFrames, view}
+use Rattle.rules.specs.Requests.{Request, requestCluster, requestRegion, write}
+use Rattle.rules.specs.Write.{Plan, hasRoom, lowestUnassigned, newFrame, planErases, planFrame, planOf, planVBlock, victim, written}
+use Rattle.rules.specs.Machine.{viewAfter, withFrame, withRoom}
+use Rattle.rules.specs.Replies.{OrderlyBoard, replyOf}
+use Rattle.rules.specs.Words.{OpensListed, PlanListed, ReclaimsListed}
+use Rattle.rules.proofs.Admitted.{Admitted, admitted, write-checks}
+use Rattle.rules.proofs.Continues.{Makes}
+use Rattle.rules.proofs.FramePut.{Sheet, body-old, frame-new, frame-old}
+use Rattle.rules.proofs.Frames.{erased-not, marked-programmed}
+use Rattle.rules.proofs.NewFrames.{host-sheet}
+use Rattle.rules.proofs.Opens.{all-full}
+use Rattle.rules.proofs.RegionFacts.{Neat, neat}
+use Rattle.rules.proofs.RegionKept.{Base}
+use Rattle.rules.proofs.Sizes.{Sizes}
+use Rattle.rules.proofs.Views.{body-none, body-size, no-block}
+use Rattle.rules.proofs.Words.{plan-exactly}
+use Rattle.rules.proofs.WritePromise.{makes, write-promise}
+use Rattle.erases.specs.Erases.{clustersIn, spareShare}
+use Rattle.erases.proofs.Copied.{copied-few}
+use Rattle.erases.proofs.Rows.{Turn}
+use Rattle.erases.proofs.Shares.{share-left}
+use Rattle.erases.proofs.Sums.{sum-but, sum-zero, sumBelow}
+
+unfoldable pub room : Params → View → ℕ
+room p vw = sumBelow (p .gamma) (λ v. frames p - filled p (vw .body v))
+
+-- no frame of a virtual block without a physical one is programmed
+pub filled-none : (p : Params) → filled p [] ≡ 0
+unfolding filled frame
+filled-none p = count-is (frames p) 0 _ (omega arith) (λ f h. absurd (omega arith)) (λ f h k. erased-not p (frame p [] f) (allAre-part 255 (frameBytes p) f [] (unfold allAre in refl)))
+
+bare-none : (p : Params) (blk : List ℕ) → ltb 0 (length blk) ≡ false → filled p blk ≡ 0
+bare-none p [] h = filled-none p
+bare-none p (x ∷ blk) h = absurd (omega (arith, ltb-false 0 (length (x ∷ blk)) h))
+
+-- ---- what a plan finds
+
+-- that its block has as many programmed frames as the number of the frame that it writes; or, to reclaim, that every block is full, and few frames to copy
+abbrev Found : Params → ℕ → View → Plan → Type 0
+Found p r vw pl =
+    ((planErases pl ≡ 0) × (filled p (vw .body (planVBlock pl)) ≡ planFrame p vw pl))
+    ⊎ ((planErases pl ≡ 1) × ((u : ℕ) → u < p .gamma → filled p (vw .body u) ≡ frames p) × (p .gamma * planFrame p vw pl ≤ clustersIn p r))
+
+found : (p : Params) → Sizes p → (r : ℕ) (vw : View) → Neat p r vw → PlanListed p vw (planOf p vw) → Found p r vw (planOf p vw)
+unfolding planOf planErases planVBlock planFrame assigned
+found p z r vw neat = go (so (hasRoom p vw)) (so (eqb (lowestUnassigned p vw) none))
+  where
+    go : (hasRoom p vw ≡ true) ⊎ (hasRoom p vw ≡ false) → (eqb (lowestUnassigned p vw) none ≡ true) ⊎ (eqb (lowestUnassigned p vw) none ≡ false)
+        → PlanListed p vw (planOf p vw) → Found p r vw (planOf p vw)
+    go (inl h) s l = rw h (inl (refl, refl))
+    go (inr h) (inl e) l =
+        let w : ReclaimsListed p vw (victim p vw) = rw (h, e) at l in
+        rw (h, e) (inr (refl, λ u k. all-full p z r vw neat h u k (w .every u k), copied-few p z r vw neat h (w .every) (length (validFrames p vw (victim p vw))) (w .fewest)))
+    go (inr h) (inr e) l =
+        let w : OpensListed p vw (lowestUnassigned p vw) = rw (h, e) at l in
+        rw (h, e) (inl (refl, bare-none p (vw .body (lowestUnassigned p vw)) (w .bare)))
+
+-- ---- the block that is written
+
+module _ (p : Params) (z : Sizes p) (r : ℕ) (vw : View) (v f c : ℕ) (x : List ℕ) (base : Base p r vw v f) (sheet : Sheet p c x) where
+  filled-new : filled p ((withFrame p vw v f c x) .body v) ≡ suc f
+  unfolding filled
+  filled-new = count-is (frames p) (suc f) _ (base .ready .low) (λ g h. front g h (ℕ-discrete g f)) rest
+    where
+      front : (g : ℕ) → g < suc f → Dec (g ≡ f) → programmed p (frame p ((withFrame p vw v f c x) .body v) g) ≡ true
+      front g h (yes e) = rw (e, frame-new p z vw v f c x (base .ready) sheet) (marked-programmed p x c (sheet .marked 0 (z .sectors)))
+      front g h (no e) =
+          rw (frame-old p z vw v f c x (base .ready) sheet g e)
+          (marked-programmed p (frame p (vw .body v) g) _ ((base .front .front g (omega arith) (omega (arith, base .ready .low))) .marks 0 (z .sectors)))
+
+      rest : (g : ℕ) → suc f ≤ g → g < frames p → programmed p (frame p ((withFrame p vw v f c x) .body v) g) ≡ false
+      rest g h k = rw (frame-old p z vw v f c x (base .ready) sheet g (omega arith)) (erased-not p (frame p (vw .body v) g) (base .ready .rest g (omega arith) k))
+
+-- ---- an accepted write
+
+module _ (p : Params) (b : Board) (q : Request) (e : replyOf p b (write q) ≡ Accepted) where
+  abbrev r : ℕ
+  r = requestRegion p q
+
+  abbrev before : View
+  before = view p b r
+
+  abbrev plan : Plan
+  plan = planOf p before
+
+  acc : Admitted p b q
+  acc = admitted p b q (write-checks p b q e)
+
+  region : r < p .mu
+  region = mod-lt (requestCluster p q) (acc .sized .regions)
+
+  neat-r : Neat p r before
+  neat-r = neat p r before (acc .tidy r region)
+
+  made : Makes p b r plan
+  made = makes p (acc .sized) b (acc .tables) r region neat-r
+
+  sheet : Sheet p (requestCluster p q) (newFrame p before q)
+  sheet =
+      host-sheet p (acc .sized) before (λ u h a. body-size p (acc .sized) b (acc .tables) r u region h a) q (acc .asked) (neat-r .entries (requestCluster p q) (acc .asked .cluster))
+
+  -- one frame more of its block is programmed, and every other block is as it was
+  here : filled p ((view p (written p b q) r) .body (planVBlock plan)) ≡ suc (planFrame p before plan)
+  here = rw ((write-promise p b q e) .own) (unfold viewAfter in filled-new p (acc .sized) r (withRoom p before plan) (planVBlock plan) (planFrame p before plan) (requestCluster p q) (newFrame p before q) (made .base) sheet)
+
+  elsewhere : (u : ℕ) → (u ≡ planVBlock plan → ⊥) → (view p (written p b q) r) .body u ≡ before .body u
+  elsewhere u ne =
+      rw ((write-promise p b q e) .own)
+      (unfold viewAfter in
+      (body-old p (acc .sized) (withRoom p before plan) (planVBlock plan) (planFrame p before plan) (requestCluster p q) (newFrame p before q) (made .base .ready) sheet u ne ∙ made .room .bodyElse u ne))
+
+  listed : PlanListed p before plan
+  listed = let c = write-checks p b q e in plan-exactly p b (record { fine = c .fine; lengths = c .lengths; tidy = c .tidy }) r region
+
+  -- so by what the plan found
+  pub write-turn : Turn (spareShare p r) (room p before) (planErases plan) (room p (view p (written p b q) r))
+  unfolding room
+  write-turn = go (found p (acc .sized) r before neat-r listed)
+    where
+      v : ℕ
+      v = planVBlock plan
+
+      after : View
+      after = view p (written p b q) r
+
+      f : ℕ
+      f = planFrame p before plan
+
+      but : room p after + (frames p - filled p (before .body v)) ≡ room p before + (frames p - filled p (after .body v))
+      but =
+          sum-but (p .gamma) (λ u. frames p - filled p (before .body u)) (λ u. frames p - filled p (after .body u)) v (made .base .ready .mine)
+          (λ u h ne. ap (λ (l : List ℕ). frames p - filled p l) (sym (elsewhere u ne)))
+
+      go : Found p r before plan → Turn (spareShare p r) (room p before) (planErases plan) (room p after)
+      go (inl w) = inl (w .0, omega (arith, but, here, w .1, made .base .ready .low))
+      go (inr w) =
+          let none-left : room p before ≡ 0 = sum-zero (p .gamma) (λ u. frames p - filled p (before .body u)) (λ u h. omega (arith, w .1 u h)) in
+          inr (
+            w .0,
+            none-left,
+            omega (arith, but, here, none-left, w .1 v (made .base .ready .mine), made .base .ready .low, share-left p (acc .sized) r f (omega (arith, made .base .ready .low)) (w .2)),
+          )
