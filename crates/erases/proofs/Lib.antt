@@ -3,3 +3,4 @@ pub mod Rows
 pub mod Copied
 pub mod Sums
 pub mod Room
+pub mod Erases

@@ -22,19 +22,23 @@ use Rattle.rules.specs.Numbers.{regionOf}
 use Rattle.rules.specs.Tables.{Board, none}
 use Rattle.rules.specs.Pages.{filled, frame, programmed}
 use Rattle.rules.specs.Regions.{View, assigned, validFrames, view}
-use Rattle.rules.specs.Requests.{Request, requestCluster, requestRegion, write}
+use Rattle.rules.specs.Requests.{Request, format, requestCluster, requestRegion, write}
+use Rattle.rules.specs.Format.{formatted}
+use Rattle.rules.specs.Release.{released}
 use Rattle.rules.specs.Write.{Plan, hasRoom, lowestUnassigned, newFrame, planErases, planFrame, planOf, planVBlock, victim, written}
-use Rattle.rules.specs.Machine.{viewAfter, withFrame, withRoom}
+use Rattle.rules.specs.Machine.{viewAfter, withFrame, withRoom, without}
 use Rattle.rules.specs.Replies.{OrderlyBoard, replyOf}
 use Rattle.rules.specs.Words.{OpensListed, PlanListed, ReclaimsListed}
 use Rattle.rules.proofs.Admitted.{Admitted, admitted, write-checks}
 use Rattle.rules.proofs.Continues.{Makes}
+use Rattle.rules.proofs.FormatPromise.{lacks}
 use Rattle.rules.proofs.FramePut.{Sheet, body-old, frame-new, frame-old}
 use Rattle.rules.proofs.Frames.{erased-not, marked-programmed}
 use Rattle.rules.proofs.NewFrames.{host-sheet}
 use Rattle.rules.proofs.Opens.{all-full}
 use Rattle.rules.proofs.RegionFacts.{Neat, neat}
 use Rattle.rules.proofs.RegionKept.{Base}
+use Rattle.rules.proofs.Releases.{released-view}
 use Rattle.rules.proofs.Sizes.{Sizes}
 use Rattle.rules.proofs.Views.{body-none, body-size, no-block}
 use Rattle.rules.proofs.Words.{plan-exactly}
@@ -43,7 +47,7 @@ use Rattle.erases.specs.Erases.{clustersIn, spareShare}
 use Rattle.erases.proofs.Copied.{copied-few}
 use Rattle.erases.proofs.Rows.{Turn}
 use Rattle.erases.proofs.Shares.{share-left}
-use Rattle.erases.proofs.Sums.{sum-but, sum-zero, sumBelow}
+use Rattle.erases.proofs.Sums.{sum-but, sum-le, sum-zero, sumBelow}
 
 unfoldable pub room : Params → View → ℕ
 room p vw = sumBelow (p .gamma) (λ v. frames p - filled p (vw .body v))
@@ -164,3 +168,17 @@ module _ (p : Params) (b : Board) (q : Request) (e : replyOf p b (write q) ≡ A
             none-left,
             omega (arith, but, here, none-left, w .1 v (made .base .ready .mine), made .base .ready .low, share-left p (acc .sized) r f (omega (arith, made .base .ready .low)) (w .2)),
           )
+
+-- ---- an accepted format, and a release
+
+-- a format leaves no frame of a region programmed
+pub format-room : (p : Params) (b : Board) (r : ℕ) → replyOf p b format ≡ Accepted → room p (view p b r) ≤ room p (view p (formatted p b) r)
+unfolding room assigned
+format-room p b r e =
+    sum-le (p .gamma) (λ v. frames p - filled p ((view p b r) .body v)) (λ v. frames p - filled p ((view p (formatted p b) r) .body v))
+    (λ v h. omega (arith, bare-none p ((view p (formatted p b) r) .body v) (lacks p b e r v)))
+
+-- a release changes no block
+pub release-room : (p : Params) (b : Board) (c r : ℕ) → room p (view p (released p b c) r) ≡ room p (view p b r)
+unfolding room without
+release-room p b c r = rw (released-view p b c r)
