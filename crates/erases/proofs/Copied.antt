@@ -1,8 +1,8 @@
 -- What a reclaim copies is at most a γ-th of L: every virtual block has at least as many valid frames as the victim, and no two valid frames of the region hold the
 -- same cluster, so there is an injection from these frames to the region's clusters.
 -- Assumes nothing.
-use Prim.Native.Nat.{ℕ, zero, suc, _+_, _*_, _/_, _%_, _≤_, _<_}
-use mathlib.Core.Path.{_≡_, refl, sym, ap, ap₂, _∙_}
+use Prim.Native.Nat.{ℕ, zero, suc, _*_, _/_, _%_, _≤_, _<_}
+use mathlib.Core.Path.{_≡_, refl, sym, ap₂, _∙_}
 use mathlib.Core.Bool.{true, false}
 use native.Mathlib.Nat.{div-lt-iff-lt-mul, mod-lt}
 use native.Mathlib.Omega.{arith}
@@ -46,8 +46,10 @@ module _ (p : Params) (z : Sizes p) (r : ℕ) (vw : View) (neat : Neat p r vw) (
   same : (i j : ℕ) → i < p .gamma * m → j < p .gamma * m → clusterAt i ≡ clusterAt j → i ≡ j
   unfolding clusterAt
   same i j h k e =
-      let one = valid-one p z vw (i / m) (frameAt i) (j / m) (frameAt j) ((nth i h) .0) ((nth j k) .0) (valid-in p vw (i / m) (frameAt i) ((nth i h) .1)) (valid-in p vw (j / m) (frameAt j) ((nth j k) .1)) e in
-      rejoin m i j (one .0) (sym ((nth i h) .2) ∙ ap₂ (λ (f u : ℕ). countBelow f (valid p vw u)) (one .1) (one .0) ∙ (nth j k) .2)
+      let a = nth i h in
+      let c = nth j k in
+      let one = valid-one p z vw (i / m) (frameAt i) (j / m) (frameAt j) (a .0) (c .0) (valid-in p vw (i / m) (frameAt i) (a .1)) (valid-in p vw (j / m) (frameAt j) (c .1)) e in
+      rejoin m i j (one .0) (sym (a .2) ∙ ap₂ (λ (f u : ℕ). countBelow f (valid p vw u)) (one .1) (one .0) ∙ c .2)
 
   some-few : p .gamma * m ≤ clustersIn p r
   unfolding clustersIn clusterAt

@@ -2,10 +2,10 @@
 -- them in a row bring few erases.
 -- Assumes nothing.
 use Prim.Native.Nat.{ℕ, _≤_, _<_}
-use mathlib.Core.Path.{_≡_, refl, sym, ap, _∙_}
+use mathlib.Core.Path.{_≡_, refl, sym, _∙_}
 use mathlib.Core.Logic.{_⊎_, inl, inr}
 use mathlib.Core.Bool.{Bool, true, false, _&&_, cond}
-use mathlib.Core.List.{List, [], _∷_, _++_, map}
+use mathlib.Core.List.{List, [], _∷_, map}
 use native.Mathlib.Decide.{ℕ-discrete}
 use native.Mathlib.Omega.{arith}
 use borrow.Author.Tests.{eq-eqb, ne-eqb}
@@ -15,7 +15,6 @@ use Rattle.rules.specs.Tables.{Board}
 use Rattle.rules.specs.Regions.{view}
 use Rattle.rules.specs.Requests.{Call, Request, format, queue, read, release, requestRegion, write}
 use Rattle.rules.specs.Replies.{OrderlyBoard, isAccepted, replyOf}
-use Rattle.rules.specs.Write.{planErases, planOf}
 use Rattle.rules.specs.Calls.{Part, outcomeOf}
 use Rattle.rules.proofs.Admitted.{format-admitted}
 use Rattle.rules.proofs.Outcomes.{reply-cases, reply-is}
@@ -26,7 +25,7 @@ use Rattle.claims.proofs.Condition1.{condition-1}
 use Rattle.claims.proofs.Kept.{accepted-orderly, orderly-kept}
 use Rattle.claims.proofs.Singles.{AllSingle, Single, all-single, parts-same, refused-leaves, singlesOf}
 use Rattle.claims.proofs.Steps.{format-leaves, partOf, parts-step, read-leaves, release-leaves, write-leaves}
-use Rattle.erases.specs.Erases.{ErasesPerRegion, acceptedWrites, erasesBy, isWrite, roundedUp, spareShare, total}
+use Rattle.erases.specs.Erases.{ErasesPerRegion, acceptedWrites, erasesBy, isWrite, spareShare}
 use Rattle.erases.proofs.Room.{format-room, release-room, room, write-turn}
 use Rattle.erases.proofs.Rows.{Spaced, Turn, few-erases, less-room}
 use Rattle.erases.proofs.Shares.{share-some}

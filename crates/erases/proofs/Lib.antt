@@ -4,3 +4,4 @@ pub mod Copied
 pub mod Sums
 pub mod Room
 pub mod Erases
+pub mod Reached

@@ -18,7 +18,6 @@ use Rattle.lists.proofs.Tests.{count-is, so}
 use Rattle.rules.specs.declared.Params.{Params}
 use Rattle.rules.specs.declared.Reply.the-variants.{Accepted}
 use Rattle.rules.specs.Parameters.{frameBytes, frames}
-use Rattle.rules.specs.Numbers.{regionOf}
 use Rattle.rules.specs.Tables.{Board, none}
 use Rattle.rules.specs.Pages.{filled, frame, programmed}
 use Rattle.rules.specs.Regions.{View, assigned, validFrames, view}
@@ -27,7 +26,7 @@ use Rattle.rules.specs.Format.{formatted}
 use Rattle.rules.specs.Release.{released}
 use Rattle.rules.specs.Write.{Plan, hasRoom, lowestUnassigned, newFrame, planErases, planFrame, planOf, planVBlock, victim, written}
 use Rattle.rules.specs.Machine.{viewAfter, withFrame, withRoom, without}
-use Rattle.rules.specs.Replies.{OrderlyBoard, replyOf}
+use Rattle.rules.specs.Replies.{replyOf}
 use Rattle.rules.specs.Words.{OpensListed, PlanListed, ReclaimsListed}
 use Rattle.rules.proofs.Admitted.{Admitted, admitted, write-checks}
 use Rattle.rules.proofs.Continues.{Makes}
@@ -40,7 +39,7 @@ use Rattle.rules.proofs.RegionFacts.{Neat, neat}
 use Rattle.rules.proofs.RegionKept.{Base}
 use Rattle.rules.proofs.Releases.{released-view}
 use Rattle.rules.proofs.Sizes.{Sizes}
-use Rattle.rules.proofs.Views.{body-none, body-size, no-block}
+use Rattle.rules.proofs.Views.{body-size}
 use Rattle.rules.proofs.Words.{plan-exactly}
 use Rattle.rules.proofs.WritePromise.{makes, write-promise}
 use Rattle.erases.specs.Erases.{clustersIn, spareShare}
@@ -108,8 +107,18 @@ module _ (p : Params) (b : Board) (q : Request) (e : replyOf p b (write q) ≡ A
   abbrev before : View
   before = view p b r
 
+  abbrev after : View
+  after = view p (written p b q) r
+
+  -- the plan, its virtual block and the frame that it writes
   abbrev plan : Plan
   plan = planOf p before
+
+  abbrev v : ℕ
+  v = planVBlock plan
+
+  abbrev f : ℕ
+  f = planFrame p before plan
 
   acc : Admitted p b q
   acc = admitted p b q (write-checks p b q e)
@@ -120,54 +129,52 @@ module _ (p : Params) (b : Board) (q : Request) (e : replyOf p b (write q) ≡ A
   neat-r : Neat p r before
   neat-r = neat p r before (acc .tidy r region)
 
-  made : Makes p b r plan
-  made = makes p (acc .sized) b (acc .tables) r region neat-r
-
-  sheet : Sheet p (requestCluster p q) (newFrame p before q)
-  sheet =
-      host-sheet p (acc .sized) before (λ u h a. body-size p (acc .sized) b (acc .tables) r u region h a) q (acc .asked) (neat-r .entries (requestCluster p q) (acc .asked .cluster))
-
-  -- one frame more of its block is programmed, and every other block is as it was
-  here : filled p ((view p (written p b q) r) .body (planVBlock plan)) ≡ suc (planFrame p before plan)
-  here = rw ((write-promise p b q e) .own) (unfold viewAfter in filled-new p (acc .sized) r (withRoom p before plan) (planVBlock plan) (planFrame p before plan) (requestCluster p q) (newFrame p before q) (made .base) sheet)
-
-  elsewhere : (u : ℕ) → (u ≡ planVBlock plan → ⊥) → (view p (written p b q) r) .body u ≡ before .body u
-  elsewhere u ne =
-      rw ((write-promise p b q e) .own)
-      (unfold viewAfter in
-      (body-old p (acc .sized) (withRoom p before plan) (planVBlock plan) (planFrame p before plan) (requestCluster p q) (newFrame p before q) (made .base .ready) sheet u ne ∙ made .room .bodyElse u ne))
-
   listed : PlanListed p before plan
   listed = let c = write-checks p b q e in plan-exactly p b (record { fine = c .fine; lengths = c .lengths; tidy = c .tidy }) r region
 
-  -- so by what the plan found
-  pub write-turn : Turn (spareShare p r) (room p before) (planErases plan) (room p (view p (written p b q) r))
+  made : Makes p b r plan
+  made = makes p (acc .sized) b (acc .tables) r region neat-r
+
+  low : f < frames p
+  low = made .base .ready .low
+
+  sheet : Sheet p (requestCluster p q) (newFrame p before q)
+  sheet =
+      host-sheet p (acc .sized) before (λ u h a. body-size p (acc .sized) b (acc .tables) r u region h a) q (acc .asked)
+      (neat-r .entries (requestCluster p q) (acc .asked .cluster))
+
+  is-put : after ≡ withFrame p (withRoom p before plan) v f (requestCluster p q) (newFrame p before q)
+  unfolding viewAfter
+  is-put = (write-promise p b q e) .own
+
+  -- the frames up to the new one are programmed in its block, and every other block is as it was
+  here : filled p (after .body v) ≡ suc f
+  here = rw is-put (filled-new p (acc .sized) r (withRoom p before plan) v f (requestCluster p q) (newFrame p before q) (made .base) sheet)
+
+  elsewhere : (u : ℕ) → (u ≡ v → ⊥) → after .body u ≡ before .body u
+  elsewhere u ne =
+      rw is-put
+      (body-old p (acc .sized) (withRoom p before plan) v f (requestCluster p q) (newFrame p before q) (made .base .ready) sheet u ne ∙ made .room .bodyElse u ne)
+
+  -- so the room changes by what its block's does
+  one-block : room p after + (frames p - filled p (before .body v)) ≡ room p before + (frames p - filled p (after .body v))
   unfolding room
+  one-block =
+      sum-but (p .gamma) (λ u. frames p - filled p (before .body u)) (λ u. frames p - filled p (after .body u)) v (made .base .ready .mine)
+      (λ u h ne. ap (λ (l : List ℕ). frames p - filled p l) (sym (elsewhere u ne)))
+
+  none-left : ((u : ℕ) → u < p .gamma → filled p (before .body u) ≡ frames p) → room p before ≡ 0
+  unfolding room
+  none-left full = sum-zero (p .gamma) (λ u. frames p - filled p (before .body u)) (λ u h. omega (arith, full u h))
+
+  pub write-turn : Turn (spareShare p r) (room p before) (planErases plan) (room p after)
   write-turn = go (found p (acc .sized) r before neat-r listed)
     where
-      v : ℕ
-      v = planVBlock plan
-
-      after : View
-      after = view p (written p b q) r
-
-      f : ℕ
-      f = planFrame p before plan
-
-      but : room p after + (frames p - filled p (before .body v)) ≡ room p before + (frames p - filled p (after .body v))
-      but =
-          sum-but (p .gamma) (λ u. frames p - filled p (before .body u)) (λ u. frames p - filled p (after .body u)) v (made .base .ready .mine)
-          (λ u h ne. ap (λ (l : List ℕ). frames p - filled p l) (sym (elsewhere u ne)))
-
       go : Found p r before plan → Turn (spareShare p r) (room p before) (planErases plan) (room p after)
-      go (inl w) = inl (w .0, omega (arith, but, here, w .1, made .base .ready .low))
+      go (inl w) = inl (w .0, omega (arith, one-block, here, w .1, low))
       go (inr w) =
-          let none-left : room p before ≡ 0 = sum-zero (p .gamma) (λ u. frames p - filled p (before .body u)) (λ u h. omega (arith, w .1 u h)) in
-          inr (
-            w .0,
-            none-left,
-            omega (arith, but, here, none-left, w .1 v (made .base .ready .mine), made .base .ready .low, share-left p (acc .sized) r f (omega (arith, made .base .ready .low)) (w .2)),
-          )
+          let share = share-left p (acc .sized) r f (omega (arith, low)) (w .2) in
+          inr (w .0, none-left (w .1), omega (arith, one-block, here, none-left (w .1), w .1 v (made .base .ready .mine), low, share))
 
 -- ---- an accepted format, and a release
 

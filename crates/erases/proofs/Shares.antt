@@ -19,35 +19,39 @@ use Rattle.erases.specs.Erases.{clustersIn, roundedUp, spareShare}
 rounded-least : (n k m : ℕ) → 0 < k → n ≤ k * m → roundedUp n k ≤ m
 unfolding roundedUp
 rounded-least n k m h e =
-    let w : (n + (k - 1)) / k < suc m = div-lt-iff-lt-mul h .1 (omega arith) in
+    let w : roundedUp n k < suc m = div-lt-iff-lt-mul h .1 (omega arith) in
     omega arith
 
 rounded-some : (n k : ℕ) → 0 < k → 0 < n → 0 < roundedUp n k
 unfolding roundedUp
 rounded-some n k h e = le-div-iff-mul-le h .1 (omega arith)
 
--- f frames less m, where m is at most a g-th of l
-rounded-left : (f g l m : ℕ) → 0 < g → m ≤ f → g * m ≤ l → roundedUp (g * f - l) g + m ≤ f
-rounded-left f g l m h k few =
+-- and with m it is at most f, where m more of the k-fold are still at most the k-fold of f
+rounded-left : (n k f m : ℕ) → 0 < k → m ≤ f → n + k * m ≤ k * f → roundedUp n k + m ≤ f
+rounded-left n k f m h low few =
     let e : f ≡ f - m + m = omega arith in
-    omega (arith, rounded-least (g * f - l) g (f - m) h (omega (arith, ap (λ (x : ℕ). g * x) e)))
+    omega (arith, rounded-least n k (f - m) h (omega (arith, ap (λ (x : ℕ). k * x) e)))
 
 -- a number by its quotient and its remainder
 pub rejoin : (k m n : ℕ) → m / k ≡ n / k → m % k ≡ n % k → m ≡ n
 rejoin k m n d e = sym (div-add-mod' m k) ∙ ap₂ (λ x y. x * k + y) d e ∙ div-add-mod' n k
 
 module _ (p : Params) (z : Sizes p) (r : ℕ) where
-  few-clusters : clustersIn p r ≤ perRegion p
-  unfolding clustersIn perRegion
+  few-clusters : countBelow (p .C) (λ c. eqb (regionOf p c) r) ≤ perRegion p
+  unfolding perRegion
   few-clusters =
       pigeon (p .C) (perRegion p) (λ c. eqb (regionOf p c) r) (λ c. c / p .mu)
       (λ c h e. div-lt-iff-lt-mul (z .regions) .1 (omega (arith, lt-div-mul-add {a = p .C + (p .mu - 1)} (z .regions), z .regions)))
       (λ c d h k e f x. rejoin (p .mu) c d x (eqb-true _ _ e ∙ sym (eqb-true _ _ f)))
 
+  some-spare : 0 < p .gamma * frames p - clustersIn p r
+  unfolding clustersIn
+  some-spare = omega (arith, few-clusters, z .spread, one-le-mul (z .vblocks) (z .some))
+
   pub share-some : 0 < spareShare p r
   unfolding spareShare
-  share-some = omega (arith, rounded-some (p .gamma * frames p - clustersIn p r) (p .gamma) (z .vblocks) (omega (arith, few-clusters, z .spread, one-le-mul (z .vblocks) (z .some))))
+  share-some = rounded-some _ (p .gamma) (z .vblocks) (omega (arith, some-spare))
 
   pub share-left : (m : ℕ) → m ≤ frames p → p .gamma * m ≤ clustersIn p r → spareShare p r + m ≤ frames p
   unfolding spareShare
-  share-left m h few = omega (arith, rounded-left (frames p) (p .gamma) (clustersIn p r) m (z .vblocks) h few)
+  share-left m h few = rounded-left _ (p .gamma) (frames p) m (z .vblocks) h (omega (arith, some-spare))

@@ -56,8 +56,8 @@ total (n ∷ ns) = n + total ns
 
 -- ---- the figure
 
--- "From a format on, without cuts, any k accepted writes to the region in a row bring at most k/G erases, rounded up": whatever else is called before, between and
--- after them, other formats too
+-- "From a format on, without cuts, any k accepted writes to the region in a row bring at most k/G erases, rounded up": any writes that stand in a row in the
+-- list of them, whatever else is called before, between and after them, other formats too
 abbrev pub ErasesPerRegion : Type 0
 ErasesPerRegion =
     (p : Params) (b : Board) → replyOf p b format ≡ Accepted → (cs : List Call) (r : ℕ) → r < p .mu

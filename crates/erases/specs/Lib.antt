@@ -1,1 +1,2 @@
 pub mod Erases
+pub mod Reached
