@@ -52,7 +52,7 @@ unfoldable pub room : Params → View → ℕ
 room p vw = sumBelow (p .gamma) (λ v. frames p - filled p (vw .body v))
 
 -- no frame of a virtual block without a physical one is programmed
-pub filled-none : (p : Params) → filled p [] ≡ 0
+filled-none : (p : Params) → filled p [] ≡ 0
 unfolding filled frame
 filled-none p = count-is (frames p) 0 _ (omega arith) (λ f h. absurd (omega arith)) (λ f h k. erased-not p (frame p [] f) (allAre-part 255 (frameBytes p) f [] (unfold allAre in refl)))
 

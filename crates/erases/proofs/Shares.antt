@@ -26,7 +26,7 @@ rounded-some : (n k : ℕ) → 0 < k → 0 < n → 0 < roundedUp n k
 unfolding roundedUp
 rounded-some n k h e = le-div-iff-mul-le h .1 (omega arith)
 
--- and with m it is at most f, where m more of the k-fold are still at most the k-fold of f
+-- it and m are together at most f, where n and the k-fold of m are together at most the k-fold of f
 rounded-left : (n k f m : ℕ) → 0 < k → m ≤ f → n + k * m ≤ k * f → roundedUp n k + m ≤ f
 rounded-left n k f m h low few =
     let e : f ≡ f - m + m = omega arith in
@@ -37,6 +37,7 @@ pub rejoin : (k m n : ℕ) → m / k ≡ n / k → m % k ≡ n % k → m ≡ n
 rejoin k m n d e = sym (div-add-mod' m k) ∙ ap₂ (λ x y. x * k + y) d e ∙ div-add-mod' n k
 
 module _ (p : Params) (z : Sizes p) (r : ℕ) where
+  -- two clusters of the region have different quotients by μ
   few-clusters : countBelow (p .C) (λ c. eqb (regionOf p c) r) ≤ perRegion p
   unfolding perRegion
   few-clusters =
@@ -52,6 +53,7 @@ module _ (p : Params) (z : Sizes p) (r : ℕ) where
   unfolding spareShare
   share-some = rounded-some _ (p .gamma) (z .vblocks) (omega (arith, some-spare))
 
+  -- a block has room for m copies and G frames more
   pub share-left : (m : ℕ) → m ≤ frames p → p .gamma * m ≤ clustersIn p r → spareShare p r + m ≤ frames p
   unfolding spareShare
   share-left m h few = rounded-left _ (p .gamma) (frames p) m (z .vblocks) h (omega (arith, some-spare))
