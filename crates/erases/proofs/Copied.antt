@@ -10,6 +10,7 @@ use lib.Dec.{eqb}
 use lib.ListN.{getD, length}
 use borrow.Author.Tests.{eq-eqb}
 use Rattle.lists.specs.Below.{countBelow}
+use Rattle.lists.proofs.Parts.{rejoin}
 use Rattle.lists.proofs.Ranks.{fewer, keep-length, keep-nth}
 use Rattle.lists.proofs.Tests.{count-is}
 use Rattle.rules.specs.declared.Params.{Params}
@@ -22,7 +23,6 @@ use Rattle.rules.proofs.RegionFacts.{GoodFrame, Neat}
 use Rattle.rules.proofs.Sizes.{Sizes}
 use Rattle.rules.proofs.Victims.{good-at, valid-in, valid-one}
 use Rattle.erases.specs.Erases.{clustersIn}
-use Rattle.erases.proofs.Shares.{rejoin}
 
 module _ (p : Params) (z : Sizes p) (r : ℕ) (vw : View) (neat : Neat p r vw) (full : hasRoom p vw ≡ false) (every : (u : ℕ) → u < p .gamma → assigned vw u ≡ true)
     (m : ℕ) (some : 0 < m) (least : (u : ℕ) → u < p .gamma → m ≤ length (validFrames p vw u)) where

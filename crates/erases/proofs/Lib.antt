@@ -1,7 +1,6 @@
 pub mod Shares
 pub mod Rows
 pub mod Copied
-pub mod Sums
 pub mod Room
 pub mod Erases
 pub mod Reached

@@ -6,7 +6,6 @@ use mathlib.Core.Path.{_≡_, refl, sym, ap, _∙_}
 use mathlib.Core.Logic.{_⊎_, inl, inr}
 use mathlib.Core.Bool.{true, false}
 use mathlib.Core.List.{List, [], _∷_}
-use native.Mathlib.Decide.{ℕ-discrete}
 use native.Mathlib.Nat.{mod-lt}
 use native.Mathlib.Omega.{arith}
 use lib.Dec.{eqb, ltb}
@@ -14,12 +13,13 @@ use lib.ListN.{length}
 use borrow.Author.Tests.{ltb-false}
 use Rattle.lists.specs.Parts.{allAre}
 use Rattle.lists.proofs.Joins.{allAre-part}
+use Rattle.lists.proofs.Sums.{sum-but, sum-le, sum-zero, sumBelow}
 use Rattle.lists.proofs.Tests.{count-is, so}
 use Rattle.rules.specs.declared.Params.{Params}
 use Rattle.rules.specs.declared.Reply.the-variants.{Accepted}
 use Rattle.rules.specs.Parameters.{frameBytes, frames}
 use Rattle.rules.specs.Tables.{Board, none}
-use Rattle.rules.specs.Pages.{filled, frame, programmed}
+use Rattle.rules.specs.Pages.{filled, frame}
 use Rattle.rules.specs.Regions.{View, assigned, validFrames, view}
 use Rattle.rules.specs.Requests.{Request, format, requestCluster, requestRegion, write}
 use Rattle.rules.specs.Format.{formatted}
@@ -31,22 +31,20 @@ use Rattle.rules.specs.Words.{OpensListed, PlanListed, ReclaimsListed}
 use Rattle.rules.proofs.Admitted.{Admitted, admitted, write-checks}
 use Rattle.rules.proofs.Continues.{Makes}
 use Rattle.rules.proofs.FormatPromise.{lacks}
-use Rattle.rules.proofs.FramePut.{Sheet, body-old, frame-new, frame-old}
-use Rattle.rules.proofs.Frames.{erased-not, marked-programmed}
-use Rattle.rules.proofs.NewFrames.{host-sheet}
+use Rattle.rules.proofs.FramePut.{Sheet, body-old}
+use Rattle.rules.proofs.Frames.{erased-not}
 use Rattle.rules.proofs.Opens.{all-full}
 use Rattle.rules.proofs.RegionFacts.{Neat, neat}
-use Rattle.rules.proofs.RegionKept.{Base}
+use Rattle.rules.proofs.RegionKept.{filled-new}
 use Rattle.rules.proofs.Releases.{released-view}
 use Rattle.rules.proofs.Sizes.{Sizes}
-use Rattle.rules.proofs.Views.{body-size}
 use Rattle.rules.proofs.Words.{plan-exactly}
 use Rattle.rules.proofs.WritePromise.{makes, write-promise}
+use Rattle.rules.proofs.Writes.{own-sheet}
 use Rattle.erases.specs.Erases.{clustersIn, spareShare}
 use Rattle.erases.proofs.Copied.{copied-few}
 use Rattle.erases.proofs.Rows.{Turn}
 use Rattle.erases.proofs.Shares.{share-left}
-use Rattle.erases.proofs.Sums.{sum-but, sum-le, sum-zero, sumBelow}
 
 unfoldable pub room : Params → View → ℕ
 room p vw = sumBelow (p .gamma) (λ v. frames p - filled p (vw .body v))
@@ -81,22 +79,6 @@ found p z r vw neat = go (so (hasRoom p vw)) (so (eqb (lowestUnassigned p vw) no
     go (inr h) (inr e) l =
         let w : OpensListed p vw (lowestUnassigned p vw) = rw (h, e) at l in
         rw (h, e) (inl (refl, bare-none p (vw .body (lowestUnassigned p vw)) (w .bare)))
-
--- ---- the block that is written
-
-module _ (p : Params) (z : Sizes p) (r : ℕ) (vw : View) (v f c : ℕ) (x : List ℕ) (base : Base p r vw v f) (sheet : Sheet p c x) where
-  filled-new : filled p ((withFrame p vw v f c x) .body v) ≡ suc f
-  unfolding filled
-  filled-new = count-is (frames p) (suc f) _ (base .ready .low) (λ g h. front g h (ℕ-discrete g f)) rest
-    where
-      front : (g : ℕ) → g < suc f → Dec (g ≡ f) → programmed p (frame p ((withFrame p vw v f c x) .body v) g) ≡ true
-      front g h (yes e) = rw (e, frame-new p z vw v f c x (base .ready) sheet) (marked-programmed p x c (sheet .marked 0 (z .sectors)))
-      front g h (no e) =
-          rw (frame-old p z vw v f c x (base .ready) sheet g e)
-          (marked-programmed p (frame p (vw .body v) g) _ ((base .front .front g (omega arith) (omega (arith, base .ready .low))) .marks 0 (z .sectors)))
-
-      rest : (g : ℕ) → suc f ≤ g → g < frames p → programmed p (frame p ((withFrame p vw v f c x) .body v) g) ≡ false
-      rest g h k = rw (frame-old p z vw v f c x (base .ready) sheet g (omega arith)) (erased-not p (frame p (vw .body v) g) (base .ready .rest g (omega arith) k))
 
 -- ---- an accepted write
 
@@ -139,9 +121,7 @@ module _ (p : Params) (b : Board) (q : Request) (e : replyOf p b (write q) ≡ A
   low = made .base .ready .low
 
   sheet : Sheet p (requestCluster p q) (newFrame p before q)
-  sheet =
-      host-sheet p (acc .sized) before (λ u h a. body-size p (acc .sized) b (acc .tables) r u region h a) q (acc .asked)
-      (neat-r .entries (requestCluster p q) (acc .asked .cluster))
+  sheet = own-sheet p b q acc
 
   is-put : after ≡ withFrame p (withRoom p before plan) v f (requestCluster p q) (newFrame p before q)
   unfolding viewAfter
@@ -149,7 +129,7 @@ module _ (p : Params) (b : Board) (q : Request) (e : replyOf p b (write q) ≡ A
 
   -- the frames up to the new one are programmed in its block, and every other block is as it was
   here : filled p (after .body v) ≡ suc f
-  here = rw is-put (filled-new p (acc .sized) r (withRoom p before plan) v f (requestCluster p q) (newFrame p before q) (made .base) sheet)
+  here = rw is-put (filled-new p (acc .sized) r (withRoom p before plan) v f (requestCluster p q) (newFrame p before q) (made .base) sheet (acc .asked .cluster) refl)
 
   elsewhere : (u : ℕ) → (u ≡ v → ⊥) → after .body u ≡ before .body u
   elsewhere u ne =

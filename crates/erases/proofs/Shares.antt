@@ -1,13 +1,14 @@
 -- L and G over the allowed parameters: a region has at most C/μ rounded up of the clusters, so G is not 0; and G frames are left of a block of which at most a γ-th
 -- of L frames are kept.
 -- Assumes nothing.
-use Prim.Native.Nat.{ℕ, suc, _+_, _-_, _*_, _/_, _%_, _≤_, _<_}
-use mathlib.Core.Path.{_≡_, ap, ap₂, sym, _∙_}
-use native.Mathlib.Nat.{div-add-mod', div-lt-iff-lt-mul, le-div-iff-mul-le, lt-div-mul-add, one-le-mul}
+use Prim.Native.Nat.{ℕ, suc, _+_, _-_, _*_, _/_, _≤_, _<_}
+use mathlib.Core.Path.{_≡_, ap, sym, _∙_}
+use native.Mathlib.Nat.{div-lt-iff-lt-mul, le-div-iff-mul-le, lt-div-mul-add, one-le-mul}
 use native.Mathlib.Omega.{arith}
 use lib.Dec.{eqb}
 use borrow.Author.Tests.{eqb-true}
 use Rattle.lists.specs.Below.{countBelow}
+use Rattle.lists.proofs.Parts.{rejoin}
 use Rattle.lists.proofs.Searches.{pigeon}
 use Rattle.rules.specs.declared.Params.{Params}
 use Rattle.rules.specs.Parameters.{frames, perRegion}
@@ -31,10 +32,6 @@ rounded-left : (n k f m : ℕ) → 0 < k → m ≤ f → n + k * m ≤ k * f →
 rounded-left n k f m h low few =
     let e : f ≡ f - m + m = omega arith in
     omega (arith, rounded-least n k (f - m) h (omega (arith, ap (λ (x : ℕ). k * x) e)))
-
--- a number by its quotient and its remainder
-pub rejoin : (k m n : ℕ) → m / k ≡ n / k → m % k ≡ n % k → m ≡ n
-rejoin k m n d e = sym (div-add-mod' m k) ∙ ap₂ (λ x y. x * k + y) d e ∙ div-add-mod' n k
 
 module _ (p : Params) (z : Sizes p) (r : ℕ) where
   -- two clusters of the region have different quotients by μ

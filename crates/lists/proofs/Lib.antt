@@ -5,3 +5,4 @@ pub mod Counts
 pub mod Parts
 pub mod Joins
 pub mod Lists
+pub mod Sums

@@ -1,8 +1,8 @@
 -- Laws of the parts of a list.
 -- Assumes nothing.
-use mathlib.Core.Path.{_≡_, refl, sym, ap, _∙_}
-use Prim.Native.Nat.{ℕ, zero, suc, _+_, _-_, _*_, _/_, _≤_, _<_}
-use native.Mathlib.Nat.{add-zero, div-eq-of-lt, div-lt-iff-lt-mul, mul-add-div-right, suc-mul, mul-le-mul-right}
+use mathlib.Core.Path.{_≡_, refl, sym, ap, ap₂, _∙_}
+use Prim.Native.Nat.{ℕ, zero, suc, _+_, _-_, _*_, _/_, _%_, _≤_, _<_}
+use native.Mathlib.Nat.{add-zero, div-add-mod', div-eq-of-lt, div-lt-iff-lt-mul, mul-add-div-right, suc-mul, mul-le-mul-right}
 use native.Mathlib.Omega.{arith}
 use native.Mathlib.Decide.{decLt}
 use mathlib.Core.List.{List, [], _∷_, _++_, append-assoc}
@@ -29,6 +29,10 @@ over-place w k i h x e =
 
 pub under-place : (w k i : ℕ) → 1 ≤ w → i < k * w → i / w ≡ k → ⊥
 under-place w k i h x e = omega (arith, div-lt-iff-lt-mul {k = w} {x = i} {y = k} h .1 x)
+
+-- a number by its quotient and its remainder
+pub rejoin : (w m n : ℕ) → m / w ≡ n / w → m % w ≡ n % w → m ≡ n
+rejoin w m n d e = sym (div-add-mod' m w) ∙ ap₂ (λ x y. x * w + y) d e ∙ div-add-mod' n w
 
 pub part-length : (w i : ℕ) (l : List ℕ) → i * w + w ≤ length l → length (part w i l) ≡ w
 unfolding part

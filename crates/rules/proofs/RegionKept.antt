@@ -43,7 +43,7 @@ module _ (p : Params) (z : Sizes p) (r : ℕ) (vw : View) (v f c : ℕ) (x : Lis
       front g a b (yes e) = rw (e, frame-new p z vw v f c x (base .ready) sheet) good
       front g a b (no e) = rw (frame-old p z vw v f c x (base .ready) sheet g e) (base .front .front g (omega arith) b)
 
-  filled-new : filled p ((withFrame p vw v f c x) .body v) ≡ suc f
+  pub filled-new : filled p ((withFrame p vw v f c x) .body v) ≡ suc f
   filled-new = up-to-filled p z r (suc f) _ (base .ready .low) up-to-new
 
   some-bytes : 0 < blockBytes p

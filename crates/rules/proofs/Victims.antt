@@ -3,7 +3,7 @@
 use mathlib.Core.Path.{_≡_, refl, sym, ap, ap₂, _∙_}
 use mathlib.Core.Logic.{_⊎_, inl, inr}
 use Prim.Native.Nat.{ℕ, _+_, _-_, _*_, _/_, _%_, _≤_, _<_}
-use native.Mathlib.Nat.{div-lt-iff-lt-mul, div-add-mod', lt-div-mul-add, mod-lt}
+use native.Mathlib.Nat.{div-lt-iff-lt-mul, lt-div-mul-add, mod-lt}
 use native.Mathlib.Omega.{arith}
 use native.Mathlib.Decide.{decLt}
 use mathlib.Core.Bool.{true, false, false≢true}
@@ -11,7 +11,7 @@ use lib.Dec.{eqb}
 use borrow.Author.Tests.{eqb-true, eq-eqb}
 use lib.ListN.{length}
 use Rattle.lists.specs.Below.{countBelow}
-use Rattle.lists.proofs.Parts.{next}
+use Rattle.lists.proofs.Parts.{next, rejoin}
 use Rattle.lists.proofs.Ranks.{count-full, keep-length}
 use Rattle.lists.proofs.Searches.{least-lowest, least-spec, pigeon}
 use Rattle.lists.proofs.Tests.{and-intro, and-left, and-right, count-is}
@@ -43,9 +43,6 @@ valid-in p vw v f h =
 pub valid-out : (p : Params) (vw : View) (v f : ℕ) → Valid p vw v f → valid p vw v f ≡ true
 unfolding valid
 valid-out p vw v f w = and-intro (w .written) (and-intro (eq-eqb _ _ (w .names)) (eq-eqb _ _ (w .last)))
-
-rejoin : (k m n : ℕ) → m / k ≡ n / k → m % k ≡ n % k → m ≡ n
-rejoin k m n d e = sym (div-add-mod' m k) ∙ ap₂ (λ x y. x * k + y) d e ∙ div-add-mod' n k
 
 module _ (p : Params) (z : Sizes p) (vw : View) where
   -- a cluster has one valid frame

@@ -22,7 +22,7 @@ use Rattle.rules.specs.Orderly.{orderly}
 use Rattle.rules.specs.Marks.{marksOf}
 use Rattle.rules.specs.Traces.{Op, clean, erase, onWear, program, replayChip, replayWear}
 use Rattle.rules.specs.Write.{Plan, copies, followCt, newFrame, newSector, planBlock, planFrame, planOps, planVBlock, roomOps, writtenBy}
-use Rattle.rules.specs.Requests.{Request, requestCluster}
+use Rattle.rules.specs.Requests.{Request, requestCluster, requestRegion}
 use Rattle.rules.specs.Machine.{withFrame, withRoom}
 use Rattle.rules.proofs.Admitted.{Admitted, orderly-all}
 use Rattle.rules.proofs.BoardPut.{Put, block-else, chip-length, host-clean, write-effect}
@@ -48,6 +48,14 @@ pub write-marks : (p : Params) (b : Board) (r : ℕ) (q : Request) (pl : Plan) �
 unfolding writtenBy
 write-marks p b r q pl = refl
 
+-- the frame that a write puts is one of its cluster's
+pub own-sheet : (p : Params) (b : Board) (q : Request) → Admitted p b q → Sheet p (requestCluster p q) (newFrame p (view p b (requestRegion p q)) q)
+own-sheet p b q acc =
+    let r = requestRegion p q in
+    let region : r < p .mu = mod-lt (requestCluster p q) (acc .sized .regions) in
+    host-sheet p (acc .sized) (view p b r) (λ v h a. body-size p (acc .sized) b (acc .tables) r v region h a) q (acc .asked)
+    ((neat p r (view p b r) (acc .tidy r region)) .entries (requestCluster p q) (acc .asked .cluster))
+
 -- ---- a write by a plan that makes room
 
 module _ (p : Params) (b : Board) (q : Request) (acc : Admitted p b q) (r : ℕ) (is : regionOf p (requestCluster p q) ≡ r) (pl : Plan) (makes : Makes p b r pl) where
@@ -61,7 +69,7 @@ module _ (p : Params) (b : Board) (q : Request) (acc : Admitted p b q) (r : ℕ)
   sized-r v h a = body-size p (acc .sized) b (acc .tables) r v region h a
 
   sheet : Sheet p (requestCluster p q) (newFrame p (view p b r) q)
-  sheet = host-sheet p (acc .sized) (view p b r) sized-r q (acc .asked) (neat-r .entries (requestCluster p q) (acc .asked .cluster))
+  sheet = rw (← is) (own-sheet p b q acc)
 
   put : Put p b (writtenBy p b r q pl) r (planVBlock pl) (planBlock p b r pl) (planFrame p (view p b r) pl) (requestCluster p q) (newFrame p (view p b r) q)
       (replayChip p (b .chip) (roomOps p b r pl)) (followCt p (planVBlock pl) 0 (copies p (view p b r) pl) (b .ct))

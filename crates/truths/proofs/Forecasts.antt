@@ -27,13 +27,13 @@ use Rattle.rules.proofs.Continues.{Makes, frames-pos, segs-in}
 use Rattle.rules.proofs.FramePut.{Sheet, last-new, seg-new}
 use Rattle.rules.proofs.Frames.{seg-low, seg-place, seg-vblock}
 use Rattle.rules.proofs.Isolation.{index-low}
-use Rattle.rules.proofs.NewFrames.{host-sheet}
 use Rattle.rules.proofs.Outcomes.{write-accepted}
 use Rattle.rules.proofs.RegionFacts.{Neat, neat}
 use Rattle.rules.proofs.Sizes.{Sizes}
 use Rattle.rules.proofs.TableFacts.{Tables, tables-in}
-use Rattle.rules.proofs.Views.{block-low, body-size, free-unnamed, has-block, no-block}
+use Rattle.rules.proofs.Views.{block-low, free-unnamed, has-block, no-block}
 use Rattle.rules.proofs.Words.{plan-exactly}
+use Rattle.rules.proofs.Writes.{own-sheet}
 use Rattle.rules.proofs.WritePromise.{Promise, makes, write-promise}
 use Rattle.why.specs.Why.{forecastOf, holderOf, planNumbers, whyOf}
 use Rattle.why.proofs.Holder.{body-is}
@@ -166,9 +166,7 @@ module _ (p : Params) (b : Board) (q : Request) (e : replyOf p b (write q) ≡ A
   listed = plan-exactly p b (record { fine = adm .fine; lengths = adm .lengths; tidy = (write-checks p b q e) .tidy }) (requestRegion p q) region
 
   sheet : Sheet p (requestCluster p q) (newFrame p vw q)
-  sheet =
-      host-sheet p (adm .sized) vw (λ v h a. body-size p (adm .sized) b (adm .tables) (requestRegion p q) v region h a) q (adm .asked)
-      (neat-r .entries (requestCluster p q) (adm .asked .cluster))
+  sheet = own-sheet p b q adm
 
   -- the board that is left
   ordered : OrderlyBoard p (written p b q)

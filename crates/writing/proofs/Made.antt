@@ -24,11 +24,9 @@ use Rattle.lists.proofs.Joins.{join-cong}
 use Rattle.rules.proofs.Chip.{replay-append, frame-put}
 use Rattle.rules.proofs.FramePut.{Sheet}
 use Rattle.rules.proofs.Isolation.{Effect, index-low, own-view}
-use Rattle.rules.proofs.RegionFacts.{neat}
-use Rattle.rules.proofs.Views.{body-size}
-use Rattle.rules.proofs.NewFrames.{host-sheet}
 use Rattle.rules.proofs.Continues.{Makes}
 use Rattle.rules.proofs.Admitted.{Admitted}
+use Rattle.rules.proofs.Writes.{own-sheet}
 use Rattle.rooms.proofs.Worn.{wear-append, frame-wear}
 
 room-last : (p : Params) (vw : View) (pl : Plan) → (withRoom p vw pl) .lastSeg ≡ vw .lastSeg
@@ -122,9 +120,7 @@ module _ (p : Params) (b : Board) (q : Request) (acc : Admitted p b q) (pl : Pla
   frame-same = join-cong (p .alpha) _ _ (λ j l. rw (view-is, makes .reads (requestCluster p q) (acc .asked .cluster) j))
 
   sheet : Sheet p (requestCluster p q) (newFrame p vw q)
-  sheet =
-      host-sheet p (acc .sized) vw (λ u h a. body-size p (acc .sized) b (acc .tables) r u region-in h a) q (acc .asked)
-      ((neat p r vw (acc .tidy r region-in)) .entries (requestCluster p q) (acc .asked .cluster))
+  sheet = own-sheet p b q acc
 
   frame-fits : (n * frames p + f) * frameBytes p + frameBytes p ≤ length (ready .chip)
   unfolding blockBytes
