@@ -402,6 +402,25 @@ static inline uint32_t cnftl_sectors(const struct cnftl_params *p)
 }
 
 /*
+ * Data sheet figure of a region below mu, for allowed parameters: G, the
+ * region's spare frames, which are gamma*F less its clusters, divided by gamma
+ * and rounded up (document 02, T-10).  An accepted write to the region that
+ * erases a block is followed by at least G - 1 accepted writes to it that do
+ * not, so any k accepted writes to it in a row bring at most k/G erases,
+ * rounded up.  That holds from an accepted format on, over single writes and
+ * the items of queues alike, and whatever goes to other regions in between.
+ * 1 is the worst: a full region may erase at every write.
+ */
+static inline uint32_t cnftl_writes_per_erase(const struct cnftl_params *p,
+                                              uint32_t region)
+{
+    uint32_t clusters = p->c / p->mu + (region < p->c % p->mu);
+    uint32_t spare = p->gamma * p->beta * p->d - clusters;
+
+    return (spare + p->gamma - 1) / p->gamma;
+}
+
+/*
  * A board for the shorter calls below, which pass the parameters and
  * the right lengths.  The arrays must have the sizes given above.
  */

@@ -1,6 +1,7 @@
 /*
  * header.c - Board T of document 01 through cnftl.h, as C99 and as C++ (see
- * header.cc): the printed session and the marked cases that a call can show.
+ * header.cc): the printed session and the marked cases that a call can show;
+ * and the writes per erase of some boards, those of the README among them.
  */
 #undef NDEBUG
 #include "cnftl.h"
@@ -358,10 +359,56 @@ static void check_sizes(void)
     assert(cnftl_sectors(&board.params) == 12);
 }
 
+/* The README's sizing table: its small board with fewer and fewer clusters. */
+static void check_figures(void)
+{
+    static const struct {
+        uint32_t c, bytes, spare, figure;
+    } rows[] = {
+        { 252, 516096, 1, 1 }, { 240, 491520, 4, 1 }, { 224, 458752, 8, 2 },
+        { 192, 393216, 16, 4 }, { 160, 327680, 24, 6 }, { 128, 262144, 32, 8 }
+    };
+    struct cnftl_params p = { 512, 4, 4, 4, 4, 4, 0, 20 };
+
+    for (size_t i = 0; i < sizeof rows / sizeof rows[0]; i++) {
+        p.c = rows[i].c;
+        assert(cnftl_params_allowed(&p));
+        assert(cnftl_sectors(&p) * p.s == rows[i].bytes);
+        assert(p.gamma * p.beta * p.d - p.c / p.mu == rows[i].spare);
+        for (uint32_t region = 0; region < p.mu; region++)
+            assert(cnftl_writes_per_erase(&p, region) == rows[i].figure);
+    }
+}
+
+/* The figure where regions differ by a cluster, where some have none, and on
+   the largest board. */
+static void check_uneven_figures(void)
+{
+    static const struct cnftl_params uneven = { 16, 1, 1, 4, 3, 2, 10, 7 };
+    static const struct cnftl_params few = { 16, 1, 1, 4, 4, 1, 1, 5 };
+    static const struct cnftl_params large =
+        { 16, 1, 16, 16, 1024, 16, 1048576, 16385 };
+
+    assert(cnftl_params_allowed(&uneven) && cnftl_params_allowed(&few)
+           && cnftl_params_allowed(&large));
+    assert(cnftl_writes_per_erase(&uneven, 0) == 2);
+    assert(cnftl_writes_per_erase(&uneven, 1) == 3);
+    assert(cnftl_writes_per_erase(&uneven, 2) == 3);
+    assert(cnftl_writes_per_erase(&few, 0) == 3);
+    assert(cnftl_writes_per_erase(&few, 1) == 4);
+    assert(cnftl_writes_per_erase(&large, 0) == 192);
+    assert(cnftl_writes_per_erase(&large, 1023) == 192);
+    new_board();
+    assert(cnftl_writes_per_erase(&board.params, 0) == 1);
+    assert(cnftl_writes_per_erase(&board.params, 1) == 1);
+}
+
 /* All checks; an assert ends the program where one fails. */
 int main(void)
 {
     check_sizes();
+    check_figures();
+    check_uneven_figures();
     check_session();
     check_cases();
     check_release();
