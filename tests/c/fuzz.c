@@ -7,7 +7,8 @@
  * Accepted reads are also compared with a plain record of the bytes last
  * accepted for each sector (the shadow), and what a why has told with the read
  * and the write that follow it; their third count, which C does not get, is the
- * model's.
+ * model's.  The header's writes per erase are compared with the model's for any
+ * allowed parameters.
  *
  *   fuzz [--calls N] [--seed S] [--mutant K]    compare
  *   fuzz --mutants                              list the model's mutants
@@ -1198,6 +1199,91 @@ static void change_state(void)
     copy_side(&model, &product);
 }
 
+/* ==== Figures ========================================================== */
+
+enum { FIGURES_EACH = 8 }; /* parameters whose figures go before each board */
+
+static uint64_t figures_of;     /* parameters whose figures were compared */
+static uint64_t figures;        /* regions whose figures were compared */
+static uint64_t worst_figures;  /* those with the figure 1 */
+static uint64_t empty_figures;  /* those of regions that have no cluster */
+
+/* Any allowed parameters; C is 1, at most mu, the largest or any. */
+static struct cnftl_params any_parameters(void)
+{
+    struct cnftl_params p = { 16, 0, 0, 0, 0, 0, 0, 0 };
+    uint32_t most;
+
+    do {
+        p.alpha = between(1, 16);
+        p.beta = between(1, 16);
+        p.d = between(1, 16);
+        p.gamma = between(1, 16);
+    } while (p.alpha * p.beta * p.d > 256 || p.gamma * p.beta * p.d == 1);
+    p.mu = once_in(2) ? between(1, 8) : between(1, 1024);
+    p.n = between(1, 65535);
+    most = p.mu * (p.gamma * p.beta * p.d - 1);
+    most = most < 1048576 ? most : 1048576;
+    switch (below(6)) {
+    case 0:
+        p.c = 1;
+        break;
+    case 1:
+        p.c = between(1, p.mu);
+        break;
+    case 2:
+        p.c = most;
+        break;
+    default:
+        p.c = between(1, most);
+        break;
+    }
+    return p;
+}
+
+/* Tells of another figure than the model's and ends the run. */
+static void differ_in_figure(const struct cnftl_params *p, uint32_t region,
+                             uint32_t by_header, uint32_t by_model)
+{
+    printf("fuzz: difference in a figure at call %" PRIu64 " (seed %" PRIu64
+           ")\n", calls, seed);
+    printf("  region %" PRIu32 ": header %" PRIu32 ", model %" PRIu32 "\n",
+           region, by_header, by_model);
+    printf("  alpha=%" PRIu32 " beta=%" PRIu32 " d=%" PRIu32 " mu=%" PRIu32
+           " gamma=%" PRIu32 " c=%" PRIu32 "\n", p->alpha, p->beta, p->d,
+           p->mu, p->gamma, p->c);
+    exit(model_mutant == MODEL_RIGHT ? 1 : 3);
+}
+
+/* Compares the writes per erase of all regions with the model's. */
+static void compare_figures(const struct cnftl_params *p)
+{
+    static uint32_t by_model[1024];
+
+    assert(cnftl_params_allowed(p));
+    model_writes_per_erase(p, by_model);
+    for (uint32_t region = 0; region < p->mu; region++) {
+        uint32_t by_header = cnftl_writes_per_erase(p, region);
+
+        if (by_header != by_model[region])
+            differ_in_figure(p, region, by_header, by_model[region]);
+        worst_figures += by_header == 1;
+        empty_figures += region >= p->c;
+    }
+    figures_of++;
+    figures += p->mu;
+}
+
+/* Compares the figures of some parameters. */
+static void compare_some_figures(void)
+{
+    for (int i = 0; i < FIGURES_EACH; i++) {
+        struct cnftl_params p = any_parameters();
+
+        compare_figures(&p);
+    }
+}
+
 /* ==== Runs ============================================================= */
 
 static uint32_t rest_of_episode; /* calls that this board still gets */
@@ -1557,10 +1643,11 @@ static void run_large_board(uint64_t turn)
     }
 }
 
-/* Boards until the calls are made. */
+/* Figures, and boards until the calls are made. */
 static void run_all(void)
 {
-    for (uint64_t i = 0; calls < limit; i++)
+    for (uint64_t i = 0; calls < limit; i++) {
+        compare_some_figures();
         if (i % 16 == 15)
             run_large_board(i / 16);
         else if (i % 8 == 3)
@@ -1569,6 +1656,7 @@ static void run_all(void)
             run_board(small_board(), 1200);
         else
             run_board(extreme_board(), 1200);
+    }
 }
 
 /* ==== The program ====================================================== */
@@ -1604,6 +1692,11 @@ static bool report(void)
            PRIu64 " times, more %" PRIu64 " times\n", looks_told[0],
            looks_told[1], looks_told[2]);
     all = all && looks_told[0] > 0 && looks_told[1] > 0 && looks_told[2] > 0;
+    printf("fuzz: figures of %" PRIu64 " regions for %" PRIu64
+           " sets of parameters, %" PRIu64 " of them 1, %" PRIu64
+           " of regions without a cluster\n", figures, figures_of,
+           worst_figures, empty_figures);
+    all = all && worst_figures > 0 && empty_figures > 0;
     for (int i = 1; i < RULES; i++) {
         printf("fuzz: rule %d told broken: %" PRIu64 " times\n", i, broken[i]);
         all = all && broken[i] > 0;

@@ -1086,6 +1086,45 @@ static struct work write_steps(struct lent *l, uint32_t lba, uint32_t count,
     return work;
 }
 
+/* ==== Erases per region ================================================ */
+
+/* "Let L be the number of clusters that belong to a region": each cluster
+   counts one in its own. */
+static void count_clusters(const struct params *p, uint32_t *clusters)
+{
+    uint32_t end = MUTANT(FIGURE_FEWEST) ? p->c / p->mu * p->mu
+                 : MUTANT(FIGURE_MOST) ? (p->c + p->mu - 1) / p->mu * p->mu
+                 : p->c;
+
+    memset(clusters, 0, p->mu * sizeof *clusters);
+    for (uint32_t cluster = 0; cluster < end; cluster++)
+        clusters[region_of(p, cluster)]++;
+}
+
+/* "let G be the gamma*F - L spare frames divided by gamma, rounded up" */
+static uint32_t writes_per_erase(const struct params *p, uint32_t clusters)
+{
+    uint32_t spare = p->gamma * p->f - clusters;
+    uint32_t by = MUTANT(FIGURE_BLOCK) ? p->f : p->gamma;
+    uint32_t whole = spare / by;
+
+    if (MUTANT(FIGURE_MORE))
+        return whole + 1;
+    return spare % by == 0 || MUTANT(FIGURE_DOWN) ? whole : whole + 1;
+}
+
+void model_writes_per_erase(const struct cnftl_params *given,
+                            uint32_t *figures)
+{
+    struct params p = make_params(given->s, given->alpha, given->beta,
+                                  given->d, given->mu, given->gamma, given->c,
+                                  given->n);
+
+    count_clusters(&p, figures);
+    for (uint32_t region = 0; region < p.mu; region++)
+        figures[region] = writes_per_erase(&p, figures[region]);
+}
+
 /* ==== Reply numbers ==================================================== */
 
 enum {

@@ -36,6 +36,10 @@ extern const char *const MODEL_MUTANTS[MODEL_MUTANT_COUNT];
 enum { MODEL_ITEMS = 8 };
 extern uint32_t model_looks, model_item_looks[MODEL_ITEMS];
 
+/* The writes per erase of T-10, for each region below mu. */
+void model_writes_per_erase(const struct cnftl_params *given,
+                            uint32_t *figures);
+
 extern __typeof__(cnftl_format) model_format;
 extern __typeof__(cnftl_read) model_read;
 extern __typeof__(cnftl_write) model_write;

@@ -140,7 +140,13 @@
     X(LOOKS_NONE, "looks: one counted where CT has none")                      \
     X(LOOKS_AFTER_RECLAIM, "looks: counted in the state after the reclaim")    \
     X(LOOKS_COPIES, "looks: one counted for each copy too")                    \
-    X(LOOKS_WHOLE, "looks: none counted for a write of a whole cluster")
+    X(LOOKS_WHOLE, "looks: none counted for a write of a whole cluster")       \
+    /* writes per erase */                                                     \
+    X(FIGURE_DOWN, "figure: spare frames / gamma rounded down")                \
+    X(FIGURE_MORE, "figure: one more where gamma divides the spare frames")    \
+    X(FIGURE_FEWEST, "figure: C/mu rounded down for every region")             \
+    X(FIGURE_MOST, "figure: C/mu rounded up for every region")                 \
+    X(FIGURE_BLOCK, "figure: spare frames divided by F")
 
 /* Those that only the third counts of a queue's items show.  C does not get
    them, so the test of crate pair alone notices these. */
