@@ -1,5 +1,5 @@
 #!/usr/bin/env bash
-# Each name in backquotes in docs/CLAIMS.md stands in the sources: a definition, a theorem, a function, a must-fail edit or a test.
+# Each name in backquotes in docs/CLAIMS.md stands in the sources: a definition, a theorem, a function, one of the header's, a must-fail edit or a test.
 set -u
 cd "$(dirname "$0")/.."
 passed=0 failed=0
@@ -10,6 +10,7 @@ trap 'rm -f "$words"' EXIT
     find crates -name '*.antt' -o -name '*.rt' | xargs grep -h -o -E '^ *((unfoldable|abbrev) )?(pub )?(record |data |struct |enum |fn |extern "C" fn )?[^ (:{]+' |
         awk '{ print $NF }'
     find crates -name '*.rt' | xargs grep -h -o -E 'fn [a-z_0-9]+' | sed 's/^fn //'
+    grep -h -o -E 'cnftl_[a-z_]+\(' include/cnftl.h | tr -d '('
     find crates -path '*/must-fail/*.edit' | sed 's,^crates/,,; s,/must-fail/,/,; s,\.edit$,,'
     find tests bench examples include docs crates -type f 2>/dev/null
     ls
