@@ -1,0 +1,137 @@
+/*
+ * sizes.c - what fewer clusters buy on the small board of the README: pages
+ * programmed and blocks erased for each write, counted from the answers.
+ *
+ *   sizes [WRITES]
+ *
+ * For each C the board is formatted and filled; then single sectors are written
+ * at random, every sector as likely as another, in queues of 1,000.  The counts
+ * are of the layer and not of the machine, so they are the same under an
+ * emulator.  The random numbers are always the same.
+ */
+#include "cnftl.h"
+
+#include <stdio.h>
+#include <stdlib.h>
+#include <string.h>
+
+enum { BATCH = 1000, SECTOR = 512, MOST_WRITES = 10000000 };
+
+static struct cnftl_request requests[BATCH];
+static uint64_t answers[BATCH];
+static uint8_t data[4 * SECTOR];
+static uint64_t state = 1;
+
+/* A number below n. */
+static uint32_t below(uint32_t n)
+{
+    state = state * 6364136223846793005u + 1442695040888963407u;
+    return (uint32_t)((state >> 33) % n);
+}
+
+/* Memory, or the end of the program. */
+static void *get(size_t bytes)
+{
+    void *p = malloc(bytes);
+
+    if (p == NULL) {
+        fprintf(stderr, "sizes: no memory\n");
+        exit(1);
+    }
+    return p;
+}
+
+/* The README's small board with c clusters, all ones and never erased. */
+static struct cnftl_board new_board(uint32_t c)
+{
+    struct cnftl_board b = { .params = { .s = SECTOR, .alpha = 4, .beta = 4,
+                                         .d = 4, .mu = 4, .gamma = 4, .c = c,
+                                         .n = 20 } };
+    const struct cnftl_params *p = &b.params;
+
+    b.chip = get(cnftl_chip_bytes(p));
+    b.ct = get(cnftl_ct_entries(p) * sizeof *b.ct);
+    b.bt = get(cnftl_bt_entries(p) * sizeof *b.bt);
+    b.fst = get(cnftl_fst_entries(p) * sizeof *b.fst);
+    b.bst = get(cnftl_bst_entries(p) * sizeof *b.bst);
+    b.wear = calloc(cnftl_wear_entries(p), sizeof *b.wear);
+    b.marks = get(cnftl_marks_entries(p) * sizeof *b.marks);
+    memset(b.chip, 255, cnftl_chip_bytes(p));
+    return b;
+}
+
+static void free_board(struct cnftl_board *b)
+{
+    free(b->chip);
+    free(b->ct);
+    free(b->bt);
+    free(b->fst);
+    free(b->bst);
+    free(b->wear);
+    free(b->marks);
+}
+
+/* Ends the program unless a call was accepted. */
+static uint64_t accepted(uint64_t answer)
+{
+    if (cnftl_reply_of(answer) != CNFTL_ACCEPTED) {
+        fprintf(stderr, "sizes: refused with reply %u\n",
+                (unsigned)cnftl_reply_of(answer));
+        exit(1);
+    }
+    return answer;
+}
+
+/* Writes every cluster once. */
+static void fill(const struct cnftl_board *b)
+{
+    for (uint32_t c = 0; c < b->params.c; c++)
+        accepted(cnftl_board_write(b, 4 * c, 4, data, sizeof data));
+}
+
+/* A batch of writes of one sector; adds up what they report. */
+static void write_batch(const struct cnftl_board *b, uint64_t *programs,
+                        uint64_t *erases)
+{
+    for (int i = 0; i < BATCH; i++)
+        requests[i] = (struct cnftl_request){
+            below(cnftl_sectors(&b->params)), 1, 0 };
+    accepted(cnftl_board_queue(b, requests, BATCH, data, SECTOR, answers));
+    for (int i = 0; i < BATCH; i++) {
+        *programs += cnftl_programs_of(accepted(answers[i]));
+        *erases += cnftl_erases_of(answers[i]);
+    }
+}
+
+/* One line of the table. */
+static void measure(uint32_t c, uint64_t writes)
+{
+    struct cnftl_board b = new_board(c);
+    uint64_t programs = 0, erases = 0;
+
+    accepted(cnftl_board_format(&b));
+    fill(&b);
+    for (uint64_t done = 0; done < writes; done += BATCH)
+        write_batch(&b, &programs, &erases);
+    printf("%5lu  %15lu  %12lu  %17.1f  %18.2f\n", (unsigned long)c,
+           (unsigned long)(cnftl_sectors(&b.params) * SECTOR),
+           (unsigned long)cnftl_writes_per_erase(&b.params, 0),
+           (double)programs / (double)writes, (double)erases / (double)writes);
+    free_board(&b);
+}
+
+int main(int argc, char **argv)
+{
+    static const uint32_t clusters[] = { 252, 240, 224, 192, 160, 128 };
+    uint64_t writes = argc > 1 ? strtoull(argv[1], NULL, 10) : 20 * BATCH;
+
+    if (writes == 0 || writes % BATCH != 0 || writes > MOST_WRITES) {
+        fprintf(stderr, "use: sizes [WRITES], a multiple of 1,000\n");
+        return 2;
+    }
+    printf("    C  bytes of sectors  writes/erase  pages for a write  "
+           "erases for a write\n");
+    for (size_t i = 0; i < sizeof clusters / sizeof clusters[0]; i++)
+        measure(clusters[i], writes);
+    return 0;
+}
