@@ -1,6 +1,6 @@
 #!/usr/bin/env bash
 # Runs the linked bench program on document 01's example, on a long file of odd lines, and on inputs that end or arrive in odd ways,
-# and compares what it prints to the byte. `rt check bench` links it. The last line is 'N passed, M failed'.
+# and compares what it prints to the byte. `rt check demo` links it. The last line is 'N passed, M failed'.
 set -u
 cd "$(dirname "$0")/.."
 room=$(mktemp -d)
@@ -17,13 +17,13 @@ compare() { # NAME EXPECTED
     fi
 }
 
-if [ ! -f target/bin/bench ]; then
-    echo "target/bin/bench is not there: rt check bench links it"
+if [ ! -f target/bin/demo ]; then
+    echo "target/bin/demo is not there: rt check demo links it"
     echo "0 passed, 1 failed"
     exit 1
 fi
 
-compare "01's example" crates/bench/stdout <crates/bench/stdin
+compare "01's example" crates/demo/stdout <crates/demo/stdin
 compare "odd lines" tests/lines/odd.out <tests/lines/odd.in
 
 # byte by byte through a pipe: a line may come in any pieces

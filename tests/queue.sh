@@ -1,10 +1,10 @@
 #!/usr/bin/env bash
-# Compares the queue over lists of structs, which C cannot lend, with the model of documents 01 and 02 in tests/c: the archive of crate pair
+# Compares the queue over lists of structs, which C cannot lend, with the model of documents 01 and 02 in tests/c: the archive of crate queue_test
 # makes such lists of two requests each, and gives the third counts too. Then it shows that each mutant of the model that counts them otherwise is
 # noticed. PAIRS, MUTANT_PAIRS and SEED may be set. The comparison counts as one, and so does each mutant.
 set -u
 cd "$(dirname "$0")/.."
-crate=pair
+crate=queue_test
 . tests/c/common.sh
 seed=${SEED:-1}
 if [ ${#runner[@]} -eq 0 ]; then pairs=${PAIRS:-1000000}; else pairs=${PAIRS:-100000}; fi

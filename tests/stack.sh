@@ -11,9 +11,17 @@ grep '^cnftl_' "$room/stack"
 most=$(sed -n 's/^most //p' "$room/stack")
 check "the deepest chain, $most bytes, is under $card" [ "$most" -gt 0 -a "$most" -lt "$card" ]
 
-# the longest array type or value in the crates that cnftl uses
-reached=$(sed -n 's/^cnftl: *//p' crates.txt)
-longest=$(for each in cnftl $reached; do grep -o -h -E '; [0-9]+\]' "crates/$each/src/lib.rt"; done | tr -d '; ]' | sort -n | tail -n 1)
+# the longest array type or value in the crates that cnftl reaches: those that it uses, and what these use
+reaches() { # NAME..: these crates and all under them
+    local all="$*" more
+    while :; do
+        more=$(for each in $all; do echo "$each"; sed -n "s/^$each: *//p" crates.txt | tr ' ' '\n'; done | sort -u | grep .)
+        [ "$more" != "$all" ] || break
+        all=$more
+    done
+    echo "$all"
+}
+longest=$(for each in $(reaches cnftl); do grep -o -h -E '; [0-9]+\]' "crates/$each/src/lib.rt"; done | tr -d '; ]' | sort -n | tail -n 1)
 echo "largest local array: $longest elements"
 check "the largest local array, $longest, is at most $page" [ "$longest" -gt 0 -a "$longest" -le "$page" ]
 counted

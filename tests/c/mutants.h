@@ -149,7 +149,7 @@
     X(FIGURE_BLOCK, "figure: spare frames divided by F")
 
 /* Those that only the third counts of a queue's items show.  C does not get
-   them, so the test of crate pair alone notices these. */
+   them, so the test of crate queue_test alone notices these. */
 #define MODEL_ITEM_MUTANT_LIST(X)                                              \
     X(LOOKS_REFUSED, "looks: counted for a write refused with 5 too")          \
     X(LOOKS_QUEUE_ENTRY, "looks: an item's in the state before the queue")

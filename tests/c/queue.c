@@ -2,7 +2,7 @@
  * queue.c - compares the queue of write requests as the layer itself has it,
  * a list of structs, with the model.
  *
- * C lends no such list, so the archive of crate pair makes one of two requests.
+ * C lends no such list, so the archive of crate queue_test makes one of two requests.
  * Each pair of writes goes to a copy of one board on both sides; then the
  * answers with their third counts, which C gets nowhere else, and every byte of
  * chip and tables, and past their ends, must be equal.

@@ -9,8 +9,8 @@ use borrow.Author.Tests.{ne-eqb}
 use Rattle.rules.specs.declared.Params.{Params}
 use Rattle.rules.specs.Parameters.{allowed}
 use Rattle.rules.specs.Tables.{Board}
-use Rattle.why.specs.Why.{whyOf}
-use Rattle.listing.specs.Told.{tells}
+use Rattle.call_why.specs.Why.{whyOf}
+use Rattle.c_why.specs.Told.{tells}
 use Rattle.cnftl.specs.Listed.{Listed, toldList, toldReply}
 
 -- the call's reply and list, where the list has thirteen entries and where it has not

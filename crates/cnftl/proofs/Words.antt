@@ -8,9 +8,9 @@ use Rattle.rules.specs.declared.Answer.{Answer}
 use Rattle.rules.specs.Tables.{Board}
 use Rattle.rules.specs.Requests.{Call}
 use Rattle.rules.specs.Calls.{Outcome, outcomeOf}
-use Rattle.ends.specs.Claims.{outcome}
-use Rattle.packing.specs.Packed.{packed}
-use Rattle.packing.proofs.Counts.{few-programs}
+use Rattle.outcomes.specs.Claims.{outcome}
+use Rattle.c_answer.specs.Packed.{packed}
+use Rattle.c_answer.proofs.Counts.{few-programs}
 use Rattle.cnftl.specs.Packed.{Given}
 
 module _ (p p′ : Params) (same : p ≡ p′) (a : Answer) (bytes : List ℕ) (b b′ : Board) (c : Call) (e : outcome a bytes [] b′ ≡ outcomeOf p b c) where

@@ -9,8 +9,8 @@ use lib.ListN.{getD, length}
 use Rattle.rules.specs.declared.Params.{Params}
 use Rattle.rules.specs.Parameters.{allowed}
 use Rattle.rules.specs.Tables.{Board}
-use Rattle.why.specs.Why.{whyOf}
-use Rattle.listing.specs.Told.{tells}
+use Rattle.call_why.specs.Why.{whyOf}
+use Rattle.c_why.specs.Told.{tells}
 
 -- 1 or 2 where the list has not thirteen entries
 unfoldable pub toldReply : Params → Board → ℕ → List ℕ → ℕ

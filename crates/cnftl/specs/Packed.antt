@@ -5,7 +5,7 @@ use mathlib.Core.List.{List}
 use Prim.Native.Nat.{ℕ}
 use Rattle.rules.specs.Tables.{Board}
 use Rattle.rules.specs.Calls.{Outcome}
-use Rattle.packing.specs.Packed.{packed}
+use Rattle.c_answer.specs.Packed.{packed}
 
 -- the packed answer, the lent data and the board of the outcome
 pub record Given (o : Outcome) (word : ℕ) (bytes : List ℕ) (b : Board) : Type 0 where

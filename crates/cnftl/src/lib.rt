@@ -4,8 +4,8 @@ ghost use mathlib.Core.List.{[]};
 ghost use Rattle.rules.specs.Tables.{boardOf};
 ghost use Rattle.rules.specs.Calls.{outcomeOf};
 ghost use Rattle.rules.specs.Requests.{format, read, write, release, requestOf};
-ghost use Rattle.flat.specs.Flat.{flatCall, flatOutcome};
-ghost use Rattle.packing.specs.Packed.{paramsOf};
+ghost use Rattle.c_queue.specs.Flat.{flatCall, flatOutcome};
+ghost use Rattle.c_answer.specs.Packed.{paramsOf};
 ghost use Rattle.cnftl.specs.Packed.{Given};
 ghost use Rattle.cnftl.specs.Listed.{Listed};
 
@@ -30,8 +30,8 @@ pub extern "C" fn cnftl_format(
 ) -> u64
     ensures { λ word. ⌜ Given (outcomeOf (paramsOf s alpha beta d mu gamma c n) (boardOf (now (chip .entry)) (now (ct .entry)) (now (bt .entry)) (now (fst .entry)) (now (bst .entry)) (now (wear .entry)) (now (marks .entry))) format) word [] (boardOf (now (chip .exit)) (now (ct .exit)) (now (bt .exit)) (now (fst .exit)) (now (bst .exit)) (now (wear .exit)) (now (marks .exit))) ⌝ }
 {
-    let p = packing::params(s, alpha, beta, d, mu, gamma, c, n);
-    packing::pack(layer::format(p, chip, ct, bt, fst, bst, wear, marks))
+    let p = c_answer::params(s, alpha, beta, d, mu, gamma, c, n);
+    c_answer::pack(calls::format(p, chip, ct, bt, fst, bst, wear, marks))
 }
 
 // Document 01's read.
@@ -58,8 +58,8 @@ pub extern "C" fn cnftl_read(
 ) -> u64
     ensures { λ word. ⌜ Given (outcomeOf (paramsOf s alpha beta d mu gamma c n) (boardOf (now (chip .entry)) (now (ct .entry)) (now (bt .entry)) (now (fst .entry)) (now (bst .entry)) (now (wear .entry)) (now (marks .entry))) (read (requestOf lba count (now (bytes .entry))))) word (now (bytes .exit)) (boardOf (now (chip .entry)) (now (ct .entry)) (now (bt .entry)) (now (fst .entry)) (now (bst .entry)) (now (wear .entry)) (now (marks .entry))) ⌝ }
 {
-    let p = packing::params(s, alpha, beta, d, mu, gamma, c, n);
-    packing::pack(layer::read(p, chip, ct, bt, fst, bst, wear, marks, lba, count, bytes))
+    let p = c_answer::params(s, alpha, beta, d, mu, gamma, c, n);
+    c_answer::pack(calls::read(p, chip, ct, bt, fst, bst, wear, marks, lba, count, bytes))
 }
 
 // Document 01's write.
@@ -86,8 +86,8 @@ pub extern "C" fn cnftl_write(
 ) -> u64
     ensures { λ word. ⌜ Given (outcomeOf (paramsOf s alpha beta d mu gamma c n) (boardOf (now (chip .entry)) (now (ct .entry)) (now (bt .entry)) (now (fst .entry)) (now (bst .entry)) (now (wear .entry)) (now (marks .entry))) (write (requestOf lba count (now (bytes .entry))))) word (now (bytes .entry)) (boardOf (now (chip .exit)) (now (ct .exit)) (now (bt .exit)) (now (fst .exit)) (now (bst .exit)) (now (wear .exit)) (now (marks .exit))) ⌝ }
 {
-    let p = packing::params(s, alpha, beta, d, mu, gamma, c, n);
-    packing::pack(layer::write(p, chip, ct, bt, fst, bst, wear, marks, lba, count, bytes))
+    let p = c_answer::params(s, alpha, beta, d, mu, gamma, c, n);
+    c_answer::pack(calls::write(p, chip, ct, bt, fst, bst, wear, marks, lba, count, bytes))
 }
 
 // Document 02's queue of writes, from flat lists.
@@ -114,8 +114,8 @@ pub extern "C" fn cnftl_queue(
 ) -> u64
     ensures { λ word. ⌜ flatOutcome word (now (answers .exit)) (boardOf (now (chip .exit)) (now (ct .exit)) (now (bt .exit)) (now (fst .exit)) (now (bst .exit)) (now (wear .exit)) (now (marks .exit))) ≡ flatCall (paramsOf s alpha beta d mu gamma c n) (boardOf (now (chip .entry)) (now (ct .entry)) (now (bt .entry)) (now (fst .entry)) (now (bst .entry)) (now (wear .entry)) (now (marks .entry))) (now (requests .entry)) (now (bytes .entry)) (now (answers .entry)) ⌝ }
 {
-    let p = packing::params(s, alpha, beta, d, mu, gamma, c, n);
-    flat::queue(
+    let p = c_answer::params(s, alpha, beta, d, mu, gamma, c, n);
+    c_queue::queue(
         p,
         chip,
         ct,
@@ -152,8 +152,8 @@ pub extern "C" fn cnftl_release(
 ) -> u64
     ensures { λ word. ⌜ Given (outcomeOf (paramsOf s alpha beta d mu gamma c n) (boardOf (now (chip .entry)) (now (ct .entry)) (now (bt .entry)) (now (fst .entry)) (now (bst .entry)) (now (wear .entry)) (now (marks .entry))) (release cluster)) word [] (boardOf (now (chip .entry)) (now (ct .exit)) (now (bt .entry)) (now (fst .entry)) (now (bst .entry)) (now (wear .entry)) (now (marks .exit))) ⌝ }
 {
-    let p = packing::params(s, alpha, beta, d, mu, gamma, c, n);
-    packing::pack(layer::release(p, chip, ct, bt, fst, bst, wear, marks, cluster))
+    let p = c_answer::params(s, alpha, beta, d, mu, gamma, c, n);
+    c_answer::pack(calls::release(p, chip, ct, bt, fst, bst, wear, marks, cluster))
 }
 
 // Document 02's question why a sector reads so, and what a write of it would do.
@@ -179,15 +179,15 @@ pub extern "C" fn cnftl_why(
 ) -> u64
     ensures { λ word. ⌜ Listed (paramsOf s alpha beta d mu gamma c n) (boardOf (now (chip .entry)) (now (ct .entry)) (now (bt .entry)) (now (fst .entry)) (now (bst .entry)) (now (wear .entry)) (now (marks .entry))) lba (now (list .entry)) word (now (list .exit)) ⌝ }
 {
-    let p = packing::params(s, alpha, beta, d, mu, gamma, c, n);
+    let p = c_answer::params(s, alpha, beta, d, mu, gamma, c, n);
     if list.len() != 13 {
-        if sizes::parameters_allowed(p) {
+        if chip_sizes::parameters_allowed(p) {
             return 2;
         }
         return 1;
     }
-    listing::tell(
-        why::explain(p, chip, ct, bt, fst, bst, wear, marks, lba),
+    c_why::tell(
+        call_why::explain(p, chip, ct, bt, fst, bst, wear, marks, lba),
         list,
     )
 }

@@ -6,7 +6,7 @@ ghost use lib.ListN.{length};
 ghost use Rattle.rules.specs.Tables.{boardOf, marksLength};
 ghost use Rattle.rules.specs.Requests.{Request, format, read, release, write};
 ghost use Rattle.rules.specs.Replies.{firstRow, lentRows, orderRow, replyOf, whyReply};
-ghost use Rattle.agree.specs.Check.{Lengths};
+ghost use Rattle.check_rules.specs.Check.{Lengths};
 use rules::Params;
 use rules::Reply;
 
@@ -23,10 +23,10 @@ pub fn board_reply(
 ) -> Reply
     ensures { λ r. ⌜ r ≡ firstRow Reply.Accepted (lentRows p (boardOf (now (chip .entry)) (now (ct .entry)) (now (bt .entry)) (now (fst .entry)) (now (bst .entry)) (now (wear .entry)) (now (marks .entry)))) ⌝ }
 {
-    if !sizes::parameters_allowed(p) {
+    if !chip_sizes::parameters_allowed(p) {
         return Reply::BadParameter;
     }
-    if !sizes::lengths_fit(
+    if !chip_sizes::lengths_fit(
         p,
         chip.len(),
         ct.len(),
@@ -55,7 +55,7 @@ pub fn state_reply(
     requires { ⌜ length (now marks) ≡ marksLength p ⌝ }
     ensures { λ r. ⌜ ((wear : List ℕ) → r ≡ firstRow Reply.Accepted (orderRow p (boardOf (now (chip .entry)) (now (ct .entry)) (now (bt .entry)) (now (fst .entry)) (now (bst .entry)) wear (now (marks .entry))))) ⌝ }
 {
-    if order::in_order(p, chip, ct, bt, fst, bst, marks) {
+    if check_board::in_order(p, chip, ct, bt, fst, bst, marks) {
         return Reply::Accepted;
     }
     Reply::NotOrderly
@@ -82,7 +82,7 @@ pub fn access_reply(
     if rules::number(head) != 0 {
         return head;
     }
-    let asked = refusals::request_reply(p, lba, count, refusals::wrong_data(p, count, len));
+    let asked = reply_rows::request_reply(p, lba, count, reply_rows::wrong_data(p, count, len));
     if rules::number(asked) != 0 {
         return asked;
     }
@@ -107,7 +107,7 @@ pub fn release_reply(
     if rules::number(head) != 0 {
         return head;
     }
-    if refusals::bad_cluster(p, c) {
+    if reply_rows::bad_cluster(p, c) {
         return Reply::BadAddress;
     }
     state_reply(p, chip, ct, bt, fst, bst, marks)
@@ -131,7 +131,7 @@ pub fn why_reply(
     if rules::number(head) != 0 {
         return head;
     }
-    if refusals::bad_address(p, lba) {
+    if reply_rows::bad_address(p, lba) {
         return Reply::BadAddress;
     }
     state_reply(p, chip, ct, bt, fst, bst, marks)
@@ -154,7 +154,7 @@ pub fn format_reply(
     if rules::number(head) != 0 {
         return head;
     }
-    if formatting::count_good(p, chip) < p.mu * p.gamma + 1 {
+    if format_work::count_good(p, chip) < p.mu * p.gamma + 1 {
         return Reply::TooFewBlocks;
     }
     Reply::Accepted

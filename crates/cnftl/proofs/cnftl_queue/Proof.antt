@@ -4,7 +4,7 @@ use mathlib.Core.Path.{ap, _∙_}
 use borrow.Author.Needs.{needs}
 use Rattle.rules.specs.declared.Params.{Params}
 use Rattle.rules.specs.Tables.{Board, boardOf}
-use Rattle.flat.specs.Flat.{flatCall}
+use Rattle.c_queue.specs.Flat.{flatCall}
 use Rattle.cnftl.proofs.cnftl_queue.Statement.{statement}
 use Rattle.cnftl.proofs.cnftl_queue.Tie as tie
 

@@ -1,4 +1,4 @@
--- `cnftl::cnftl_why`: by the length of the list; then the answer of `why::explain`, told.
+-- `cnftl::cnftl_why`: by the length of the list; then the answer of `call_why::explain`, told.
 -- Assumes nothing.
 use borrow.Author.Needs.{needs}
 use Rattle.rules.specs.Tables.{Board, boardOf}

@@ -4,8 +4,8 @@ use mathlib.Core.Path.{sym}
 use borrow.Author.Needs.{needs}
 use Rattle.rules.specs.Replies.{replyOf, rowsOf}
 use Rattle.rules.specs.Tables.{Board, boardOf}
-use Rattle.agree.proofs.Agree.{lengths-in, marks-fit}
-use Rattle.refusals.proofs.Rows.{after-access, after-lent, lent-passes, refuses}
+use Rattle.check_rules.proofs.Agree.{lengths-in, marks-fit}
+use Rattle.reply_rows.proofs.Rows.{after-access, after-lent, lent-passes, refuses}
 use Rattle.replies.proofs.access_reply.Statement.{statement}
 use Rattle.replies.proofs.access_reply.Tie as tie
 

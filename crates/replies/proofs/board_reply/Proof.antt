@@ -5,7 +5,7 @@ use mathlib.Core.Bool.{not}
 use borrow.Author.Needs.{needs}
 use borrow.Author.Tests.{not-false}
 use Rattle.rules.specs.Replies.{badParameter, lentRows, wrongLength}
-use Rattle.refusals.proofs.Rows.{here, otherwise, skip}
+use Rattle.reply_rows.proofs.Rows.{here, otherwise, skip}
 use Rattle.replies.proofs.board_reply.Statement.{statement}
 use Rattle.replies.proofs.board_reply.Tie as tie
 

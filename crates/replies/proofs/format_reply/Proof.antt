@@ -8,8 +8,8 @@ use Rattle.rules.specs.Replies.{replyOf, rowsOf}
 use Rattle.rules.specs.Tables.{Board, boardOf}
 use Rattle.rules.proofs.Sizes.{sizes}
 use Rattle.rules.proofs.TableFacts.{chip-size}
-use Rattle.agree.proofs.Agree.{lengths-in}
-use Rattle.refusals.proofs.Rows.{after-lent, few-is, here, lent-passes, otherwise, refuses, skip}
+use Rattle.check_rules.proofs.Agree.{lengths-in}
+use Rattle.reply_rows.proofs.Rows.{after-lent, few-is, here, lent-passes, otherwise, refuses, skip}
 use Rattle.replies.proofs.format_reply.Statement.{statement}
 use Rattle.replies.proofs.format_reply.Tie as tie
 

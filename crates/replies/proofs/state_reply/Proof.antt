@@ -1,7 +1,7 @@
 -- `replies::state_reply`: the row of the state, by its test.
 -- Assumes nothing.
 use borrow.Author.Needs.{needs}
-use Rattle.refusals.proofs.Rows.{state-row}
+use Rattle.reply_rows.proofs.Rows.{state-row}
 use Rattle.replies.proofs.state_reply.Statement.{statement}
 use Rattle.replies.proofs.state_reply.Tie as tie
 

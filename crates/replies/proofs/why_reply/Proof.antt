@@ -3,8 +3,8 @@
 use borrow.Author.Needs.{needs}
 use Rattle.rules.specs.Replies.{whyReply, whyRows}
 use Rattle.rules.specs.Tables.{Board, boardOf}
-use Rattle.agree.proofs.Agree.{lengths-in, marks-fit}
-use Rattle.refusals.proofs.Rows.{after-lent, here, lent-passes, refuses, skip}
+use Rattle.check_rules.proofs.Agree.{lengths-in, marks-fit}
+use Rattle.reply_rows.proofs.Rows.{after-lent, here, lent-passes, refuses, skip}
 use Rattle.replies.proofs.why_reply.Statement.{statement}
 use Rattle.replies.proofs.why_reply.Tie as tie
 

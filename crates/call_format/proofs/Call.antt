@@ -1,0 +1,64 @@
+-- What an accepted format asks of its parts, and its work done.
+-- Assumes nothing.
+use mathlib.Core.Path.{_≡_, sym, _∙_}
+use mathlib.Core.List.{List, []}
+use Prim.Native.Nat.{ℕ, _*_, _≤_, _<_}
+use native.Mathlib.Omega.{arith}
+use lib.ListN.{length, replicate}
+use borrow.Author.Tests.{eqb-true}
+use Rattle.lists.proofs.Tests.{truths}
+use Rattle.rules.specs.declared.Params.{Params}
+use Rattle.rules.specs.declared.Reply.{Reply}
+use Rattle.rules.specs.declared.Reply.the-variants.{Accepted}
+use Rattle.rules.specs.Tables.{Board, boardOf, none}
+use Rattle.rules.specs.Marks.{marksOf}
+use Rattle.rules.specs.Format.{formatted}
+use Rattle.rules.specs.Requests.{format}
+use Rattle.rules.specs.Replies.{lengthsFit, replyOf}
+use Rattle.rules.specs.Calls.{answerOf, outcomeOf}
+use Rattle.rules.proofs.Sizes.{sizes}
+use Rattle.rules.proofs.TableFacts.{chip-size}
+use Rattle.rules.proofs.Admitted.{FormatAdmitted, format-admitted}
+use Rattle.rules.proofs.Outcomes.{format-accepted}
+use Rattle.rules.proofs.FormatCounts.{format-programs}
+use Rattle.marks.proofs.FormattedMarks.{formatted-marks}
+use Rattle.format_work.specs.Blocks.{BlocksAsked, BlocksDone}
+use Rattle.check_rules.specs.Check.{Lengths}
+use Rattle.check_rules.proofs.Agree.{lengths-in, marks-fit}
+use Rattle.outcomes.specs.Claims.{outcome}
+
+module _ (p : Params) (b : Board) (e : replyOf p b format ≡ Accepted) where
+  given : FormatAdmitted p b
+  given = format-admitted p b e
+
+  lens : Lengths p (b .chip) (b .ct) (b .bt) (b .fst) (b .bst)
+  lens = lengths-in p b (given .fine) (given .lengths)
+
+  wear-length : length (b .wear) ≡ p .N
+  unfolding lengthsFit
+  wear-length = eqb-true _ _ ((truths _ (given .lengths)) .1 .1 .1 .1 .1 .0)
+
+  pub blocks-asked : BlocksAsked p (b .chip) (b .bst) (b .wear)
+  blocks-asked = record { fine = lens .fine; chipLength = lens .chipLength ∙ chip-size p; bstLength = lens .bstLength; wearLength = wear-length }
+
+  pub few : (k : ℕ) → k ≤ p .N → k < 4294967296
+  few k h = omega (arith, h, (sizes p (given .fine)) .blocks)
+
+  -- every block formatted, every entry cleared and every mark gone
+  pub format-done : (r : Reply) → r ≡ replyOf p b format → (chip ct bt fst bst wear marks : List ℕ) (k : ℕ) → ct ≡ replicate (length (b .ct)) none → bt ≡ replicate (length (b .bt)) none
+      → fst ≡ replicate (length (b .fst)) none → marks ≡ replicate (length (b .marks)) 0 → BlocksDone p (b .chip) (b .wear) chip bst wear k
+      → outcome (record { reply = r; programs = 0; erases = k; looks = 0 }) [] [] (boardOf chip ct bt fst bst wear marks) ≡ outcomeOf p b format
+  unfolding answerOf formatted
+  format-done r er chip ct bt fst bst wear marks k ce be fe me d =
+      let ct-is : ct ≡ replicate (p .C) none = ce ∙ rw (lens .ctLength) in
+      let bt-is : bt ≡ replicate (p .mu * p .gamma) none = be ∙ rw (lens .btLength) in
+      let fst-is : fst ≡ replicate (p .mu) none = fe ∙ rw (lens .fstLength) in
+      let marks-is : marks ≡ marksOf p (formatted p b) = me ∙ rw (marks-fit p b (given .lengths)) (sym (formatted-marks p b e)) in
+      (λ i.
+      record {
+        answer = record { reply = (er ∙ e) i; programs = sym (format-programs p (b .chip)) i; erases = d .count i; looks = 0 };
+        bytes = [];
+        answers = [];
+        board = record { chip = d .chipIs i; ct = ct-is i; bt = bt-is i; fst = fst-is i; bst = d .bstIs i; wear = d .wearIs i; marks = marks-is i };
+      })
+      ∙ sym (format-accepted p b e)

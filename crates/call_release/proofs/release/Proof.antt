@@ -1,0 +1,57 @@
+-- `call_release::release`: refused by the reply's number, or the mark of the cluster's frame cleared and its CT entry set to none.
+-- Assumes nothing.
+use native.Mathlib.Omega.{arith}
+use borrow.Author.Needs.{needs}
+use Rattle.rules.specs.Tables.{Board, boardOf}
+use Rattle.call_release.proofs.Call.{entry-there, regions, release-done, release-lookup, release-refused, release-unmark}
+use Rattle.call_release.proofs.release.Statement.{statement}
+use Rattle.call_release.proofs.release.Tie as tie
+
+-- the board at entry
+abbrev board : tie.Start → Board
+board a = boardOf (a .args .chip .now) (a .args .ct .now) (a .args .bt .now) (a .args .fst .now) (a .args .bst .now) (a .args .wear .now) (a .args .marks .now)
+
+release-reply-requires : tie.Need-release-reply-requires
+release-reply-requires c κs = search needs
+
+number-requires : tie.Need-number-requires
+number-requires c κs = search needs
+
+idle-requires : tie.Need-idle-requires
+idle-requires c κs = search needs
+
+same-length : tie.Need-same-length
+same-length c = search needs
+
+same-length-2 : tie.Need-same-length-2
+same-length-2 c = search needs
+
+returns : tie.Need-returns
+returns c = release-refused _ (board (c .before .before .before .before .before .before .before .before .before .before .before .before .before)) _ _ (c .before .before .before .release-reply .ensures) _ (c .before .before .number .ensures) (c .before .if1 .taken) _ (c .idle .ensures)
+
+find-frame-requires : tie.Need-find-frame-requires
+find-frame-requires c κs = release-lookup _ (board (c .before .before .before .before .before .before .before .before .before .before .before .before .before)) _ _ (c .before .before .before .release-reply .ensures) _ (c .before .before .number .ensures) (c .before .if1 .left)
+
+region-of-requires : tie.Need-region-of-requires
+region-of-requires c κs = regions _ (board (c .before .before .before .before .before .before .before .before .before .before .before .before .before .before .before)) _ _ (c .before .before .before .before .before .release-reply .ensures) _ (c .before .before .before .before .number .ensures) (c .before .before .before .if1 .left)
+
+unmark-requires : tie.Need-unmark-requires
+unmark-requires c κs = release-unmark _ (board (c .before .before .before .before .before .before .before .before .before .before .before .before .before .before .before .before)) _ _ (c .before .before .before .before .before .before .release-reply .ensures) _ (c .before .before .before .before .before .number .ensures) (c .before .before .before .before .if1 .left) _ _ _ _ (c .before .before .find-frame .ensures .0) (c .before .before .find-frame .ensures .1 .0) _ (c .region-of .ensures)
+
+set-ct-requires : tie.Need-set-ct-requires
+set-ct-requires c κs = (entry-there _ (board (c .before .before .before .before .before .before .before .before .before .before .before .before .before .before .before .before .before .before .before .before)) _ _ (c .before .before .before .before .before .before .before .before .before .before .release-reply .ensures) _ (c .before .before .before .before .before .before .before .before .before .number .ensures) (c .before .before .before .before .before .before .before .before .if1 .left), omega arith)
+
+idle-requires-2 : tie.Need-idle-requires-2
+idle-requires-2 c κs = search needs
+
+same-length-3 : tie.Need-same-length-3
+same-length-3 c = search needs
+
+same-length-4 : tie.Need-same-length-4
+same-length-4 c = search needs
+
+returns-2 : tie.Need-returns-2
+returns-2 c = release-done _ (board (c .before .before .before .before .before .before .before .before .before .before .before .before .before .before .before .before .before .before .before .before .before .before .before .before)) _ _ (c .before .before .before .before .before .before .before .before .before .before .before .before .before .before .release-reply .ensures) _ (c .before .before .before .before .before .before .before .before .before .before .before .before .before .number .ensures) (c .before .before .before .before .before .before .before .before .before .before .before .before .if1 .left) _ _ _ _ (c .before .before .before .before .before .before .before .before .before .before .find-frame .ensures .0) (c .before .before .before .before .before .before .before .before .before .before .find-frame .ensures .1 .0) _ (c .before .before .before .before .before .before .before .before .region-of .ensures) _ _ (c .before .before .before .set-ct .ensures) (c .before .before .before .before .before .before .before .unmark .ensures) _ (c .idle2 .ensures)
+
+pub release-spec : {M : Type 1} → statement M
+release-spec = tie.close (tie.spec release-reply-requires number-requires idle-requires same-length same-length-2 returns find-frame-requires region-of-requires unmark-requires set-ct-requires idle-requires-2 same-length-3 same-length-4 returns-2)

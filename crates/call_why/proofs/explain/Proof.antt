@@ -1,0 +1,82 @@
+-- `call_why::explain`: by the reply's number; on an orderly board, by what the lookup found.
+-- Assumes nothing.
+use borrow.Author.Needs.{needs}
+use borrow.Author.Tests.{not-false}
+use Rattle.rules.specs.Tables.{Board, boardOf}
+use Rattle.rules.proofs.Sizes.{sizes}
+use Rattle.call_why.specs.Why.{numbersOf}
+use Rattle.call_why.proofs.Answers.{asked, empty, forecast-is, held, lengths-at, looked, marks-right, passed, place-asked, small, why-7, why-found, why-refused}
+use Rattle.call_why.proofs.Small.{broken-small, refused-small}
+use Rattle.call_why.proofs.explain.Statement.{statement}
+use Rattle.call_why.proofs.explain.Tie as tie
+
+abbrev board : tie.Start → Board
+board a = boardOf (a .args .chip .now) (a .args .ct .now) (a .args .bt .now) (a .args .fst .now) (a .args .bst .now) (a .args .wear .now) (a .args .marks .now)
+
+why-reply-requires : tie.Need-why-reply-requires
+why-reply-requires c κs = search needs
+
+number-requires : tie.Need-number-requires
+number-requires c κs = search needs
+
+broken-rule-requires : tie.Need-broken-rule-requires
+broken-rule-requires c κs = lengths-at _ (board (c .before .before .before .before .before .before .before .before .before .before)) _ _ (c .before .before .why-reply .ensures) _ (c .before .number .ensures) (c .if1 .taken)
+
+returns : tie.Need-returns
+unfolding numbersOf
+returns c = (why-7 _ (board (c .before .before .before .before .before .before .before .before .before .before .before)) _ _ (c .before .before .before .why-reply .ensures) _ (c .before .before .number .ensures) (c .before .if1 .taken) _ (c .broken-rule .ensures _ _), broken-small (c .broken-rule .result))
+
+returns-2 : tie.Need-returns-2
+unfolding numbersOf
+returns-2 c = (why-refused _ (board (c .before .before .before .before .before .before .before .before .before .before .before)) _ _ (c .before .before .before .why-reply .ensures) _ (c .before .before .number .ensures) (c .before .if1 .left) (c .if2 .taken), refused-small (c .before .before .before .why-reply .result))
+
+cluster-of-requires : tie.Need-cluster-of-requires
+cluster-of-requires c κs = (sizes _ ((passed _ (board (c .before .before .before .before .before .before .before .before .before .before .before)) _ _ (c .before .before .before .why-reply .ensures) _ (c .before .before .number .ensures) (c .if2 .left)) .ordered .fine)) .sectors
+
+region-of-requires : tie.Need-region-of-requires
+region-of-requires c κs = (sizes _ ((passed _ (board (c .before .before .before .before .before .before .before .before .before .before .before .before)) _ _ (c .before .before .before .before .why-reply .ensures) _ (c .before .before .before .number .ensures) (c .before .if2 .left)) .ordered .fine)) .regions
+
+forecast-of-requires : tie.Need-forecast-of-requires
+forecast-of-requires c κs = asked _ (board (c .before .before .before .before .before .before .before .before .before .before .before .before .before)) _ (passed _ (board (c .before .before .before .before .before .before .before .before .before .before .before .before .before)) _ _ (c .before .before .before .before .before .why-reply .ensures) _ (c .before .before .before .before .number .ensures) (c .before .before .if2 .left)) _ (c .before .cluster-of .ensures) _ (c .region-of .ensures)
+
+find-frame-requires : tie.Need-find-frame-requires
+find-frame-requires c κs = looked _ (board (c .before .before .before .before .before .before .before .before .before .before .before .before .before .before)) _ (passed _ (board (c .before .before .before .before .before .before .before .before .before .before .before .before .before .before)) _ _ (c .before .before .before .before .before .before .why-reply .ensures) _ (c .before .before .before .before .before .number .ensures) (c .before .before .before .if2 .left)) _ (c .before .before .cluster-of .ensures)
+
+returns-3 : tie.Need-returns-3
+unfolding numbersOf
+returns-3 c =
+    let h = (passed _ (board (c .before .before .before .before .before .before .before .before .before .before .before .before .before .before .before .before .before)) _ _ (c .before .before .before .before .before .before .before .before .before .why-reply .ensures) _ (c .before .before .before .before .before .before .before .before .number .ensures) (c .before .before .before .before .before .before .if2 .left)) in
+    let fc = forecast-is _ (board (c .before .before .before .before .before .before .before .before .before .before .before .before .before .before .before .before .before)) _ _ (c .before .before .before .before .region-of .ensures) _ (c .before .before .before .forecast-of .ensures _ (marks-right _ (board (c .before .before .before .before .before .before .before .before .before .before .before .before .before .before .before .before .before)) _ h)) in
+    let e = empty _ (board (c .before .before .before .before .before .before .before .before .before .before .before .before .before .before .before .before .before)) _ _ _ (c .before .before .find-frame .ensures .0) (c .if3 .taken) _ fc in
+    (why-found _ (board (c .before .before .before .before .before .before .before .before .before .before .before .before .before .before .before .before .before)) _ h _ (c .before .before .before .before .before .cluster-of .ensures) _ e, small _ (board (c .before .before .before .before .before .before .before .before .before .before .before .before .before .before .before .before .before)) _ h _ (c .before .before .before .before .before .cluster-of .ensures) _ e)
+
+place-at-requires : tie.Need-place-at-requires
+place-at-requires c κs =
+    place-asked _ (board (c .before .before .before .before .before .before .before .before .before .before .before .before .before .before .before .before .before)) _ _ _ (c .before .before .find-frame .ensures .0) (c .if3 .left)
+    (looked _ (board (c .before .before .before .before .before .before .before .before .before .before .before .before .before .before .before .before .before)) _ (passed _ (board (c .before .before .before .before .before .before .before .before .before .before .before .before .before .before .before .before .before)) _ _ (c .before .before .before .before .before .before .before .before .before .why-reply .ensures) _ (c .before .before .before .before .before .before .before .before .number .ensures) (c .before .before .before .before .before .before .if2 .left)) _ (c .before .before .before .before .before .cluster-of .ensures)) _ _ (c .before .before .find-frame .ensures .1 .0)
+
+returns-4 : tie.Need-returns-4
+unfolding numbersOf
+returns-4 c =
+    let h = (passed _ (board (c .before .before .before .before .before .before .before .before .before .before .before .before .before .before .before .before .before .before)) _ _ (c .before .before .before .before .before .before .before .before .before .before .why-reply .ensures) _ (c .before .before .before .before .before .before .before .before .before .number .ensures) (c .before .before .before .before .before .before .before .if2 .left)) in
+    let fc = forecast-is _ (board (c .before .before .before .before .before .before .before .before .before .before .before .before .before .before .before .before .before .before)) _ _ (c .before .before .before .before .before .region-of .ensures) _ (c .before .before .before .before .forecast-of .ensures _ (marks-right _ (board (c .before .before .before .before .before .before .before .before .before .before .before .before .before .before .before .before .before .before)) _ h)) in
+    let at = c .place-at .ensures _ _ _ _ _ (not-false _ (c .before .if3 .left)) (c .before .before .before .find-frame .ensures .1 .0) in
+    let e = held _ (board (c .before .before .before .before .before .before .before .before .before .before .before .before .before .before .before .before .before .before)) _ _ _ (c .before .before .before .find-frame .ensures .0) (c .before .if3 .left) _ _ _ at fc (c .before .before .before .find-frame .ensures .1 .1) in
+    (why-found _ (board (c .before .before .before .before .before .before .before .before .before .before .before .before .before .before .before .before .before .before)) _ h _ (c .before .before .before .before .before .before .cluster-of .ensures) _ e, small _ (board (c .before .before .before .before .before .before .before .before .before .before .before .before .before .before .before .before .before .before)) _ h _ (c .before .before .before .before .before .before .cluster-of .ensures) _ e)
+
+pub explain-spec : {M : Type 1} → statement M
+explain-spec =
+    tie.close
+    (tie.spec
+    why-reply-requires
+    number-requires
+    broken-rule-requires
+    returns
+    returns-2
+    cluster-of-requires
+    region-of-requires
+    forecast-of-requires
+    find-frame-requires
+    returns-3
+    place-at-requires
+    returns-4)

@@ -1,0 +1,108 @@
+// Document 02, T-05: why a sector reads so, and what a write of it would do; with T-06's table of marks.
+ghost use mathlib.Core.Path.{_≡_};
+ghost use mathlib.Core.Bool.{true};
+ghost use mathlib.Core.List.{List, []};
+ghost use Prim.Native.Nat.{ℕ};
+ghost use Rattle.rules.specs.Regions.{viewOf};
+ghost use Rattle.rules.specs.Tables.{boardOf};
+ghost use Rattle.rules.specs.Write.{planOf};
+ghost use Rattle.rules.specs.Marks.{marksOf};
+ghost use Rattle.read_work.specs.Lookup.{Within};
+ghost use Rattle.call_why.specs.Asked.{ForecastAsked, PlaceAsked};
+ghost use Rattle.call_why.specs.Why.{Small, forecastNumbers, holderOf, numbersOf, placeNumbers, planNumbers, whyOf};
+use check_broken::Rule;
+use read_work::Found;
+use rules::Cluster;
+use rules::PBlock;
+use rules::Params;
+use rules::Reply;
+use rules::Segment;
+use rules::VBlock;
+use write_plan::Planned;
+
+// Where a cluster is held: its region, its segment, the virtual and the physical block, and the frame of that block.
+pub struct Place {
+    pub region: usize,
+    pub segment: Segment,
+    pub vblock: VBlock,
+    pub pblock: PBlock,
+    pub frame: usize,
+}
+
+// What a write would do: take this frame of the open virtual block; open a virtual block; reclaim one that has so many valid frames.
+pub enum Forecast {
+    Continues(VBlock, usize),
+    Opens(VBlock),
+    Reclaims(VBlock, usize),
+}
+
+// Why a sector reads so: the call is refused, or the state or its marks are not in order, by the first broken rule; or no frame is held, or one is held there,
+// which a read or a write finds with so many looks at spare areas.
+pub enum Why {
+    Refused(Reply),
+    Disordered(Rule),
+    Empty(Forecast),
+    Held(Place, Forecast, u32),
+}
+
+// What a write to region r would do, on a state that is known to be orderly: where it reclaims, the marks of the virtual block are counted.
+fn forecast_of(p: Params, chip: &[u8], bt: &[u16], fst: &[u16], marks: &[u64], r: usize) -> Forecast
+    requires { ⌜ ForecastAsked p (now chip) (now bt) (now fst) (now marks) r ⌝ }
+    ensures { λ fc. ⌜ ((ct : List ℕ) → now (marks .entry) ≡ marksOf p (boardOf (now (chip .entry)) ct (now (bt .entry)) (now (fst .entry)) [] [] [])
+        → forecastNumbers fc ≡ planNumbers p (viewOf p (now (chip .entry)) ct (now (bt .entry)) (now (fst .entry)) r) (planOf p (viewOf p (now (chip .entry)) ct (now (bt .entry)) (now (fst .entry)) r))) ⌝ }
+{
+    match write_plan::plan_of(p, chip, bt, fst, marks, r) {
+        Planned::Continues(v, f) => Forecast::Continues(v, f),
+        Planned::Opens(v) => Forecast::Opens(v),
+        Planned::Reclaims(v) => Forecast::Reclaims(v, chip_marks::count_marks(p, marks, r, v)),
+    }
+}
+
+// The place of cluster c, which the lookup found there.
+fn place_at(p: Params, ct: &[u16], bt: &[u16], c: Cluster, at: Found) -> Place
+    requires { ⌜ PlaceAsked p (now ct) (now bt) (c .0) (at .vblock .0) ⌝ }
+    ensures { λ pl. ⌜ ((chip fst bst wear marks : List ℕ) → at .kept ≡ true → Within p chip (now (ct .entry)) (now (bt .entry)) (c .0) (at .kept) (at .vblock .0) (at .inner)
+        → placeNumbers pl ≡ holderOf p (boardOf chip (now (ct .entry)) (now (bt .entry)) fst bst wear marks) (c .0)) ⌝ }
+{
+    let r = rules::region_of(p, c);
+    let v = at.vblock;
+    Place {
+        region: r,
+        segment: chip_tables::ct_at(ct, c),
+        vblock: v,
+        pblock: chip_tables::bt_at(p, bt, r, v),
+        frame: at.inner,
+    }
+}
+
+// Why the sector at an LBA reads so, and what a write of it would do; each answer is true of every content of the lent chip and tables.
+pub fn explain(
+    p: Params,
+    chip: &[u8],
+    ct: &[u16],
+    bt: &[u16],
+    fst: &[u16],
+    bst: &[u8],
+    wear: &[u32],
+    marks: &[u64],
+    lba: u32,
+) -> Why
+    ensures { λ w. ⌜ numbersOf w ≡ whyOf p (boardOf (now (chip .entry)) (now (ct .entry)) (now (bt .entry)) (now (fst .entry)) (now (bst .entry)) (now (wear .entry)) (now (marks .entry))) lba ⌝ }
+    ensures { λ w. ⌜ Small (numbersOf w) ⌝ }
+{
+    let reply = replies::why_reply(p, chip, ct, bt, fst, bst, wear, marks, lba);
+    let n = rules::number(reply);
+    if n == 7 {
+        return Why::Disordered(check_broken::broken_rule(p, chip, ct, bt, fst, bst));
+    }
+    if n != 0 {
+        return Why::Refused(reply);
+    }
+    let c = rules::cluster_of(p, lba as usize);
+    let fc = forecast_of(p, chip, bt, fst, marks, rules::region_of(p, c));
+    let at = read_work::find_frame(p, chip, ct, bt, c);
+    if !at.kept {
+        return Why::Empty(fc);
+    }
+    Why::Held(place_at(p, ct, bt, c, at), fc, at.looks)
+}

@@ -1,0 +1,79 @@
+-- `call_write::write`: refused by the reply's number, or the work of an orderly write.
+-- Assumes nothing.
+use mathlib.Core.Path.{refl}
+use borrow.Author.Needs.{needs}
+use Rattle.rules.specs.Tables.{Board, boardOf}
+use Rattle.rules.specs.Requests.{Request, lent, lentAnswers, write, requestOf}
+use Rattle.outcomes.proofs.Ends.{refused-by, reply-zero}
+use Rattle.call_write.proofs.write.Statement.{statement}
+use Rattle.call_write.proofs.write.Tie as tie
+
+-- the board and the request at entry
+abbrev board : tie.Start → Board
+board a = boardOf (a .args .chip .now) (a .args .ct .now) (a .args .bt .now) (a .args .fst .now) (a .args .bst .now) (a .args .wear .now) (a .args .marks .now)
+
+abbrev request : tie.Start → Request
+request a = requestOf (a .args .lba) (a .args .count) (a .args .bytes .now)
+
+access-reply-requires : tie.Need-access-reply-requires
+access-reply-requires c κs = search needs
+
+number-requires : tie.Need-number-requires
+number-requires c κs = search needs
+
+idle-requires : tie.Need-idle-requires
+idle-requires c κs = search needs
+
+same-length : tie.Need-same-length
+same-length c = search needs
+
+same-length-2 : tie.Need-same-length-2
+same-length-2 c = search needs
+
+same-length-3 : tie.Need-same-length-3
+same-length-3 c = search needs
+
+same-length-4 : tie.Need-same-length-4
+same-length-4 c = search needs
+
+same-length-5 : tie.Need-same-length-5
+same-length-5 c = search needs
+
+same-length-6 : tie.Need-same-length-6
+same-length-6 c = search needs
+
+same-length-7 : tie.Need-same-length-7
+same-length-7 c = search needs
+
+returns : tie.Need-returns
+returns c = unfold lent lentAnswers in refused-by _ (board (c .before .before .before .before .before .before .before .before .before .before .before .before .before .before .before .before .before .before .before)) (write (request (c .before .before .before .before .before .before .before .before .before .before .before .before .before .before .before .before .before .before .before))) _ (c .before .before .before .access-reply .ensures .1 (request (c .before .before .before .before .before .before .before .before .before .before .before .before .before .before .before .before .before .before .before)) refl refl refl) _ (c .before .before .number .ensures) (c .before .if1 .taken) _ (c .idle .ensures)
+
+write-orderly-requires : tie.Need-write-orderly-requires
+write-orderly-requires c κs = reply-zero _ (board (c .before .before .before .before .before .before .before .before .before .before .before .before .before .before .before .before .before .before .before .before .before .before .before .before .before)) (write (request (c .before .before .before .before .before .before .before .before .before .before .before .before .before .before .before .before .before .before .before .before .before .before .before .before .before))) _ (c .before .before .before .before .before .before .before .before .before .access-reply .ensures .1 (request (c .before .before .before .before .before .before .before .before .before .before .before .before .before .before .before .before .before .before .before .before .before .before .before .before .before)) refl refl refl) _ (c .before .before .before .before .before .before .before .before .number .ensures) (c .before .before .before .before .before .before .before .if1 .left)
+
+same-length-8 : tie.Need-same-length-8
+same-length-8 c = c .before .before .before .before .before .before .before .before .before .before .before .before .before .chip .given
+
+same-length-9 : tie.Need-same-length-9
+same-length-9 c = c .before .before .before .before .before .before .before .before .before .before .before .ct .given
+
+same-length-10 : tie.Need-same-length-10
+same-length-10 c = c .before .before .before .before .before .before .before .before .before .bt .given
+
+same-length-11 : tie.Need-same-length-11
+same-length-11 c = c .before .before .before .before .before .before .before .fst .given
+
+same-length-12 : tie.Need-same-length-12
+same-length-12 c = c .before .before .before .before .before .bst .given
+
+same-length-13 : tie.Need-same-length-13
+same-length-13 c = c .before .before .before .wear .given
+
+same-length-14 : tie.Need-same-length-14
+same-length-14 c = c .before .marks .given
+
+returns-2 : tie.Need-returns-2
+returns-2 c = c .before .before .before .before .before .before .before .before .before .before .before .before .before .before .write-orderly .ensures
+
+pub write-spec : {M : Type 1} → statement M
+write-spec = tie.close (tie.spec access-reply-requires number-requires idle-requires same-length same-length-2 same-length-3 same-length-4 same-length-5 same-length-6 same-length-7 returns write-orderly-requires same-length-8 same-length-9 same-length-10 same-length-11 same-length-12 same-length-13 same-length-14 returns-2)

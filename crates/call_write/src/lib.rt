@@ -1,0 +1,56 @@
+// Document 01, "Write", on the lent chip and tables, with T-06's table of marks. No `requires`: the contract says that the whole outcome is the rules', for every input.
+ghost use mathlib.Core.Path.{_≡_};
+ghost use mathlib.Core.List.{[]};
+ghost use Rattle.rules.specs.Tables.{boardOf};
+ghost use Rattle.rules.specs.Requests.{write, requestOf};
+ghost use Rattle.rules.specs.Calls.{outcomeOf};
+ghost use Rattle.outcomes.specs.Claims.{outcome};
+use rules::Answer;
+use rules::Params;
+
+// The cluster of the LBA is rewritten with the lent data in the sectors asked for.
+pub fn write(
+    p: Params,
+    chip: &mut [u8],
+    ct: &mut [u16],
+    bt: &mut [u16],
+    fst: &mut [u16],
+    bst: &mut [u8],
+    wear: &mut [u32],
+    marks: &mut [u64],
+    lba: u32,
+    count: u32,
+    bytes: &[u8],
+) -> Answer
+    ensures { λ a. ⌜ outcome a (now (bytes .entry)) [] (boardOf (now (chip .exit)) (now (ct .exit)) (now (bt .exit)) (now (fst .exit)) (now (bst .exit)) (now (wear .exit)) (now (marks .exit))) ≡ outcomeOf p (boardOf (now (chip .entry)) (now (ct .entry)) (now (bt .entry)) (now (fst .entry)) (now (bst .entry)) (now (wear .entry)) (now (marks .entry))) (write (requestOf lba count (now (bytes .entry)))) ⌝ }
+{
+    let reply = replies::access_reply(
+        p,
+        chip,
+        ct,
+        bt,
+        fst,
+        bst,
+        wear,
+        marks,
+        lba,
+        count,
+        bytes.len(),
+    );
+    if rules::number(reply) != 0 {
+        return reply_rows::idle(reply);
+    }
+    write_work::write_orderly(
+        p,
+        chip,
+        ct,
+        bt,
+        fst,
+        bst,
+        wear,
+        marks,
+        lba as usize,
+        count as usize,
+        bytes,
+    )
+}

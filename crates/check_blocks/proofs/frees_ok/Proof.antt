@@ -1,0 +1,58 @@
+-- `check_blocks::frees_ok`: every free block passed is erased.
+-- Assumes nothing.
+use mathlib.Core.Path.{sym, _∙_, _≡_}
+use mathlib.Core.Bool.{not, true, _||_}
+use Prim.Native.Nat.{_-_, _≤_}
+use native.Mathlib.Omega.{arith}
+use lib.Dec.{eqb}
+use borrow.Author.Tests.{not-false, not-true}
+use Rattle.lists.specs.Below.{allBelow}
+use Rattle.rules.specs.Orderly.{freeRule}
+use Rattle.rules.specs.Pages.{block, erased}
+use Rattle.rules.specs.Tables.{bstAt}
+use Rattle.loops.proofs.Below.{all-end, all-fails, all-more, all-start}
+use Rattle.check_blocks.proofs.frees_ok.Statement.{statement}
+use Rattle.check_blocks.proofs.frees_ok.Tie as tie
+
+abbrev Inv-loop : tie.InvT-loop
+Inv-loop p chip bst m n₀ n = (n ≤ m) × (allBelow n (λ n. not (eqb (bstAt bst n) 0) || erased (block p chip n)) ≡ true)
+
+abbrev μ-loop : tie.MeasureT-loop
+μ-loop p chip bst m n₀ n = m - n
+
+loop-holds : tie.Need-loop-holds Inv-loop μ-loop
+loop-holds c = (omega arith, all-start _)
+
+free-ok-requires : tie.Need-free-ok-requires Inv-loop μ-loop
+free-ok-requires c κs = let a = c .before .before .before .before in (a .pre .0, (a .pre .1 .0, (a .pre .1 .1, c .loop-test .taken)))
+
+returns : tie.Need-returns Inv-loop μ-loop
+unfolding freeRule
+returns c = sym (all-fails _ (c .before .before .before .loop .n) _ (c .before .before .loop-test .taken) (sym (c .before .free-ok .ensures) ∙ not-true _ (c .if1 .taken)))
+
+add-n : tie.Need-add-n Inv-loop μ-loop
+add-n c = omega arith
+
+loop-less : tie.Need-loop-less Inv-loop μ-loop
+loop-less c = omega arith
+
+loop-again : tie.Need-loop-again Inv-loop μ-loop
+loop-again c = (omega arith, all-more _ _ (c .before .before .before .loop .inv .1) (sym (c .before .free-ok .ensures) ∙ not-false _ (c .if1 .left)))
+
+returns-2 : tie.Need-returns-2 Inv-loop μ-loop
+unfolding freeRule
+returns-2 c = sym (all-end _ _ _ (omega arith) (c .before .loop .inv .1))
+
+pub frees-ok-spec : {M : Type 1} → statement M
+frees-ok-spec =
+    tie.close
+    (tie.spec
+    Inv-loop
+    μ-loop
+    loop-holds
+    free-ok-requires
+    returns
+    add-n
+    loop-less
+    loop-again
+    returns-2)

@@ -1,0 +1,31 @@
+-- `check_blocks::tables_ok`: BT's rule, then those of BST with the number of blocks that BT names.
+-- Assumes nothing.
+use mathlib.Core.Bool.{and-false}
+use borrow.Author.Needs.{needs}
+use borrow.Author.Tests.{not-false, not-true}
+use Rattle.check_tables.specs.Entries.{kindsOk, usedOk}
+use Rattle.check_rules.specs.Check.{tablesOk}
+use Rattle.check_blocks.proofs.tables_ok.Statement.{statement}
+use Rattle.check_blocks.proofs.tables_ok.Tie as tie
+
+bt-ok-requires : tie.Need-bt-ok-requires
+bt-ok-requires c κs = search needs
+
+returns : tie.Need-returns
+unfolding tablesOk
+returns c = rw (← (c .before .bt-ok .ensures), not-true (c .before .bt-ok .result) (c .if1 .taken), and-false)
+
+assigned-requires : tie.Need-assigned-requires
+assigned-requires c κs = search needs
+
+kinds-ok-requires : tie.Need-kinds-ok-requires
+kinds-ok-requires c κs = search needs
+
+returns-2 : tie.Need-returns-2
+unfolding tablesOk usedOk kindsOk
+returns-2 c =
+    rw (← (c .before .before .before .bt-ok .ensures), not-false (c .before .before .before .bt-ok .result) (c .before .before .if1 .left), ← (c .before .before .before .before .before .before .pre .1 .0), ← (c .before .assigned .ensures)) (c .kinds-ok .ensures)
+
+pub tables-ok-spec : {M : Type 1} → statement M
+tables-ok-spec =
+    tie.close (tie.spec bt-ok-requires returns assigned-requires kinds-ok-requires returns-2)

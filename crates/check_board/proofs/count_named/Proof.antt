@@ -1,0 +1,53 @@
+-- `check_board::count_named`: the count of the entries passed that are not none.
+-- Assumes nothing.
+use mathlib.Core.Path.{ap, sym, _∙_, _≡_}
+use mathlib.Core.Logic.{⊎-elim}
+use mathlib.Core.Bool.{not}
+use Prim.Native.Nat.{_-_, _≤_}
+use native.Mathlib.Omega.{arith}
+use lib.ListN.{length}
+use borrow.Author.Tests.{eq-eqb, ne-eqb}
+use Rattle.lists.specs.Below.{countBelow}
+use Rattle.loops.proofs.Below.{count-no, count-start, count-yes}
+use Rattle.check_board.specs.Order.{named}
+use Rattle.check_board.proofs.count_named.Statement.{statement}
+use Rattle.check_board.proofs.count_named.Tie as tie
+
+abbrev Inv-loop : tie.InvT-loop
+Inv-loop ct k₀ c₀ k c = (c ≤ length ct) × (k ≤ c) × (k ≡ countBelow c (named ct))
+
+abbrev μ-loop : tie.MeasureT-loop
+μ-loop ct k₀ c₀ k c = length ct - c
+
+loop-holds : tie.Need-loop-holds Inv-loop μ-loop
+loop-holds c = (omega arith, omega arith, count-start _)
+
+ct-at-requires : tie.Need-ct-at-requires Inv-loop μ-loop
+ct-at-requires c κs = omega arith
+
+add-k : tie.Need-add-k Inv-loop μ-loop
+add-k c = omega arith
+
+add-c : tie.Need-add-c Inv-loop μ-loop
+add-c c = omega arith
+
+loop-less : tie.Need-loop-less Inv-loop μ-loop
+loop-less c = omega arith
+
+loop-again : tie.Need-loop-again Inv-loop μ-loop
+unfolding named
+loop-again c =
+    let l = c .before .before .before .before .loop in
+    let d = c .before .before .ct-at .ensures .0 in (
+      omega arith,
+      ⊎-elim (λ w. omega arith) (λ w. omega arith) (c .if1 .came),
+      ⊎-elim (λ w. rw (w .1) (count-yes _ _ _ (l .inv .2) (ap not (ne-eqb _ _ (λ e. w .0 .taken (d ∙ e)))))) (λ w. rw (w .1) (count-no _ _ _ (l .inv .2) (ap not (eq-eqb _ _ (sym d ∙ w .0 .left))))) (c .if1 .came),
+    )
+
+returns : tie.Need-returns Inv-loop μ-loop
+returns c =
+    let e : c .before .loop .c ≡ length (c .before .before .before .args .ct .now) = omega arith in
+    rw (← e) (c .before .loop .inv .2)
+
+pub count-named-spec : {M : Type 1} → statement M
+count-named-spec = tie.close (tie.spec Inv-loop μ-loop loop-holds ct-at-requires add-k add-c loop-less loop-again returns)

@@ -1,0 +1,227 @@
+// Is the state in order, and its table of marks? One pass over the chip, in which FST's rule is held to the frames that it counts, and then two counts instead
+// of a look at each CT entry.
+ghost use mathlib.Core.Path.{_≡_};
+ghost use mathlib.Core.Bool.{_&&_, true};
+ghost use mathlib.Core.List.{List};
+ghost use Prim.Native.Nat.{ℕ, _*_, _<_, _≤_};
+ghost use lib.ListN.{length};
+ghost use Rattle.lists.specs.Below.{allBelow, countBelow};
+ghost use Rattle.rules.specs.Numbers.{vblockOf};
+ghost use Rattle.rules.specs.Orderly.{orderly};
+ghost use Rattle.rules.specs.Parameters.{allowed, frames};
+ghost use Rattle.rules.specs.Tables.{boardOf, marksLength};
+ghost use Rattle.check_rules.specs.Check.{Lengths};
+ghost use Rattle.check_board.specs.Order.{BlocksAsked, bitAt, blockHeld, countsOk, entryOk, framesOk, named, regionHeld};
+use rules::Cluster;
+use rules::Params;
+use rules::Segment;
+use rules::VBlock;
+
+// Are k programmed frames right for virtual block v, where FST names segment sg of virtual block o?
+// The last of them is in that segment, if v is o; they are all F, if it is not.
+fn frames_ok(p: Params, sg: Segment, o: VBlock, v: VBlock, k: usize) -> bool
+    requires { ⌜ allowed p ≡ true ⌝ }
+    requires { ⌜ o .0 ≡ vblockOf p (sg .0) ⌝ }
+    requires { ⌜ v .0 < p .gamma ⌝ }
+    requires { ⌜ k ≤ frames p ⌝ }
+    ensures { λ ok. ⌜ ok ≡ framesOk p (sg .0) (v .0) k ⌝ }
+{
+    if k == 0 {
+        return false;
+    }
+    if v.0 != o.0 {
+        return k == chip_sizes::frames(p);
+    }
+    rules::segment_of(p, v, k - 1).0 == sg.0
+}
+
+// Virtual block v of region r: its block is one of that region, with the right frames programmed,
+// and each of its marks is that of a valid frame.
+fn vblock_ok(
+    p: Params,
+    chip: &[u8],
+    ct: &[u16],
+    bt: &[u16],
+    bst: &[u8],
+    marks: &[u64],
+    r: usize,
+    sg: Segment,
+    o: VBlock,
+    v: VBlock,
+) -> bool
+    requires { ⌜ BlocksAsked p (now chip) (now ct) (now bt) (now bst) (now marks) ⌝ }
+    requires { ⌜ r < p .mu ⌝ }
+    requires { ⌜ o .0 ≡ vblockOf p (sg .0) ⌝ }
+    requires { ⌜ v .0 < p .gamma ⌝ }
+    ensures { λ ok. ⌜ ok ≡ blockHeld p (now (chip .entry)) (now (ct .entry)) (now (bt .entry)) (now (bst .entry)) (now (marks .entry)) r (sg .0) (v .0) ⌝ }
+{
+    let k = check_blocks::vblock_frames(p, chip, bt, bst, r, v);
+    if !frames_ok(p, sg, o, v, k) {
+        return false;
+    }
+    check_marks::marks_ok(p, chip, ct, bt, marks, r, v)
+}
+
+// The same of every virtual block of region r,
+// while its bytes are at hand.
+fn vblocks_ok(
+    p: Params,
+    chip: &[u8],
+    ct: &[u16],
+    bt: &[u16],
+    bst: &[u8],
+    marks: &[u64],
+    r: usize,
+    sg: Segment,
+) -> bool
+    requires { ⌜ BlocksAsked p (now chip) (now ct) (now bt) (now bst) (now marks) ⌝ }
+    requires { ⌜ r < p .mu ⌝ }
+    requires { ⌜ sg .0 < 65536 ⌝ }
+    ensures { λ ok. ⌜ ok ≡ allBelow (p .gamma) (blockHeld p (now (chip .entry)) (now (ct .entry)) (now (bt .entry)) (now (bst .entry)) (now (marks .entry)) r (sg .0)) ⌝ }
+{
+    let o = chip_sizes::vblock_of(p, sg);
+    let m = p.gamma;
+    let mut v = 0;
+    while v < m {
+        if !vblock_ok(p, chip, ct, bt, bst, marks, r, sg, o, VBlock(v)) {
+            return false;
+        }
+        v += 1;
+    }
+    true
+}
+
+// Is FST's entry sg none exactly if region r has no block,
+// and else a segment of a virtual block that has one?
+fn entry_ok(p: Params, bt: &[u16], r: usize, sg: Segment) -> bool
+    requires { ⌜ allowed p ≡ true ⌝ }
+    requires { ⌜ length (now bt) ≡ p .mu * p .gamma ⌝ }
+    requires { ⌜ r < p .mu ⌝ }
+    requires { ⌜ sg .0 < 65536 ⌝ }
+    ensures { λ ok. ⌜ ok ≡ entryOk p (now (bt .entry)) r (sg .0) ⌝ }
+{
+    if check_tables::empty_at(p, bt, r) {
+        return sg.0 == 65535;
+    }
+    if sg.0 >= p.gamma * p.d {
+        return false;
+    }
+    chip_tables::bt_at(p, bt, r, chip_sizes::vblock_of(p, sg)).0 != 65535
+}
+
+// The rules of region r:
+// its FST entry, its blocks and their marks.
+fn region_ok(
+    p: Params,
+    chip: &[u8],
+    ct: &[u16],
+    bt: &[u16],
+    fst: &[u16],
+    bst: &[u8],
+    marks: &[u64],
+    r: usize,
+) -> bool
+    requires { ⌜ BlocksAsked p (now chip) (now ct) (now bt) (now bst) (now marks) ⌝ }
+    requires { ⌜ length (now fst) ≡ p .mu ⌝ }
+    requires { ⌜ r < p .mu ⌝ }
+    ensures { λ ok. ⌜ ok ≡ regionHeld p (now (chip .entry)) (now (ct .entry)) (now (bt .entry)) (now (fst .entry)) (now (bst .entry)) (now (marks .entry)) r ⌝ }
+{
+    let sg = chip_tables::fst_at(fst, r);
+    if !entry_ok(p, bt, r, sg) {
+        return false;
+    }
+    vblocks_ok(p, chip, ct, bt, bst, marks, r, sg)
+}
+
+// The same of every region,
+// up to the first that is not in order.
+fn regions_ok(
+    p: Params,
+    chip: &[u8],
+    ct: &[u16],
+    bt: &[u16],
+    fst: &[u16],
+    bst: &[u8],
+    marks: &[u64],
+) -> bool
+    requires { ⌜ BlocksAsked p (now chip) (now ct) (now bt) (now bst) (now marks) ⌝ }
+    requires { ⌜ length (now fst) ≡ p .mu ⌝ }
+    ensures { λ ok. ⌜ ok ≡ allBelow (p .mu) (regionHeld p (now (chip .entry)) (now (ct .entry)) (now (bt .entry)) (now (fst .entry)) (now (bst .entry)) (now (marks .entry))) ⌝ }
+{
+    let m = p.mu;
+    let mut r = 0;
+    while r < m {
+        if !region_ok(p, chip, ct, bt, fst, bst, marks, r) {
+            return false;
+        }
+        r += 1;
+    }
+    true
+}
+
+// How many entries of CT name a segment:
+// all but those that are none.
+fn count_named(ct: &[u16]) -> usize
+    ensures { λ k. ⌜ k ≡ countBelow (length (now (ct .entry))) (named (now (ct .entry))) ⌝ }
+{
+    let mut k = 0;
+    let mut c = 0;
+    while c < ct.len() {
+        if chip_tables::ct_at(ct, Cluster(c)).0 != 65535 {
+            k += 1;
+        }
+        c += 1;
+    }
+    k
+}
+
+// How many marks the table has:
+// the ones of all its words.
+fn count_marked(marks: &[u64]) -> usize
+    requires { ⌜ length (now marks) ≤ 65536 ⌝ }
+    ensures { λ k. ⌜ k ≡ countBelow (64 * length (now (marks .entry))) (bitAt (now (marks .entry))) ⌝ }
+{
+    let mut k = 0;
+    let mut i = 0;
+    while i < marks.len() {
+        k += bits::count(marks[i]);
+        i += 1;
+    }
+    k
+}
+
+// As many entries of CT as marks: then each entry has its frame,
+// and each valid frame its mark.
+fn counts_ok(ct: &[u16], marks: &[u64]) -> bool
+    requires { ⌜ length (now marks) ≤ 65536 ⌝ }
+    ensures { λ ok. ⌜ ok ≡ countsOk (now (ct .entry)) (now (marks .entry)) ⌝ }
+{
+    let k = count_named(ct);
+    k == count_marked(marks)
+}
+
+// Is the state orderly, each mark included? Reply 7 if not. No rule looks at the wear.
+pub fn in_order(
+    p: Params,
+    chip: &[u8],
+    ct: &[u16],
+    bt: &[u16],
+    fst: &[u16],
+    bst: &[u8],
+    marks: &[u64],
+) -> bool
+    requires { ⌜ Lengths p (now chip) (now ct) (now bt) (now fst) (now bst) ⌝ }
+    requires { ⌜ length (now marks) ≡ marksLength p ⌝ }
+    ensures { λ ok. ⌜ ((wear : List ℕ) → ok ≡ orderly p (boardOf (now (chip .entry)) (now (ct .entry)) (now (bt .entry)) (now (fst .entry)) (now (bst .entry)) wear (now (marks .entry)))) ⌝ }
+{
+    if !check_blocks::tables_ok(p, bt, bst) {
+        return false;
+    }
+    if !check_blocks::frees_ok(p, chip, bst) {
+        return false;
+    }
+    if !regions_ok(p, chip, ct, bt, fst, bst, marks) {
+        return false;
+    }
+    counts_ok(ct, marks)
+}

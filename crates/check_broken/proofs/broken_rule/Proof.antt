@@ -1,0 +1,231 @@
+-- `check_broken::broken_rule`: each test that passes is left behind, and the first that fails is told.
+-- Assumes nothing.
+use mathlib.Core.Path.{sym, _∙_, _≡_}
+use mathlib.Core.Bool.{Bool, false, not}
+use mathlib.Core.List.{List}
+use Prim.Native.Nat.{ℕ}
+use borrow.Author.Needs.{needs}
+use borrow.Author.Tests.{not-false}
+use Rattle.lists.specs.Below.{allBelow}
+use Rattle.rules.specs.Numbers.{regionOf}
+use Rattle.rules.specs.Orderly.{blocksRule, btRule, ctRule, fstRule, rulesOf}
+use Rattle.rules.specs.Tables.{Board, boardOf}
+use Rattle.check_rules.specs.Check.{Lent, clusterOk, fstOk}
+use Rattle.check_broken.specs.declared.Rule.the-variants.{BstValues, BtRange, Ct, FreeErased, Fst, Marks, NamedTwice, TooFewLeft, UsedBlock, UsedIfNamed}
+use Rattle.check_broken.specs.Broken.{brokenRule, ruleNames}
+use Rattle.check_broken.specs.Tests.{regionBlocksOk}
+use Rattle.check_broken.proofs.Chip.{blocks-same, cts-same, fsts-same}
+use Rattle.check_broken.proofs.First.{end, here, skip}
+use Rattle.check_broken.proofs.broken_rule.Statement.{statement}
+use Rattle.check_broken.proofs.broken_rule.Tie as tie
+
+abbrev board : tie.Start → List ℕ → List ℕ → Board
+board a wear marks = boardOf (a .args .chip .now) (a .args .ct .now) (a .args .bt .now) (a .args .fst .now) (a .args .bst .now) wear marks
+
+-- BT has passed its test
+lent : (a : tie.Start) (ok : Bool) → ok ≡ btRule (a .args .p) (a .args .bt .now) → not ok ≡ false → Lent (a .args .p) (a .args .chip .now) (a .args .bt .now)
+lent a ok e k = record { fine = a .pre .fine; chipLength = a .pre .chipLength; btLength = a .pre .btLength; names = sym e ∙ not-false ok k }
+
+-- then the used blocks' test is their rule
+used-blocks : (a : tie.Start) (bt ok : Bool) → bt ≡ btRule (a .args .p) (a .args .bt .now) → not bt ≡ false
+    → ok ≡ allBelow (a .args .p .mu) (regionBlocksOk (a .args .p) (a .args .chip .now) (a .args .bt .now))
+    → (wear marks : List ℕ) → ok ≡ blocksRule (a .args .p) (board a wear marks)
+used-blocks a bt ok e k h wear marks = h ∙ blocks-same (a .args .p) (board a wear marks) (lent a bt e k)
+
+-- and where it passes, FST's test is its rule
+fst-entries : (a : tie.Start) (bt used ok : Bool) → bt ≡ btRule (a .args .p) (a .args .bt .now) → not bt ≡ false
+    → used ≡ allBelow (a .args .p .mu) (regionBlocksOk (a .args .p) (a .args .chip .now) (a .args .bt .now)) → not used ≡ false
+    → ok ≡ allBelow (a .args .p .mu) (fstOk (a .args .p) (a .args .chip .now) (a .args .bt .now) (a .args .fst .now))
+    → (wear marks : List ℕ) → ok ≡ fstRule (a .args .p) (board a wear marks)
+fst-entries a bt used ok e k u l h wear marks = h ∙ fsts-same (a .args .p) (board a wear marks) (lent a bt e k) (sym u ∙ not-false used l)
+
+-- CT's test is its rule
+ct-entries : (a : tie.Start) (bt ok : Bool) → bt ≡ btRule (a .args .p) (a .args .bt .now) → not bt ≡ false
+    → ok ≡ allBelow (a .args .p .C) (λ (c : ℕ). clusterOk (a .args .p) (a .args .chip .now) (a .args .ct .now) (a .args .bt .now) (regionOf (a .args .p) c) c)
+    → (wear marks : List ℕ) → ok ≡ ctRule (a .args .p) (board a wear marks)
+ct-entries a bt ok e k h wear marks = h ∙ cts-same (a .args .p) (board a wear marks) (lent a bt e k)
+
+bst-ok-requires : tie.Need-bst-ok-requires
+bst-ok-requires c κs = search needs
+
+returns : tie.Need-returns
+unfolding brokenRule rulesOf ruleNames
+returns c =
+    let a = c .before .before .before .before .before .before .before in
+    λ wear marks.
+    let told : BstValues ≡ brokenRule (a .args .p) (board a wear marks) =
+    here _ _ _ _ _ (c .before .bst-ok .ensures) (c .if1 .taken) in
+    told
+
+bt-ok-requires : tie.Need-bt-ok-requires
+bt-ok-requires c κs = search needs
+
+returns-2 : tie.Need-returns-2
+unfolding brokenRule rulesOf ruleNames
+returns-2 c =
+    let a = c .before .before .before .before .before .before .before .before .before in
+    λ wear marks.
+    let told : BtRange ≡ brokenRule (a .args .p) (board a wear marks) =
+    skip _ _ _ _ _ _ (c .before .before .before .bst-ok .ensures) (c .before .before .if1 .left)
+    (here _ _ _ _ _ (c .before .bt-ok .ensures) (c .if2 .taken)) in
+    told
+
+once-ok-requires : tie.Need-once-ok-requires
+once-ok-requires c κs = search needs
+
+returns-3 : tie.Need-returns-3
+unfolding brokenRule rulesOf ruleNames
+returns-3 c =
+    let a = c .before .before .before .before .before .before .before .before .before .before .before in
+    λ wear marks.
+    let told : NamedTwice ≡ brokenRule (a .args .p) (board a wear marks) =
+    skip _ _ _ _ _ _ (c .before .before .before .before .before .bst-ok .ensures) (c .before .before .before .before .if1 .left)
+    (skip _ _ _ _ _ _ (c .before .before .before .bt-ok .ensures) (c .before .before .if2 .left)
+    (here _ _ _ _ _ (c .before .once-ok .ensures) (c .if3 .taken))) in
+    told
+
+used-ok-requires : tie.Need-used-ok-requires
+used-ok-requires c κs = search needs
+
+returns-4 : tie.Need-returns-4
+unfolding brokenRule rulesOf ruleNames
+returns-4 c =
+    let a = c .before .before .before .before .before .before .before .before .before .before .before .before .before in
+    λ wear marks.
+    let told : UsedIfNamed ≡ brokenRule (a .args .p) (board a wear marks) =
+    skip _ _ _ _ _ _ (c .before .before .before .before .before .before .before .bst-ok .ensures) (c .before .before .before .before .before .before .if1 .left)
+    (skip _ _ _ _ _ _ (c .before .before .before .before .before .bt-ok .ensures) (c .before .before .before .before .if2 .left)
+    (skip _ _ _ _ _ _ (c .before .before .before .once-ok .ensures) (c .before .before .if3 .left)
+    (here _ _ _ _ _ (c .before .used-ok .ensures) (c .if4 .taken)))) in
+    told
+
+room-ok-requires : tie.Need-room-ok-requires
+room-ok-requires c κs = search needs
+
+returns-5 : tie.Need-returns-5
+unfolding brokenRule rulesOf ruleNames
+returns-5 c =
+    let a = c .before .before .before .before .before .before .before .before .before .before .before .before .before .before .before in
+    λ wear marks.
+    let told : TooFewLeft ≡ brokenRule (a .args .p) (board a wear marks) =
+    skip _ _ _ _ _ _ (c .before .before .before .before .before .before .before .before .before .bst-ok .ensures) (c .before .before .before .before .before .before .before .before .if1 .left)
+    (skip _ _ _ _ _ _ (c .before .before .before .before .before .before .before .bt-ok .ensures) (c .before .before .before .before .before .before .if2 .left)
+    (skip _ _ _ _ _ _ (c .before .before .before .before .before .once-ok .ensures) (c .before .before .before .before .if3 .left)
+    (skip _ _ _ _ _ _ (c .before .before .before .used-ok .ensures) (c .before .before .if4 .left)
+    (here _ _ _ _ _ (c .before .room-ok .ensures) (c .if5 .taken))))) in
+    told
+
+frees-ok-requires : tie.Need-frees-ok-requires
+frees-ok-requires c κs = search needs
+
+returns-6 : tie.Need-returns-6
+unfolding brokenRule rulesOf ruleNames
+returns-6 c =
+    let a = c .before .before .before .before .before .before .before .before .before .before .before .before .before .before .before .before .before in
+    λ wear marks.
+    let told : FreeErased ≡ brokenRule (a .args .p) (board a wear marks) =
+    skip _ _ _ _ _ _ (c .before .before .before .before .before .before .before .before .before .before .before .bst-ok .ensures) (c .before .before .before .before .before .before .before .before .before .before .if1 .left)
+    (skip _ _ _ _ _ _ (c .before .before .before .before .before .before .before .before .before .bt-ok .ensures) (c .before .before .before .before .before .before .before .before .if2 .left)
+    (skip _ _ _ _ _ _ (c .before .before .before .before .before .before .before .once-ok .ensures) (c .before .before .before .before .before .before .if3 .left)
+    (skip _ _ _ _ _ _ (c .before .before .before .before .before .used-ok .ensures) (c .before .before .before .before .if4 .left)
+    (skip _ _ _ _ _ _ (c .before .before .before .room-ok .ensures) (c .before .before .if5 .left)
+    (here _ _ _ _ _ (c .before .frees-ok .ensures) (c .if6 .taken)))))) in
+    told
+
+blocks-ok-requires : tie.Need-blocks-ok-requires
+blocks-ok-requires c κs = lent (c .before .before .before .before .before .before .before .before .before .before .before .before .before .before .before .before .before) (c .before .before .before .before .before .before .before .before .before .bt-ok .result) (c .before .before .before .before .before .before .before .before .before .bt-ok .ensures) (c .before .before .before .before .before .before .before .before .if2 .left)
+
+returns-7 : tie.Need-returns-7
+unfolding brokenRule rulesOf ruleNames
+returns-7 c =
+    let a = c .before .before .before .before .before .before .before .before .before .before .before .before .before .before .before .before .before .before .before in
+    λ wear marks.
+    let told : UsedBlock ≡ brokenRule (a .args .p) (board a wear marks) =
+    skip _ _ _ _ _ _ (c .before .before .before .before .before .before .before .before .before .before .before .before .before .bst-ok .ensures) (c .before .before .before .before .before .before .before .before .before .before .before .before .if1 .left)
+    (skip _ _ _ _ _ _ (c .before .before .before .before .before .before .before .before .before .before .before .bt-ok .ensures) (c .before .before .before .before .before .before .before .before .before .before .if2 .left)
+    (skip _ _ _ _ _ _ (c .before .before .before .before .before .before .before .before .before .once-ok .ensures) (c .before .before .before .before .before .before .before .before .if3 .left)
+    (skip _ _ _ _ _ _ (c .before .before .before .before .before .before .before .used-ok .ensures) (c .before .before .before .before .before .before .if4 .left)
+    (skip _ _ _ _ _ _ (c .before .before .before .before .before .room-ok .ensures) (c .before .before .before .before .if5 .left)
+    (skip _ _ _ _ _ _ (c .before .before .before .frees-ok .ensures) (c .before .before .if6 .left)
+    (here _ _ _ _ _ (used-blocks a _ _ (c .before .before .before .before .before .before .before .before .before .before .before .bt-ok .ensures) (c .before .before .before .before .before .before .before .before .before .before .if2 .left) (c .before .blocks-ok .ensures) wear marks) (c .if7 .taken))))))) in
+    told
+
+fsts-ok-requires : tie.Need-fsts-ok-requires
+fsts-ok-requires c κs = (lent (c .before .before .before .before .before .before .before .before .before .before .before .before .before .before .before .before .before .before .before) (c .before .before .before .before .before .before .before .before .before .before .before .bt-ok .result) (c .before .before .before .before .before .before .before .before .before .before .before .bt-ok .ensures) (c .before .before .before .before .before .before .before .before .before .before .if2 .left), c .before .before .before .before .before .before .before .before .before .before .before .before .before .before .before .before .before .before .before .pre .fstLength)
+
+returns-8 : tie.Need-returns-8
+unfolding brokenRule rulesOf ruleNames
+returns-8 c =
+    let a = c .before .before .before .before .before .before .before .before .before .before .before .before .before .before .before .before .before .before .before .before .before in
+    λ wear marks.
+    let told : Fst ≡ brokenRule (a .args .p) (board a wear marks) =
+    skip _ _ _ _ _ _ (c .before .before .before .before .before .before .before .before .before .before .before .before .before .before .before .bst-ok .ensures) (c .before .before .before .before .before .before .before .before .before .before .before .before .before .before .if1 .left)
+    (skip _ _ _ _ _ _ (c .before .before .before .before .before .before .before .before .before .before .before .before .before .bt-ok .ensures) (c .before .before .before .before .before .before .before .before .before .before .before .before .if2 .left)
+    (skip _ _ _ _ _ _ (c .before .before .before .before .before .before .before .before .before .before .before .once-ok .ensures) (c .before .before .before .before .before .before .before .before .before .before .if3 .left)
+    (skip _ _ _ _ _ _ (c .before .before .before .before .before .before .before .before .before .used-ok .ensures) (c .before .before .before .before .before .before .before .before .if4 .left)
+    (skip _ _ _ _ _ _ (c .before .before .before .before .before .before .before .room-ok .ensures) (c .before .before .before .before .before .before .if5 .left)
+    (skip _ _ _ _ _ _ (c .before .before .before .before .before .frees-ok .ensures) (c .before .before .before .before .if6 .left)
+    (skip _ _ _ _ _ _ (used-blocks a _ _ (c .before .before .before .before .before .before .before .before .before .before .before .before .before .bt-ok .ensures) (c .before .before .before .before .before .before .before .before .before .before .before .before .if2 .left) (c .before .before .before .blocks-ok .ensures) wear marks) (c .before .before .if7 .left)
+    (here _ _ _ _ _ (fst-entries a _ _ _ (c .before .before .before .before .before .before .before .before .before .before .before .before .before .bt-ok .ensures) (c .before .before .before .before .before .before .before .before .before .before .before .before .if2 .left) (c .before .before .before .blocks-ok .ensures) (c .before .before .if7 .left) (c .before .fsts-ok .ensures) wear marks) (c .if8 .taken)))))))) in
+    told
+
+cts-ok-requires : tie.Need-cts-ok-requires
+cts-ok-requires c κs = (lent (c .before .before .before .before .before .before .before .before .before .before .before .before .before .before .before .before .before .before .before .before .before) (c .before .before .before .before .before .before .before .before .before .before .before .before .before .bt-ok .result) (c .before .before .before .before .before .before .before .before .before .before .before .before .before .bt-ok .ensures) (c .before .before .before .before .before .before .before .before .before .before .before .before .if2 .left), c .before .before .before .before .before .before .before .before .before .before .before .before .before .before .before .before .before .before .before .before .before .pre .ctLength)
+
+returns-9 : tie.Need-returns-9
+unfolding brokenRule rulesOf ruleNames
+returns-9 c =
+    let a = c .before .before .before .before .before .before .before .before .before .before .before .before .before .before .before .before .before .before .before .before .before .before .before in
+    λ wear marks.
+    let told : Ct ≡ brokenRule (a .args .p) (board a wear marks) =
+    skip _ _ _ _ _ _ (c .before .before .before .before .before .before .before .before .before .before .before .before .before .before .before .before .before .bst-ok .ensures) (c .before .before .before .before .before .before .before .before .before .before .before .before .before .before .before .before .if1 .left)
+    (skip _ _ _ _ _ _ (c .before .before .before .before .before .before .before .before .before .before .before .before .before .before .before .bt-ok .ensures) (c .before .before .before .before .before .before .before .before .before .before .before .before .before .before .if2 .left)
+    (skip _ _ _ _ _ _ (c .before .before .before .before .before .before .before .before .before .before .before .before .before .once-ok .ensures) (c .before .before .before .before .before .before .before .before .before .before .before .before .if3 .left)
+    (skip _ _ _ _ _ _ (c .before .before .before .before .before .before .before .before .before .before .before .used-ok .ensures) (c .before .before .before .before .before .before .before .before .before .before .if4 .left)
+    (skip _ _ _ _ _ _ (c .before .before .before .before .before .before .before .before .before .room-ok .ensures) (c .before .before .before .before .before .before .before .before .if5 .left)
+    (skip _ _ _ _ _ _ (c .before .before .before .before .before .before .before .frees-ok .ensures) (c .before .before .before .before .before .before .if6 .left)
+    (skip _ _ _ _ _ _ (used-blocks a _ _ (c .before .before .before .before .before .before .before .before .before .before .before .before .before .before .before .bt-ok .ensures) (c .before .before .before .before .before .before .before .before .before .before .before .before .before .before .if2 .left) (c .before .before .before .before .before .blocks-ok .ensures) wear marks) (c .before .before .before .before .if7 .left)
+    (skip _ _ _ _ _ _ (fst-entries a _ _ _ (c .before .before .before .before .before .before .before .before .before .before .before .before .before .before .before .bt-ok .ensures) (c .before .before .before .before .before .before .before .before .before .before .before .before .before .before .if2 .left) (c .before .before .before .before .before .blocks-ok .ensures) (c .before .before .before .before .if7 .left) (c .before .before .before .fsts-ok .ensures) wear marks) (c .before .before .if8 .left)
+    (here _ _ _ _ _ (ct-entries a _ _ (c .before .before .before .before .before .before .before .before .before .before .before .before .before .before .before .bt-ok .ensures) (c .before .before .before .before .before .before .before .before .before .before .before .before .before .before .if2 .left) (c .before .cts-ok .ensures) wear marks) (c .if9 .taken))))))))) in
+    told
+
+returns-10 : tie.Need-returns-10
+unfolding brokenRule rulesOf ruleNames
+returns-10 c =
+    let a = c .before .before .before .before .before .before .before .before .before .before .before .before .before .before .before .before .before .before .before .before .before .before .before in
+    λ wear marks.
+    let told : Marks ≡ brokenRule (a .args .p) (board a wear marks) =
+    skip _ _ _ _ _ _ (c .before .before .before .before .before .before .before .before .before .before .before .before .before .before .before .before .before .bst-ok .ensures) (c .before .before .before .before .before .before .before .before .before .before .before .before .before .before .before .before .if1 .left)
+    (skip _ _ _ _ _ _ (c .before .before .before .before .before .before .before .before .before .before .before .before .before .before .before .bt-ok .ensures) (c .before .before .before .before .before .before .before .before .before .before .before .before .before .before .if2 .left)
+    (skip _ _ _ _ _ _ (c .before .before .before .before .before .before .before .before .before .before .before .before .before .once-ok .ensures) (c .before .before .before .before .before .before .before .before .before .before .before .before .if3 .left)
+    (skip _ _ _ _ _ _ (c .before .before .before .before .before .before .before .before .before .before .before .used-ok .ensures) (c .before .before .before .before .before .before .before .before .before .before .if4 .left)
+    (skip _ _ _ _ _ _ (c .before .before .before .before .before .before .before .before .before .room-ok .ensures) (c .before .before .before .before .before .before .before .before .if5 .left)
+    (skip _ _ _ _ _ _ (c .before .before .before .before .before .before .before .frees-ok .ensures) (c .before .before .before .before .before .before .if6 .left)
+    (skip _ _ _ _ _ _ (used-blocks a _ _ (c .before .before .before .before .before .before .before .before .before .before .before .before .before .before .before .bt-ok .ensures) (c .before .before .before .before .before .before .before .before .before .before .before .before .before .before .if2 .left) (c .before .before .before .before .before .blocks-ok .ensures) wear marks) (c .before .before .before .before .if7 .left)
+    (skip _ _ _ _ _ _ (fst-entries a _ _ _ (c .before .before .before .before .before .before .before .before .before .before .before .before .before .before .before .bt-ok .ensures) (c .before .before .before .before .before .before .before .before .before .before .before .before .before .before .if2 .left) (c .before .before .before .before .before .blocks-ok .ensures) (c .before .before .before .before .if7 .left) (c .before .before .before .fsts-ok .ensures) wear marks) (c .before .before .if8 .left)
+    (skip _ _ _ _ _ _ (ct-entries a _ _ (c .before .before .before .before .before .before .before .before .before .before .before .before .before .before .before .bt-ok .ensures) (c .before .before .before .before .before .before .before .before .before .before .before .before .before .before .if2 .left) (c .before .cts-ok .ensures) wear marks) (c .if9 .left) (end _))))))))) in
+    told
+
+pub broken-rule-spec : {M : Type 1} → statement M
+broken-rule-spec =
+    tie.close
+    (tie.spec
+    bst-ok-requires
+    returns
+    bt-ok-requires
+    returns-2
+    once-ok-requires
+    returns-3
+    used-ok-requires
+    returns-4
+    room-ok-requires
+    returns-5
+    frees-ok-requires
+    returns-6
+    blocks-ok-requires
+    returns-7
+    fsts-ok-requires
+    returns-8
+    cts-ok-requires
+    returns-9
+    returns-10)

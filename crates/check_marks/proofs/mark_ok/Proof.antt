@@ -1,0 +1,32 @@
+-- `check_marks::mark_ok`: no frame from F on is marked, and one below is if it is valid.
+-- Assumes nothing.
+use mathlib.Core.Path.{_≡_}
+use Prim.Native.Nat.{ℕ, _%_}
+use native.Mathlib.Omega.{arith}
+use borrow.Author.Needs.{needs}
+use Rattle.marks.proofs.FrameMarks.{marked-valid, unmarked}
+use Rattle.check_marks.proofs.mark_ok.Statement.{statement}
+use Rattle.check_marks.proofs.mark_ok.Tie as tie
+
+odd : (x : ℕ) → (x % 2 ≡ 0 → ⊥) → x % 2 ≡ 1
+odd x ne = omega (arith, ne)
+
+returns : tie.Need-returns
+returns c = λ r vw s. rw (c .if1 .taken)
+
+frames-requires : tie.Need-frames-requires
+frames-requires c κs = search needs
+
+returns-2 : tie.Need-returns-2
+returns-2 c =
+    λ r vw s. rw (odd (c .before .before .before .before .before .args .word) (c .before .before .if1 .left), unmarked (c .before .before .before .before .before .args .p) vw (c .before .before .before .before .before .args .v .0) (c .before .before .before .before .before .args .f) (omega (arith, c .if2 .taken, c .before .frames .ensures)))
+
+is-valid-requires : tie.Need-is-valid-requires
+is-valid-requires c κs = (record { block = c .before .before .before .before .before .pre .0; low = omega (arith, c .if2 .left, c .before .frames .ensures) }, c .before .before .before .before .before .pre .1)
+
+returns-3 : tie.Need-returns-3
+returns-3 c =
+    λ r vw s. rw (odd (c .before .before .before .before .before .before .args .word) (c .before .before .before .if1 .left), marked-valid (c .before .before .before .before .before .before .args .p) vw (c .before .before .before .before .before .before .args .v .0) (c .before .before .before .before .before .before .args .f) (omega (arith, c .before .if2 .left, c .before .before .frames .ensures))) (c .is-valid .ensures r vw s)
+
+pub mark-ok-spec : {M : Type 1} → statement M
+mark-ok-spec = tie.close (tie.spec returns frames-requires returns-2 is-valid-requires returns-3)

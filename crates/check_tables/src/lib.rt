@@ -1,0 +1,166 @@
+// The rules of BT and BST that look at no byte of the chip, and what the check of a state asks of BT's entries.
+ghost use mathlib.Core.Path.{_≡_};
+ghost use mathlib.Core.Bool.{true, cond, not, _||_};
+ghost use Prim.Native.Nat.{_*_, _+_, _<_, _≤_};
+ghost use lib.ListN.{length};
+ghost use lib.Dec.{eqb, ltb};
+ghost use Rattle.lists.specs.Below.{countBelow};
+ghost use Rattle.rules.specs.Parameters.{allowed};
+ghost use Rattle.rules.specs.Tables.{none, btEntry, bstAt};
+ghost use Rattle.rules.specs.Orderly.{bstRule, btRule, roomRule};
+ghost use Rattle.check_tables.specs.Entries.{differs, emptyAt, kindsOk};
+use rules::PBlock;
+use rules::Params;
+use rules::VBlock;
+
+// BST holds 0, 1 or 2.
+pub fn bst_ok(p: Params, bst: &[u8]) -> bool
+    requires { ⌜ length (now bst) ≡ p .N ⌝ }
+    ensures { λ ok. ⌜ ok ≡ bstRule p (now (bst .entry)) ⌝ }
+{
+    let mut n = 0;
+    while n < bst.len() {
+        if chip_tables::bst_at(bst, PBlock(n)) > 2 {
+            return false;
+        }
+        n += 1;
+    }
+    true
+}
+
+// How many blocks are not reserved.
+fn not_reserved(bst: &[u8]) -> usize
+    ensures { λ k. ⌜ k ≡ countBelow (length (now (bst .entry))) (λ n. not (eqb (bstAt (now (bst .entry)) n) 2)) ⌝ }
+{
+    let mut k = 0;
+    let mut n = 0;
+    while n < bst.len() {
+        if chip_tables::bst_at(bst, PBlock(n)) != 2 {
+            k += 1;
+        }
+        n += 1;
+    }
+    k
+}
+
+// At least μγ+1 blocks are not reserved.
+pub fn room_ok(p: Params, bst: &[u8]) -> bool
+    requires { ⌜ allowed p ≡ true ⌝ }
+    requires { ⌜ length (now bst) ≡ p .N ⌝ }
+    ensures { λ ok. ⌜ ok ≡ roomRule p (now (bst .entry)) ⌝ }
+{
+    let least = p.mu * p.gamma + 1;
+    let k = not_reserved(bst);
+    least <= k
+}
+
+// Entry i of BT is none or names a block.
+fn bt_entry_ok(p: Params, bt: &[u16], i: usize) -> bool
+    requires { ⌜ i < length (now bt) ⌝ }
+    ensures { λ ok. ⌜ ok ≡ eqb (btEntry (now (bt .entry)) i) none || ltb (btEntry (now (bt .entry)) i) (p .N) ⌝ }
+{
+    let n = chip_tables::bt_entry(bt, i);
+    if n.0 == 65535 {
+        return true;
+    }
+    n.0 < p.N
+}
+
+// BT entries are none or below N.
+pub fn bt_ok(p: Params, bt: &[u16]) -> bool
+    requires { ⌜ length (now bt) ≡ p .mu * p .gamma ⌝ }
+    ensures { λ ok. ⌜ ok ≡ btRule p (now (bt .entry)) ⌝ }
+{
+    let m = bt.len();
+    let mut i = 0;
+    while i < m {
+        if !bt_entry_ok(p, bt, i) {
+            return false;
+        }
+        i += 1;
+    }
+    true
+}
+
+// How many entries of BT are not none.
+pub fn assigned(bt: &[u16]) -> usize
+    ensures { λ k. ⌜ k ≡ countBelow (length (now (bt .entry))) (λ i. not (eqb (btEntry (now (bt .entry)) i) none)) ⌝ }
+{
+    let mut k = 0;
+    let mut i = 0;
+    while i < bt.len() {
+        if chip_tables::bt_entry(bt, i).0 != 65535 {
+            k += 1;
+        }
+        i += 1;
+    }
+    k
+}
+
+// 1 if a test passed, else 0.
+fn one_if(ok: bool) -> usize
+    ensures { λ n. ⌜ n ≡ cond ok 1 0 ⌝ }
+    ensures { λ n. ⌜ n ≤ 1 ⌝ }
+{
+    if ok {
+        return 1;
+    }
+    0
+}
+
+// BST holds 0, 1 or 2, at least μγ+1 blocks are not reserved, and as many are used as BT names: one pass.
+pub fn kinds_ok(p: Params, bst: &[u8], named: usize) -> bool
+    requires { ⌜ allowed p ≡ true ⌝ }
+    requires { ⌜ length (now bst) ≡ p .N ⌝ }
+    ensures { λ ok. ⌜ ok ≡ kindsOk p (now (bst .entry)) named ⌝ }
+{
+    let mut used = 0;
+    let mut kept = 0;
+    let mut n = 0;
+    while n < bst.len() {
+        let s = chip_tables::bst_at(bst, PBlock(n));
+        if s > 2 {
+            return false;
+        }
+        used += one_if(s == 1);
+        kept += one_if(s != 2);
+        n += 1;
+    }
+    (p.mu * p.gamma + 1 <= kept) & (used == named)
+}
+
+// No lower virtual block of region r has the block of virtual block v.
+pub fn differs(p: Params, bt: &[u16], r: usize, v: VBlock) -> bool
+    requires { ⌜ length (now bt) ≡ p .mu * p .gamma ⌝ }
+    requires { ⌜ r < p .mu ⌝ }
+    requires { ⌜ v .0 < p .gamma ⌝ }
+    ensures { λ ok. ⌜ ok ≡ differs p (now (bt .entry)) r (v .0) ⌝ }
+{
+    let n = chip_tables::bt_at(p, bt, r, v);
+    let m = v.0;
+    let mut u = 0;
+    while u < m {
+        if chip_tables::bt_at(p, bt, r, VBlock(u)).0 == n.0 {
+            return false;
+        }
+        u += 1;
+    }
+    true
+}
+
+// Region r has no block.
+pub fn empty_at(p: Params, bt: &[u16], r: usize) -> bool
+    requires { ⌜ length (now bt) ≡ p .mu * p .gamma ⌝ }
+    requires { ⌜ r < p .mu ⌝ }
+    ensures { λ ok. ⌜ ok ≡ emptyAt p (now (bt .entry)) r ⌝ }
+{
+    let m = p.gamma;
+    let mut v = 0;
+    while v < m {
+        if chip_tables::bt_at(p, bt, r, VBlock(v)).0 != 65535 {
+            return false;
+        }
+        v += 1;
+    }
+    true
+}

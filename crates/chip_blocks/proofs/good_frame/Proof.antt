@@ -1,0 +1,79 @@
+-- `chip_blocks::good_frame`: the cluster is low and of the region, and every page passed has its spare bytes.
+-- Assumes nothing.
+use mathlib.Core.Path.{sym, _∙_, _≡_}
+use mathlib.Core.Bool.{false, true}
+use Prim.Native.Nat.{_-_, _≤_}
+use native.Mathlib.Omega.{arith}
+use borrow.Author.Tests.{not-false, not-true}
+use Rattle.lists.specs.Below.{allBelow}
+use Rattle.lists.specs.Parts.{sameList}
+use Rattle.rules.specs.Pages.{spare, spareBytes}
+use Rattle.loops.proofs.Below.{all-end, all-fails, all-more, all-start}
+use Rattle.chip_blocks.proofs.Frames.{good-high, good-is, good-other}
+use Rattle.chip_blocks.proofs.good_frame.Statement.{statement}
+use Rattle.chip_blocks.proofs.good_frame.Tie as tie
+
+abbrev Inv-loop : tie.InvT-loop
+Inv-loop p r fr c m j₀ j = (j ≤ m) × (allBelow j (λ i. sameList (spare p fr i) (spareBytes (c .0) i)) ≡ true)
+
+abbrev μ-loop : tie.MeasureT-loop
+μ-loop p r fr c m j₀ j = m - j
+
+cluster-in-requires : tie.Need-cluster-in-requires Inv-loop μ-loop
+cluster-in-requires c κs = c .before .pre
+
+returns : tie.Need-returns Inv-loop μ-loop
+returns c = good-high _ _ _ _ (c .before .before .before .cluster-in .ensures .0) (c .if1 .taken)
+
+region-of-requires : tie.Need-region-of-requires Inv-loop μ-loop
+region-of-requires c κs = (c .before .before .before .before .before .pre .0, c .before .before .before .cluster-in .ensures .1)
+
+returns-2 : tie.Need-returns-2 Inv-loop μ-loop
+returns-2 c = good-other _ _ _ _ (c .before .before .before .before .before .cluster-in .ensures .0) (c .before .before .if1 .left) (λ e. c .if2 .taken (c .before .region-of .ensures ∙ e))
+
+loop-holds : tie.Need-loop-holds Inv-loop μ-loop
+loop-holds c = (omega arith, all-start _)
+
+is-marked-requires : tie.Need-is-marked-requires Inv-loop μ-loop
+is-marked-requires c κs = (c .before .before .before .before .before .before .before .before .before .pre .0, (c .before .before .before .before .before .before .before .before .before .pre .1, c .loop-test .taken))
+
+returns-3 : tie.Need-returns-3 Inv-loop μ-loop
+returns-3 c =
+    let p = c .before .before .before .before .before .before .before .before .before .before .before .args .p in
+    let fr = c .before .before .before .before .before .before .before .before .before .before .before .args .fr .now in
+    let k = c .before .before .before .before .before .before .before .before .before .cluster-in .result .0 in
+    let e : sameList (spare p fr (c .before .before .before .loop .j)) (spareBytes k (c .before .before .before .loop .j)) ≡ false = sym (c .before .is-marked .ensures) ∙ not-true _ (c .if3 .taken) in
+    sym (all-fails _ (c .before .before .before .loop .j) (λ i. sameList (spare p fr i) (spareBytes k i)) (c .before .before .loop-test .taken) e)
+    ∙ good-is _ _ _ _ (c .before .before .before .before .before .before .before .before .before .cluster-in .ensures .0) (c .before .before .before .before .before .before .if1 .left) (sym (c .before .before .before .before .before .region-of .ensures) ∙ c .before .before .before .before .if2 .left)
+
+add-j : tie.Need-add-j Inv-loop μ-loop
+add-j c = omega arith
+
+loop-less : tie.Need-loop-less Inv-loop μ-loop
+loop-less c = omega arith
+
+loop-again : tie.Need-loop-again Inv-loop μ-loop
+loop-again c = (omega arith, all-more _ _ (c .before .before .before .loop .inv .1) (sym (c .before .is-marked .ensures) ∙ not-false _ (c .if3 .left)))
+
+returns-4 : tie.Need-returns-4 Inv-loop μ-loop
+returns-4 c =
+    sym (all-end _ _ _ (omega arith) (c .before .loop .inv .1))
+    ∙ good-is _ _ _ _ (c .before .before .before .before .before .before .before .cluster-in .ensures .0) (c .before .before .before .before .if1 .left) (sym (c .before .before .before .region-of .ensures) ∙ c .before .before .if2 .left)
+
+pub good-frame-spec : {M : Type 1} → statement M
+good-frame-spec =
+    tie.close
+    (tie.spec
+    Inv-loop
+    μ-loop
+    cluster-in-requires
+    returns
+    region-of-requires
+    returns-2
+    loop-holds
+    is-marked-requires
+    returns-3
+    add-j
+    loop-less
+    loop-again
+    returns-4)

@@ -1,0 +1,25 @@
+-- `chip_blocks::holds`: by whether the frame has that cluster's number.
+-- Assumes nothing.
+use mathlib.Core.Bool.{and-false, and-true}
+use borrow.Author.Needs.{needs}
+use borrow.Author.Tests.{eq-eqb, ne-eqb}
+use Rattle.rules.specs.Pages.{holds}
+use Rattle.chip_blocks.proofs.holds.Statement.{statement}
+use Rattle.chip_blocks.proofs.holds.Tie as tie
+
+cluster-in-requires : tie.Need-cluster-in-requires
+cluster-in-requires c κs = search needs
+
+returns : tie.Need-returns
+unfolding holds
+returns c = rw (← (c .before .before .before .cluster-in .ensures .0), ne-eqb (c .before .before .before .cluster-in .result .0) (c .before .before .before .before .before .args .c .0) (c .if1 .taken), and-false)
+
+is-programmed-requires : tie.Need-is-programmed-requires
+is-programmed-requires c κs = search needs
+
+returns-2 : tie.Need-returns-2
+unfolding holds
+returns-2 c = rw (← (c .before .before .before .before .cluster-in .ensures .0), eq-eqb (c .before .before .before .before .cluster-in .result .0) (c .before .before .before .before .before .before .args .c .0) (c .before .if1 .left), and-true) (c .is-programmed .ensures)
+
+pub holds-spec : {M : Type 1} → statement M
+holds-spec = tie.close (tie.spec cluster-in-requires returns is-programmed-requires returns-2)

@@ -1,0 +1,64 @@
+-- `chip_blocks::rest_erased`: the pages of the frames from frame k on.
+-- Assumes nothing.
+use mathlib.Core.Path.{ap, _∙_}
+use Prim.Native.Nat.{_-_, _≤_}
+use native.Mathlib.Nat.{mul-le-mul}
+use native.Mathlib.Omega.{arith}
+use borrow.Author.Needs.{needs}
+use Rattle.lists.specs.Parts.{allAre}
+use Rattle.rules.proofs.Sizes.{sizes}
+use Rattle.chip_blocks.proofs.Frames.{rest-lent, rest-pages, rest-starts}
+use Rattle.chip_blocks.proofs.rest_erased.Statement.{statement}
+use Rattle.chip_blocks.proofs.rest_erased.Tie as tie
+
+page-bytes-requires : tie.Need-page-bytes-requires
+page-bytes-requires c κs = search needs
+
+frame-bytes-requires : tie.Need-frame-bytes-requires
+frame-bytes-requires c κs = search needs
+
+frames-requires : tie.Need-frames-requires
+frames-requires c κs = search needs
+
+sub-n : tie.Need-sub-n
+sub-n c = search needs
+
+mul-a : tie.Need-mul-a
+mul-a c = record { fits = omega (arith, (sizes _ (c .before .before .before .before .pre .0)) .blockHigh, c .before .before .before .before .pre .1 .0, rest-starts (c .before .before .before .before .args .p) (sizes _ (c .before .before .before .before .pre .0)) (c .before .before .before .before .args .blk .now) (c .before .before .before .before .args .k) (c .before .before .page-bytes .result) (c .before .frame-bytes .result) (c .frames .result) (c .before .before .before .before .pre .1 .1) (c .before .before .before .before .pre .1 .0) (c .before .before .page-bytes .ensures) (c .before .frame-bytes .ensures) (c .frames .ensures)) }
+
+mul-m : tie.Need-mul-m
+mul-m c =
+    let z = sizes _ (c .before .before .before .before .before .pre .0) in
+    let few : c .before .frames .result - c .before .before .before .before .before .args .k ≤ 256 = omega (arith, z .short, c .before .frames .ensures) in
+    record { fits = omega (arith, mul-le-mul few (z .alphaHigh)) }
+
+sub-are-erased : tie.Need-sub-are-erased
+sub-are-erased c = rest-starts (c .before .before .before .before .before .args .p) (sizes _ (c .before .before .before .before .before .pre .0)) (c .before .before .before .before .before .args .blk .now) (c .before .before .before .before .before .args .k) (c .before .before .before .page-bytes .result) (c .before .before .frame-bytes .result) (c .before .frames .result) (c .before .before .before .before .before .pre .1 .1) (c .before .before .before .before .before .pre .1 .0) (c .before .before .before .page-bytes .ensures) (c .before .before .frame-bytes .ensures) (c .before .frames .ensures)
+
+part-are-erased-start : tie.Need-part-are-erased-start
+part-are-erased-start c = omega (arith, rest-starts (c .before .before .before .before .before .args .p) (sizes _ (c .before .before .before .before .before .pre .0)) (c .before .before .before .before .before .args .blk .now) (c .before .before .before .before .before .args .k) (c .before .before .before .page-bytes .result) (c .before .before .frame-bytes .result) (c .before .frames .result) (c .before .before .before .before .before .pre .1 .1) (c .before .before .before .before .before .pre .1 .0) (c .before .before .before .page-bytes .ensures) (c .before .before .frame-bytes .ensures) (c .before .frames .ensures))
+
+part-are-erased-end : tie.Need-part-are-erased-end
+part-are-erased-end c = search needs
+
+are-erased-requires : tie.Need-are-erased-requires
+are-erased-requires c κs = rest-pages (c .before .before .before .before .before .before .args .p) (sizes _ (c .before .before .before .before .before .before .pre .0)) (c .before .before .before .before .before .before .args .blk .now) (c .before .before .before .before .before .before .args .k) (c .before .before .before .before .page-bytes .result) (c .before .before .before .frame-bytes .result) (c .before .before .frames .result) (c .before .before .before .before .before .before .pre .1 .1) (c .before .before .before .before .before .before .pre .1 .0) (c .before .before .before .before .page-bytes .ensures) (c .before .before .before .frame-bytes .ensures) (c .before .before .frames .ensures)
+
+returns : tie.Need-returns
+returns c = c .are-erased .ensures ∙ ap (allAre 255) (rest-lent (c .before .before .before .before .before .before .before .args .p) (sizes _ (c .before .before .before .before .before .before .before .pre .0)) (c .before .before .before .before .before .before .before .args .blk .now) (c .before .before .before .before .before .before .before .args .k) (c .before .before .before .before .before .page-bytes .result) (c .before .before .before .before .frame-bytes .result) (c .before .before .before .frames .result) (c .before .before .before .before .before .before .before .pre .1 .1) (c .before .before .before .before .before .before .before .pre .1 .0) (c .before .before .before .before .before .page-bytes .ensures) (c .before .before .before .before .frame-bytes .ensures) (c .before .before .before .frames .ensures))
+
+pub rest-erased-spec : {M : Type 1} → statement M
+rest-erased-spec =
+    tie.close
+    (tie.spec
+    page-bytes-requires
+    frame-bytes-requires
+    frames-requires
+    sub-n
+    mul-a
+    mul-m
+    sub-are-erased
+    part-are-erased-start
+    part-are-erased-end
+    are-erased-requires
+    returns)

@@ -1,0 +1,242 @@
+// One block of the chip, read: its frames, the clusters that they hold, and whether it is as its region wants it.
+ghost use mathlib.Core.Path.{_≡_};
+ghost use mathlib.Core.Bool.{cond, false, true};
+ghost use Prim.Native.Nat.{ℕ, _*_, _-_, _≤_, _<_};
+ghost use lib.ListN.{drop, length};
+ghost use Rattle.lists.specs.Below.{allBelow};
+ghost use Rattle.lists.specs.Parts.{allAre};
+ghost use Rattle.rules.specs.Parameters.{allowed, frames, frameBytes, blockBytes, chipBytes};
+ghost use Rattle.rules.specs.Pages.{block, frame, programmed, holds, filled, lastIn, programmedDownTo};
+ghost use Rattle.rules.specs.Orderly.{goodFrame, blockRule};
+ghost use Rattle.chip_blocks.specs.First.{FirstFrames};
+use rules::Cluster;
+use rules::PBlock;
+use rules::Params;
+
+// Block n of the chip.
+pub fn block_of(p: Params, chip: &[u8], n: PBlock) -> &[u8]
+    requires { ⌜ allowed p ≡ true ⌝ }
+    requires { ⌜ length (now chip) ≡ chipBytes p ⌝ }
+    requires { ⌜ n .0 < p .N ⌝ }
+    ensures { λ r. ⌜ now r ≡ block p (now (chip .entry)) (n .0) ⌝ }
+    ensures { λ r. ⌜ length (now r) ≡ blockBytes p ⌝ }
+{
+    let w = chip_sizes::block_bytes(p);
+    let a = n.0 * w;
+    let b = a + w;
+    &chip[a..b]
+}
+
+// Frame f of a block.
+pub fn frame_of(p: Params, blk: &[u8], f: usize) -> &[u8]
+    requires { ⌜ allowed p ≡ true ⌝ }
+    requires { ⌜ length (now blk) ≡ blockBytes p ⌝ }
+    requires { ⌜ f < frames p ⌝ }
+    ensures { λ r. ⌜ now r ≡ frame p (now (blk .entry)) f ⌝ }
+    ensures { λ r. ⌜ length (now r) ≡ frameBytes p ⌝ }
+{
+    let w = chip_sizes::frame_bytes(p);
+    let a = f * w;
+    let b = a + w;
+    &blk[a..b]
+}
+
+// Is a frame as programming leaves it, with a cluster of region r?
+fn good_frame(p: Params, r: usize, fr: &[u8]) -> bool
+    requires { ⌜ allowed p ≡ true ⌝ }
+    requires { ⌜ length (now fr) ≡ frameBytes p ⌝ }
+    ensures { λ ok. ⌜ ok ≡ goodFrame p r (now (fr .entry)) ⌝ }
+{
+    let c = chip_spares::cluster_in(p, fr);
+    if c.0 >= p.C {
+        return false;
+    }
+    if chip_sizes::region_of(p, c) != r {
+        return false;
+    }
+    let m = p.alpha;
+    let mut j = 0;
+    while j < m {
+        if !chip_spares::is_marked(p, fr, c, j) {
+            return false;
+        }
+        j += 1;
+    }
+    true
+}
+
+// Does a frame hold cluster c? Its number is looked at first: where many frames are asked, most hold another.
+pub fn holds(p: Params, fr: &[u8], c: Cluster) -> bool
+    requires { ⌜ allowed p ≡ true ⌝ }
+    requires { ⌜ length (now fr) ≡ frameBytes p ⌝ }
+    ensures { λ ok. ⌜ ok ≡ holds p (now (fr .entry)) (c .0) ⌝ }
+{
+    if chip_spares::cluster_in(p, fr).0 != c.0 {
+        return false;
+    }
+    chip_spares::is_programmed(p, fr)
+}
+
+// How many frames of the block are programmed.
+pub fn filled(p: Params, blk: &[u8]) -> usize
+    requires { ⌜ allowed p ≡ true ⌝ }
+    requires { ⌜ length (now blk) ≡ blockBytes p ⌝ }
+    ensures { λ k. ⌜ k ≡ filled p (now (blk .entry)) ⌝ }
+{
+    let n = chip_sizes::frames(p);
+    let mut k = 0;
+    let mut f = 0;
+    while f < n {
+        if chip_spares::is_programmed(p, frame_of(p, blk, f)) {
+            k += 1;
+        }
+        f += 1;
+    }
+    k
+}
+
+// The first frame from frame `from` on that is not programmed, F if there is none: how many frames are programmed, where these are the first k of the
+// block and `from` is not above k.
+pub fn next_free(p: Params, blk: &[u8], from: usize) -> usize
+    requires { ⌜ allowed p ≡ true ⌝ }
+    requires { ⌜ length (now blk) ≡ blockBytes p ⌝ }
+    requires { ⌜ from ≤ frames p ⌝ }
+    ensures { λ f. ⌜ ((k : ℕ) → from ≤ k → FirstFrames p (now (blk .entry)) k → f ≡ k) ⌝ }
+{
+    let n = chip_sizes::frames(p);
+    let mut f = from;
+    while f < n {
+        if !chip_spares::is_programmed(p, frame_of(p, blk, f)) {
+            return f;
+        }
+        f += 1;
+    }
+    f
+}
+
+// Is the last frame of the block programmed? If the first k frames are and no others, the block is full exactly then.
+pub fn is_full(p: Params, blk: &[u8]) -> bool
+    requires { ⌜ allowed p ≡ true ⌝ }
+    requires { ⌜ length (now blk) ≡ blockBytes p ⌝ }
+    ensures { λ ok. ⌜ ok ≡ programmed p (frame p (now (blk .entry)) (frames p - 1)) ⌝ }
+{
+    let f = chip_sizes::frames(p) - 1;
+    chip_spares::is_programmed(p, frame_of(p, blk, f))
+}
+
+// How many frames, from the first on, are good frames of region r: up to the first that is not.
+fn good_frames(p: Params, r: usize, blk: &[u8]) -> usize
+    requires { ⌜ allowed p ≡ true ⌝ }
+    requires { ⌜ length (now blk) ≡ blockBytes p ⌝ }
+    ensures { λ k. ⌜ k ≤ frames p ⌝ }
+    ensures { λ k. ⌜ allBelow k (λ f. goodFrame p r (frame p (now (blk .entry)) f)) ≡ true ⌝ }
+    ensures { λ k. ⌜ (k < frames p → goodFrame p r (frame p (now (blk .entry)) k) ≡ false) ⌝ }
+{
+    let n = chip_sizes::frames(p);
+    let mut f = 0;
+    while f < n {
+        if !good_frame(p, r, frame_of(p, blk, f)) {
+            return f;
+        }
+        f += 1;
+    }
+    f
+}
+
+// Are the frames from frame k on erased?
+fn rest_erased(p: Params, blk: &[u8], k: usize) -> bool
+    requires { ⌜ allowed p ≡ true ⌝ }
+    requires { ⌜ length (now blk) ≡ blockBytes p ⌝ }
+    requires { ⌜ k ≤ frames p ⌝ }
+    ensures { λ ok. ⌜ ok ≡ allAre 255 (drop (k * frameBytes p) (now (blk .entry))) ⌝ }
+{
+    let page = chip_sizes::page_bytes(p);
+    let w = chip_sizes::frame_bytes(p);
+    let n = chip_sizes::frames(p) - k;
+    let a = k * w;
+    let m = n * p.alpha;
+    chip_erased::are_erased(&blk[a..], page, m)
+}
+
+// How many frames of the block are programmed, if it is a used block of region r; 0 if it is not one.
+pub fn used_frames(p: Params, r: usize, blk: &[u8]) -> usize
+    requires { ⌜ allowed p ≡ true ⌝ }
+    requires { ⌜ length (now blk) ≡ blockBytes p ⌝ }
+    ensures { λ k. ⌜ k ≡ cond (blockRule p r (now (blk .entry))) (filled p (now (blk .entry))) 0 ⌝ }
+{
+    let k = good_frames(p, r, blk);
+    if k == 0 {
+        return 0;
+    }
+    if !rest_erased(p, blk, k) {
+        return 0;
+    }
+    k
+}
+
+// Is the block a used block of region r?
+pub fn block_ok(p: Params, r: usize, blk: &[u8]) -> bool
+    requires { ⌜ allowed p ≡ true ⌝ }
+    requires { ⌜ length (now blk) ≡ blockBytes p ⌝ }
+    ensures { λ ok. ⌜ ok ≡ blockRule p r (now (blk .entry)) ⌝ }
+{
+    used_frames(p, r, blk) != 0
+}
+
+// Where a search ended, and how many spare areas of programmed frames it looked at on its way.
+pub struct Search {
+    pub frame: usize,
+    pub looks: u32,
+}
+
+// The spare areas that a search looks at in a frame: that of a programmed one; it starts below the erased ones.
+fn looked(p: Params, fr: &[u8]) -> u32
+    requires { ⌜ allowed p ≡ true ⌝ }
+    requires { ⌜ length (now fr) ≡ frameBytes p ⌝ }
+    ensures { λ n. ⌜ n ≡ cond (programmed p (now (fr .entry))) 1 0 ⌝ }
+{
+    if chip_spares::is_programmed(p, fr) {
+        1
+    } else {
+        0
+    }
+}
+
+// The last of the β frames in place k of the block that holds cluster c, searched from the last one down, and what the search looked at; 65535 if none does.
+pub fn last_in(p: Params, blk: &[u8], k: usize, c: Cluster) -> Search
+    requires { ⌜ allowed p ≡ true ⌝ }
+    requires { ⌜ length (now blk) ≡ blockBytes p ⌝ }
+    requires { ⌜ k < p .d ⌝ }
+    ensures { λ r. ⌜ r .frame ≡ lastIn p (now (blk .entry)) k (c .0) ⌝ }
+    ensures { λ r. ⌜ r .looks ≤ p .beta ⌝ }
+    ensures { λ r. ⌜ (r .frame < frames p → r .looks ≡ programmedDownTo p (now (blk .entry)) k (r .frame)) ⌝ }
+{
+    let lo = k * p.beta;
+    let mut i = lo + p.beta;
+    let mut looks = 0;
+    while lo < i {
+        let f = i - 1;
+        let fr = frame_of(p, blk, f);
+        looks += looked(p, fr);
+        if holds(p, fr, c) {
+            return Search { frame: f, looks };
+        }
+        i = f;
+    }
+    Search {
+        frame: 65535,
+        looks,
+    }
+}
+
+// Is the whole block erased?
+pub fn block_erased(p: Params, blk: &[u8]) -> bool
+    requires { ⌜ allowed p ≡ true ⌝ }
+    requires { ⌜ length (now blk) ≡ blockBytes p ⌝ }
+    ensures { λ ok. ⌜ ok ≡ allAre 255 (now (blk .entry)) ⌝ }
+{
+    let page = chip_sizes::page_bytes(p);
+    let n = chip_sizes::frames(p);
+    let k = p.alpha * n;
+    chip_erased::are_erased(blk, page, k)
+}

@@ -1,0 +1,93 @@
+// A frame of the chip, page by page.
+ghost use mathlib.Core.Path.{_≡_};
+ghost use mathlib.Core.Bool.{true};
+ghost use mathlib.Core.List.{List, _++_};
+ghost use Prim.Native.Nat.{ℕ, _+_, _*_, _<_, _≤_};
+ghost use lib.ListN.{length, take, drop, replicate};
+ghost use Rattle.rules.specs.Parameters.{allowed, frames};
+ghost use Rattle.chip_frames.specs.Frame.{FrameAsked, PageAsked, HostAsked, hostPage, pageSector, hostFrame, sectorsOf};
+ghost use Rattle.lists.specs.Parts.{part, putPart};
+use rules::Cluster;
+use rules::PBlock;
+use rules::Params;
+
+// Frame f of block n, counted over the chip.
+pub fn frame_at(p: Params, n: PBlock, f: usize) -> usize
+    requires { ⌜ allowed p ≡ true ⌝ }
+    requires { ⌜ n .0 < p .N ⌝ }
+    requires { ⌜ f < frames p ⌝ }
+    ensures { λ x. ⌜ x ≡ n .0 * frames p + f ⌝ }
+{
+    let m = chip_sizes::frames(p);
+    n.0 * m + f
+}
+
+// Frame `to` is programmed with the pages of frame `from`, one after the other.
+pub fn copy_frame(chip: &mut [u8], w: usize, n: usize, from: usize, to: usize)
+    requires { ⌜ FrameAsked (now chip) w n from to ⌝ }
+    ensures { λ _. ⌜ now (chip .exit) ≡ putPart (n * w) to (part (n * w) from (now (chip .entry))) (now (chip .entry)) ⌝ }
+{
+    let x = from * n;
+    let y = to * n;
+    let mut k: usize = 0;
+    while k < n {
+        chip_pages::copy_at(chip, w, x + k, y + k);
+        k += 1;
+    }
+}
+
+// Page q is programmed with sector j of a cluster: one of the given sectors, which stand from `off` on, or that of page `old`, or 255 throughout.
+fn host_page(
+    chip: &mut [u8],
+    s: usize,
+    q: usize,
+    kept: bool,
+    old: usize,
+    j: usize,
+    off: usize,
+    count: usize,
+    bytes: &[u8],
+    c: Cluster,
+)
+    requires { ⌜ PageAsked (now chip) s q kept old j off count (now bytes) (c .0) ⌝ }
+    ensures { λ _. ⌜ now (chip .exit) ≡ putPart (s + 16) q (hostPage s off count (now (bytes .entry)) (pageSector s kept old (now (chip .entry))) (c .0) j) (now (chip .entry)) ⌝ }
+{
+    let end = off + count;
+    let given = (off <= j) & (j < end);
+    if given {
+        let a = (j - off) * s;
+        let b = a + s;
+        chip_pages::program_at(chip, q, &bytes[a..b], c, (j % 256) as u8);
+        return;
+    }
+    if kept {
+        chip_pages::copy_at(chip, s + 16, old, q);
+        return;
+    }
+    chip_pages::program_blank_at(chip, q, s, c, (j % 256) as u8);
+}
+
+// Frame `to` is programmed with a cluster: the given sectors from `off` on, and for the others those of frame `old`, 255 where there is none.
+pub fn host_frame(
+    chip: &mut [u8],
+    s: usize,
+    n: usize,
+    to: usize,
+    kept: bool,
+    old: usize,
+    off: usize,
+    count: usize,
+    bytes: &[u8],
+    c: Cluster,
+)
+    requires { ⌜ HostAsked (now chip) s n to kept old off count (now bytes) (c .0) ⌝ }
+    ensures { λ _. ⌜ now (chip .exit) ≡ putPart (n * (s + 16)) to (hostFrame s n off count (now (bytes .entry)) (sectorsOf s n kept old (now (chip .entry))) (c .0)) (now (chip .entry)) ⌝ }
+{
+    let x = old * n;
+    let y = to * n;
+    let mut k: usize = 0;
+    while k < n {
+        host_page(chip, s, y + k, kept, x + k, k, off, count, bytes, c);
+        k += 1;
+    }
+}

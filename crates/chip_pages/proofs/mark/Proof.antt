@@ -1,0 +1,32 @@
+-- `chip_pages::mark`: the sixteen bytes put are the whole spare area.
+-- Assumes nothing.
+use mathlib.Core.Path.{ap, sym, _∙_, _≡_}
+use native.Mathlib.Omega.{arith}
+use lib.ListN.{length}
+use borrow.Author.Needs.{needs}
+use Rattle.rules.specs.Pages.{bytes32, spareBytes}
+use Rattle.chip_pages.proofs.Places.{put-whole}
+use Rattle.chip_pages.proofs.mark.Statement.{statement}
+use Rattle.chip_pages.proofs.mark.Tie as tie
+
+spare-bytes-requires : tie.Need-spare-bytes-requires
+spare-bytes-requires c κs = search needs
+
+slice-aggregate-put : tie.Need-slice-aggregate-put
+slice-aggregate-put c = search needs
+
+put-requires : tie.Need-put-requires
+unfolding spareBytes bytes32
+put-requires c κs = omega (arith, ap length (c .before .before .before .before .pre), ap length (c .before .before .spare-bytes .ensures))
+
+same-length : tie.Need-same-length
+same-length c = search needs
+
+returns : tie.Need-returns
+unfolding spareBytes bytes32
+returns c =
+    let e : length (c .before .before .before .before .before .before .before .args .spare .now) ≡ length (c .before .before .before .before .before .spare-bytes .result) = ap length (c .before .before .before .before .before .before .before .pre) ∙ sym (ap length (c .before .before .before .before .before .spare-bytes .ensures)) in
+    c .before .before .put .ensures ∙ put-whole _ _ e ∙ c .before .before .before .before .before .spare-bytes .ensures
+
+pub mark-spec : {M : Type 1} → statement M
+mark-spec = tie.close (tie.spec spare-bytes-requires slice-aggregate-put put-requires same-length returns)

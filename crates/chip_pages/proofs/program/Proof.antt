@@ -1,0 +1,51 @@
+-- `chip_pages::program`: the bytes, then the spare area, which is erased still.
+-- Assumes nothing.
+use mathlib.Core.Path.{ap, refl, _∙_}
+use Prim.Native.Nat.{_+_, ℕ}
+use native.Mathlib.Omega.{arith}
+use lib.ListN.{length, length-replicate}
+use borrow.Author.Needs.{needs}
+use Rattle.chip_pages.proofs.Places.{page-done, put-erased, spare-left}
+use Rattle.chip_pages.proofs.program.Statement.{statement}
+use Rattle.chip_pages.proofs.program.Tie as tie
+
+put-requires : tie.Need-put-requires
+put-requires c κs = let a = c .before .before .before in omega (arith, ap length (a .pre) ∙ length-replicate {A = ℕ} (length (a .args .bytes .now) + 16) 255)
+
+sub-mark : tie.Need-sub-mark
+sub-mark c =
+    let a = c .before .before .before .before .before .before in
+    omega (arith, c .before .before .put .kept .0, ap length (a .pre) ∙ length-replicate {A = ℕ} (length (a .args .bytes .now) + 16) 255)
+
+part-mark-start : tie.Need-part-mark-start
+part-mark-start c =
+    let a = c .before .before .before .before .before .before in
+    omega (arith, c .before .before .put .kept .0, ap length (a .pre) ∙ length-replicate {A = ℕ} (length (a .args .bytes .now) + 16) 255)
+
+part-mark-end : tie.Need-part-mark-end
+part-mark-end c = search needs
+
+mark-requires : tie.Need-mark-requires
+mark-requires c κs =
+    let a = c .before .before .before .before .before .before .before in
+    spare-left (a .args .bytes .now) _ _ refl (put-erased (a .args .bytes .now) (a .args .page .now) _ (a .pre) (c .before .before .before .put .ensures))
+
+same-length : tie.Need-same-length
+same-length c = search needs
+
+returns : tie.Need-returns
+returns c =
+    let a = c .before .before .before .before .before .before .before .before .before .before in
+    rw (c .before .before .mark .ensures) (page-done (a .args .bytes .now) _ _ refl (put-erased (a .args .bytes .now) (a .args .page .now) _ (a .pre) (c .before .before .before .before .before .before .put .ensures)) _)
+
+pub program-spec : {M : Type 1} → statement M
+program-spec =
+    tie.close
+    (tie.spec
+    put-requires
+    sub-mark
+    part-mark-start
+    part-mark-end
+    mark-requires
+    same-length
+    returns)

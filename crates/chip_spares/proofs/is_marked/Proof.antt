@@ -1,0 +1,69 @@
+-- `chip_spares::is_marked`: the lent part is the spare area of the page.
+-- Assumes nothing.
+use mathlib.Core.Path.{_≡_}
+use Prim.Native.Nat.{_*_, _+_, ℕ, _≤_}
+use native.Mathlib.Omega.{arith}
+use lib.ListN.{length}
+use borrow.Author.Needs.{needs}
+use Rattle.rules.specs.Parameters.{pageBytes}
+use Rattle.rules.proofs.Sizes.{sizes}
+use Rattle.chip_spares.proofs.Spares.{spare-fits, spare-lent}
+use Rattle.chip_spares.proofs.is_marked.Statement.{statement}
+use Rattle.chip_spares.proofs.is_marked.Tie as tie
+
+-- the end of the spare area, in the frame
+end : (a : tie.Start) (w : ℕ) → w ≡ pageBytes (a .args .p) → a .args .j * w + a .args .p .s + 16 ≤ length (a .args .frame .now)
+end a w e = spare-fits (a .args .p) (a .args .j) w (length (a .args .frame .now)) e (a .pre .1 .0) (a .pre .1 .1)
+
+page-bytes-requires : tie.Need-page-bytes-requires
+page-bytes-requires c κs = search needs
+
+mul-a : tie.Need-mul-a
+mul-a c = omega (arith, end (c .before .before) (c .page-bytes .result) (c .page-bytes .ensures))
+
+add-a : tie.Need-add-a
+add-a c = omega (arith, end (c .before .before .before) (c .before .page-bytes .result) (c .before .page-bytes .ensures))
+
+add-b : tie.Need-add-b
+add-b c = omega (arith, end (c .before .before .before) (c .before .page-bytes .result) (c .before .page-bytes .ensures))
+
+cast-spare-bytes : tie.Need-cast-spare-bytes
+cast-spare-bytes c = let z = sizes _ (c .before .before .before .pre .0) in omega (arith, z .alphaHigh, c .before .before .before .pre .1 .1)
+
+spare-bytes-requires : tie.Need-spare-bytes-requires
+spare-bytes-requires c κs = search needs
+
+sub-same : tie.Need-sub-same
+sub-same c = search needs
+
+part-same-start : tie.Need-part-same-start
+part-same-start c = search needs
+
+part-same-end : tie.Need-part-same-end
+part-same-end c = omega (arith, end (c .before .before .before .before) (c .before .before .page-bytes .result) (c .before .before .page-bytes .ensures))
+
+slice-aggregate-same : tie.Need-slice-aggregate-same
+slice-aggregate-same c = search needs
+
+same-requires : tie.Need-same-requires
+same-requires c κs = search needs
+
+returns : tie.Need-returns
+returns c = cc (spare-lent (c .before .before .before .before .before .before .before .args .p) (c .before .before .before .before .before .before .before .args .frame .now) (c .before .before .before .before .before .before .before .args .j) (c .before .before .before .before .before .page-bytes .result) (c .before .before .before .before .before .page-bytes .ensures))
+
+pub is-marked-spec : {M : Type 1} → statement M
+is-marked-spec =
+    tie.close
+    (tie.spec
+    page-bytes-requires
+    mul-a
+    add-a
+    add-b
+    cast-spare-bytes
+    spare-bytes-requires
+    sub-same
+    part-same-start
+    part-same-end
+    slice-aggregate-same
+    same-requires
+    returns)

@@ -1,0 +1,25 @@
+-- `chip_spares::word`: two times four bytes.
+-- Assumes nothing.
+use native.Mathlib.Omega.{arith}
+use borrow.Author.Needs.{needs}
+use Rattle.chip_spares.proofs.Words.{two-halves}
+use Rattle.chip_spares.proofs.word.Statement.{statement}
+use Rattle.chip_spares.proofs.word.Tie as tie
+
+half-requires : tie.Need-half-requires
+half-requires c κs = search needs
+
+half-requires-2 : tie.Need-half-requires-2
+half-requires-2 c κs = search needs
+
+mul-result : tie.Need-mul-result
+mul-result c = search needs
+
+add-result : tie.Need-add-result
+add-result c = search needs
+
+returns : tie.Need-returns
+returns c = omega (arith, two-halves (c .before .before .before .args .part .now) (c .before .before .before .pre))
+
+pub word-spec : {M : Type 1} → statement M
+word-spec = tie.close (tie.spec half-requires half-requires-2 mul-result add-result returns)

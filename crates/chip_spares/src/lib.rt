@@ -1,0 +1,107 @@
+// The spare bytes of a page: what a program writes there, and what those of a frame say.
+ghost use mathlib.Core.Path.{_≡_};
+ghost use mathlib.Core.Bool.{true};
+ghost use Prim.Native.Nat.{_+_, _<_, _≤_};
+ghost use lib.ListN.{length, drop};
+ghost use Rattle.lists.specs.Parts.{sameList};
+ghost use Rattle.rules.specs.Parameters.{allowed, frameBytes};
+ghost use Rattle.rules.specs.Pages.{le32, spare, spareBytes, held, programmed};
+ghost use Rattle.chip_spares.specs.Words.{le};
+use rules::Cluster;
+use rules::Params;
+
+// The spare bytes of a programmed page: its cluster, low byte first, and the sector's place in it; byte 5 stays 255, byte 6 is zero.
+pub fn spare_bytes(c: Cluster, place: u8) -> [u8; 16]
+    ensures { λ b. ⌜ b ≡ spareBytes (c .0) place ⌝ }
+{
+    [
+        (c.0 % 256) as u8,
+        (c.0 / 256 % 256) as u8,
+        (c.0 / 65536 % 256) as u8,
+        (c.0 / 16777216 % 256) as u8,
+        place,
+        255,
+        0,
+        255,
+        255,
+        255,
+        255,
+        255,
+        255,
+        255,
+        255,
+        255,
+    ]
+}
+
+// A byte as a number.
+fn wide(x: u8) -> usize
+    ensures { λ n. ⌜ n ≡ x ⌝ }
+    ensures { λ n. ⌜ n < 256 ⌝ }
+{
+    x as usize
+}
+
+// The four bytes of a lent part from byte a on, as a number, low byte first: one load.
+fn half(part: &[u8], a: usize) -> usize
+    requires { ⌜ a + 4 ≤ length (now part) ⌝ }
+    ensures { λ n. ⌜ n ≡ le32 (drop a (now (part .entry))) ⌝ }
+    ensures { λ n. ⌜ n < 4294967296 ⌝ }
+{
+    wide(part[a])
+        + 256 * wide(part[a + 1])
+        + 65536 * wide(part[a + 2])
+        + 16777216 * wide(part[a + 3])
+}
+
+// Eight bytes as a number, low byte first: one load, so that eight bytes are compared at once.
+fn word(part: &[u8]) -> usize
+    requires { ⌜ length (now part) ≡ 8 ⌝ }
+    ensures { λ n. ⌜ n ≡ le (now (part .entry)) ⌝ }
+{
+    half(part, 0) + 4294967296 * half(part, 4)
+}
+
+// Are these 16 bytes and those the same? Two words each.
+fn same(a: &[u8], b: &[u8]) -> bool
+    requires { ⌜ length (now a) ≡ 16 ⌝ }
+    requires { ⌜ length (now b) ≡ 16 ⌝ }
+    ensures { λ ok. ⌜ ok ≡ sameList (now (a .entry)) (now (b .entry)) ⌝ }
+{
+    (word(&a[..8]) == word(&b[..8])) & (word(&a[8..]) == word(&b[8..]))
+}
+
+// The cluster that a frame's first page names.
+pub fn cluster_in(p: Params, frame: &[u8]) -> Cluster
+    requires { ⌜ allowed p ≡ true ⌝ }
+    requires { ⌜ length (now frame) ≡ frameBytes p ⌝ }
+    ensures { λ c. ⌜ c .0 ≡ held p (now (frame .entry)) ⌝ }
+    ensures { λ c. ⌜ c .0 < 4294967296 ⌝ }
+{
+    let n = half(frame, p.s);
+    Cluster(n)
+}
+
+// Is a frame programmed?
+pub fn is_programmed(p: Params, frame: &[u8]) -> bool
+    requires { ⌜ allowed p ≡ true ⌝ }
+    requires { ⌜ length (now frame) ≡ frameBytes p ⌝ }
+    ensures { λ ok. ⌜ ok ≡ programmed p (now (frame .entry)) ⌝ }
+{
+    let a = p.s + 6;
+    frame[a] == 0
+}
+
+// Has page j of a frame the spare bytes of cluster c?
+pub fn is_marked(p: Params, frame: &[u8], c: Cluster, j: usize) -> bool
+    requires { ⌜ allowed p ≡ true ⌝ }
+    requires { ⌜ length (now frame) ≡ frameBytes p ⌝ }
+    requires { ⌜ j < p .alpha ⌝ }
+    ensures { λ ok. ⌜ ok ≡ sameList (spare p (now (frame .entry)) j) (spareBytes (c .0) j) ⌝ }
+{
+    let w = chip_sizes::page_bytes(p);
+    let a = j * w + p.s;
+    let b = a + 16;
+    let m = spare_bytes(c, j as u8);
+    same(&frame[a..b], &m)
+}

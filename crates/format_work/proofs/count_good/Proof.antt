@@ -1,0 +1,52 @@
+-- `format_work::count_good`: after n turns, how many of the first n blocks are not bad.
+-- Assumes nothing.
+use mathlib.Core.Path.{_≡_, refl, sym, ap, _∙_}
+use mathlib.Core.Logic.{⊎-elim}
+use mathlib.Core.Bool.{not}
+use Prim.Native.Nat.{ℕ, _-_, _≤_, _<_}
+use native.Mathlib.Omega.{arith}
+use borrow.Author.Needs.{needs}
+use Rattle.lists.specs.Below.{countBelow}
+use Rattle.rules.specs.Format.{bad, goodBlocks}
+use Rattle.loops.proofs.Below.{count-start, count-yes, count-no}
+use Rattle.format_work.proofs.count_good.Statement.{statement}
+use Rattle.format_work.proofs.count_good.Tie as tie
+
+abbrev Inv-loop : tie.InvT-loop
+Inv-loop p chip m k₀ n₀ k n = (n ≤ m) × (k ≤ n) × (k ≡ countBelow n (λ j. not (bad p chip j)))
+
+abbrev μ-loop : tie.MeasureT-loop
+μ-loop p chip m k₀ n₀ k n = m - n
+
+loop-holds : tie.Need-loop-holds Inv-loop μ-loop
+loop-holds c = (omega arith, omega arith, count-start _)
+
+is-bad-requires : tie.Need-is-bad-requires Inv-loop μ-loop
+is-bad-requires c κs = (c .before .before .before .pre .0, (c .before .before .before .pre .1, c .loop-test .taken))
+
+add-k : tie.Need-add-k Inv-loop μ-loop
+add-k c = omega arith
+
+add-n : tie.Need-add-n Inv-loop μ-loop
+add-n c = omega arith
+
+loop-less : tie.Need-loop-less Inv-loop μ-loop
+loop-less c = omega arith
+
+loop-again : tie.Need-loop-again Inv-loop μ-loop
+loop-again c =
+    let at = c .before .before .before .loop .inv in
+    let e = c .before .is-bad .ensures in
+    ⊎-elim
+    (λ w. (omega arith, omega (arith, w .1), rw (w .1) (count-yes _ _ _ (at .2) (ap not (sym e) ∙ w .0 .taken))))
+    (λ w. (omega arith, omega (arith, w .1), rw (w .1) (count-no _ _ _ (at .2) (ap not (sym e) ∙ w .0 .left))))
+    (c .if1 .came)
+
+returns : tie.Need-returns Inv-loop μ-loop
+unfolding goodBlocks
+returns c =
+    let e : c .before .loop .n ≡ c .before .before .before .args .p .N = omega arith in
+    c .before .loop .inv .2 ∙ rw e
+
+pub count-good-spec : {M : Type 1} → statement M
+count-good-spec = tie.close (tie.spec Inv-loop μ-loop loop-holds is-bad-requires add-k add-n loop-less loop-again returns)

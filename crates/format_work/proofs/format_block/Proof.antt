@@ -1,0 +1,66 @@
+-- `format_work::format_block`: one of two outcomes, by the block's mark.
+-- Assumes nothing.
+use mathlib.Core.Path.{_≡_, sym, _∙_}
+use native.Mathlib.Omega.{arith}
+use borrow.Author.Needs.{needs}
+use Rattle.format_work.proofs.Turns.{erase-fits, done-bad, done-good}
+use Rattle.format_work.proofs.format_block.Statement.{statement}
+use Rattle.format_work.proofs.format_block.Tie as tie
+
+is-bad-requires : tie.Need-is-bad-requires
+is-bad-requires c κs = search needs
+
+set-bst-requires : tie.Need-set-bst-requires
+set-bst-requires c κs = search needs
+
+same-length : tie.Need-same-length
+same-length c = search needs
+
+same-length-2 : tie.Need-same-length-2
+same-length-2 c = search needs
+
+returns : tie.Need-returns
+returns c = done-bad _ _ _ _ _ (c .before .before .before .before .before .before .before .before .before .before .pre) (sym (c .before .before .before .before .if1 .taken) ∙ c .before .before .before .before .before .is-bad .ensures) _ (c .before .before .set-bst .ensures)
+
+block-bytes-requires : tie.Need-block-bytes-requires
+block-bytes-requires c κs = search needs
+
+erase-at-requires : tie.Need-erase-at-requires
+erase-at-requires c κs = erase-fits _ _ _ _ _ (c .before .before .before .before .before .before .before .before .pre) _ (c .before .block-bytes .ensures)
+
+set-bst-requires-2 : tie.Need-set-bst-requires-2
+set-bst-requires-2 c κs = search needs
+
+count-erase-requires : tie.Need-count-erase-requires
+count-erase-requires c κs = search needs
+
+same-length-3 : tie.Need-same-length-3
+same-length-3 c = search needs
+
+same-length-4 : tie.Need-same-length-4
+same-length-4 c = search needs
+
+same-length-5 : tie.Need-same-length-5
+same-length-5 c = search needs
+
+returns-2 : tie.Need-returns-2
+returns-2 c =
+    done-good _ _ _ _ _ (c .before .before .before .before .before .before .before .before .before .before .before .before .before .before .before .before .before .before .before .pre) _ (c .before .before .before .before .before .before .before .before .before .before .before .before .block-bytes .ensures) (sym (c .before .before .before .before .before .before .before .before .before .before .before .before .before .if1 .left) ∙ c .before .before .before .before .before .before .before .before .before .before .before .before .before .before .is-bad .ensures) _ _ _ (c .before .before .before .before .before .before .before .before .before .before .erase-at .ensures) (c .before .before .before .before .before .before .set-bst2 .ensures) (c .before .before .count-erase .ensures)
+
+pub format-block-spec : {M : Type 1} → statement M
+format-block-spec =
+    tie.close
+    (tie.spec
+    is-bad-requires
+    set-bst-requires
+    same-length
+    same-length-2
+    returns
+    block-bytes-requires
+    erase-at-requires
+    set-bst-requires-2
+    count-erase-requires
+    same-length-3
+    same-length-4
+    same-length-5
+    returns-2)

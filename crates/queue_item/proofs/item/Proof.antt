@@ -1,0 +1,105 @@
+-- `queue_item::item`: refused by the reply's number, or the work of an orderly write on the item's part of the data.
+-- Assumes nothing.
+use mathlib.Core.Path.{refl}
+use native.Mathlib.Omega.{arith}
+use borrow.Author.Needs.{needs}
+use Rattle.rules.specs.declared.Item.{Item}
+use Rattle.reply_rows.proofs.Rows.{bytes-low}
+use Rattle.rules.specs.Tables.{Board, boardOf}
+use Rattle.rules.specs.Requests.{itemOf}
+use Rattle.queue_item.proofs.Parts.{asked-accepted, inside, item-done, item-refused}
+use Rattle.queue_item.proofs.item.Statement.{statement}
+use Rattle.queue_item.proofs.item.Tie as tie
+
+abbrev board : tie.Start → Board
+board a = boardOf (a .args .chip .now) (a .args .ct .now) (a .args .bt .now) (a .args .fst .now) (a .args .bst .now) (a .args .wear .now) (a .args .marks .now)
+
+abbrev asked : tie.Start → Item
+asked a = itemOf (a .args .lba) (a .args .count) (a .args .first)
+
+has-bytes-requires : tie.Need-has-bytes-requires
+has-bytes-requires c κs = c .before .before .before .before .before .before .before .before .pre .fine
+
+item-reply-requires : tie.Need-item-reply-requires
+item-reply-requires c κs = c .before .before .before .before .before .before .before .before .before .pre .fine
+
+number-requires : tie.Need-number-requires
+number-requires c κs = search needs
+
+idle-requires : tie.Need-idle-requires
+idle-requires c κs = search needs
+
+returns : tie.Need-returns
+returns c =
+    let a = c .before .before .before .before .before .before .before .before .before .before .before .before .before in
+    item-refused _ _ (board a) (a .pre) _ (asked a) _ (c .before .before .before .before .has-bytes .ensures (a .args .bytes .now) (a .args .lba) refl) _ (c .before .before .before .item-reply .ensures) _ (c .before .before .number .ensures) (c .before .if1 .taken) _ (c .idle .ensures)
+
+mul-to : tie.Need-mul-to
+mul-to c = omega (arith, bytes-low _ (c .before .before .before .before .before .before .before .before .before .before .before .before .before .pre .fine) (c .before .before .before .before .before .before .before .before .before .before .before .before .before .args .count) (omega arith))
+
+add-to : tie.Need-add-to
+add-to c = omega (arith, bytes-low _ (c .before .before .before .before .before .before .before .before .before .before .before .before .before .pre .fine) (c .before .before .before .before .before .before .before .before .before .before .before .before .before .args .count) (omega arith))
+
+sub-write-orderly : tie.Need-sub-write-orderly
+sub-write-orderly c = search needs
+
+part-write-orderly-start : tie.Need-part-write-orderly-start
+part-write-orderly-start c = search needs
+
+part-write-orderly-end : tie.Need-part-write-orderly-end
+part-write-orderly-end c =
+    let a = c .before .before .before .before .before .before .before .before .before .before .before .before .before .before .before .before .before .before .before .before in
+    omega (arith, inside _ _ (board a) (a .pre) _ (asked a) _ (c .before .before .before .before .before .before .before .before .before .before .before .has-bytes .ensures (a .args .bytes .now) (a .args .lba) refl) _ (c .before .before .before .before .before .before .before .before .before .before .item-reply .ensures) _ (c .before .before .before .before .before .before .before .before .before .number .ensures) (c .before .before .before .before .before .before .before .before .if1 .left))
+
+write-orderly-requires : tie.Need-write-orderly-requires
+write-orderly-requires c κs =
+    let a = c .before .before .before .before .before .before .before .before .before .before .before .before .before .before .before .before .before .before .before .before .before in
+    asked-accepted _ _ (board a) (a .pre) _ (asked a) _ (c .before .before .before .before .before .before .before .before .before .before .before .before .has-bytes .ensures (a .args .bytes .now) (a .args .lba) refl) _ (c .before .before .before .before .before .before .before .before .before .before .before .item-reply .ensures) _ (c .before .before .before .before .before .before .before .before .before .before .number .ensures) (c .before .before .before .before .before .before .before .before .before .if1 .left)
+
+same-length : tie.Need-same-length
+same-length c = search needs
+
+same-length-2 : tie.Need-same-length-2
+same-length-2 c = search needs
+
+same-length-3 : tie.Need-same-length-3
+same-length-3 c = search needs
+
+same-length-4 : tie.Need-same-length-4
+same-length-4 c = search needs
+
+same-length-5 : tie.Need-same-length-5
+same-length-5 c = search needs
+
+same-length-6 : tie.Need-same-length-6
+same-length-6 c = search needs
+
+same-length-7 : tie.Need-same-length-7
+same-length-7 c = search needs
+
+returns-2 : tie.Need-returns-2
+returns-2 c = item-done _ _ (board (c .before .before .before .before .before .before .before .before .before .before .before .before .before .before .before .before .before .before .before .before .before .before .before .before .before .before .before .before .before .before .before .before .before .before .before .before)) (c .before .before .before .before .before .before .before .before .before .before .before .before .before .before .before .before .before .before .before .before .before .before .before .before .before .before .before .before .before .before .before .before .before .before .before .before .pre) _ (asked (c .before .before .before .before .before .before .before .before .before .before .before .before .before .before .before .before .before .before .before .before .before .before .before .before .before .before .before .before .before .before .before .before .before .before .before .before)) _ (c .before .before .before .before .before .before .before .before .before .before .before .before .before .before .before .before .before .before .before .before .before .before .before .before .before .before .before .has-bytes .ensures (c .before .before .before .before .before .before .before .before .before .before .before .before .before .before .before .before .before .before .before .before .before .before .before .before .before .before .before .before .before .before .before .before .before .before .before .before .args .bytes .now) (c .before .before .before .before .before .before .before .before .before .before .before .before .before .before .before .before .before .before .before .before .before .before .before .before .before .before .before .before .before .before .before .before .before .before .before .before .args .lba) refl) _ (c .before .before .before .before .before .before .before .before .before .before .before .before .before .before .before .before .before .before .before .before .before .before .before .before .before .before .item-reply .ensures) _ (c .before .before .before .before .before .before .before .before .before .before .before .before .before .before .before .before .before .before .before .before .before .before .before .before .before .number .ensures) (c .before .before .before .before .before .before .before .before .before .before .before .before .before .before .before .before .before .before .before .before .before .before .before .before .if1 .left) _ _ (c .before .before .before .before .before .before .before .before .before .before .before .before .before .before .write-orderly .ensures)
+
+pub item-spec : {M : Type 1} → statement M
+item-spec =
+    tie.close
+    (tie.spec
+    has-bytes-requires
+    item-reply-requires
+    number-requires
+    idle-requires
+    returns
+    mul-to
+    add-to
+    sub-write-orderly
+    part-write-orderly-start
+    part-write-orderly-end
+    write-orderly-requires
+    same-length
+    same-length-2
+    same-length-3
+    same-length-4
+    same-length-5
+    same-length-6
+    same-length-7
+    returns-2)

@@ -1,0 +1,63 @@
+// Document 02, T-01: one item of a queue of writes. The head has looked at lengths and state once, for all items; an item is then the single write
+// without that look.
+ghost use mathlib.Core.Path.{_≡_};
+ghost use mathlib.Core.Bool.{true};
+ghost use mathlib.Core.List.{List};
+ghost use Prim.Native.Nat.{ℕ};
+ghost use lib.ListN.{length};
+ghost use Rattle.rules.specs.Parameters.{allowed};
+ghost use Rattle.rules.specs.Tables.{boardOf};
+ghost use Rattle.rules.specs.Requests.{itemOf, lies};
+ghost use Rattle.queue_head.specs.Heads.{Ready};
+ghost use Rattle.queue_item.specs.Items.{ItemIs};
+use rules::Answer;
+use rules::Params;
+
+// Do the bytes of an item lie in the data part, of which `len` are lent? The sum cannot wrap: both numbers are of 32 bits, and s is at most 512.
+fn has_bytes(p: Params, len: usize, count: u32, first: u32) -> bool
+    requires { ⌜ allowed p ≡ true ⌝ }
+    ensures { λ ok. ⌜ ((bytes : List ℕ) (lba : ℕ) → length bytes ≡ len → ok ≡ lies p bytes (itemOf lba count first)) ⌝ }
+{
+    first as usize + count as usize * p.s <= len
+}
+
+// One item: refused by its count, its address, its bytes or the state, in this order, else written.
+pub fn item(
+    p: Params,
+    chip: &mut [u8],
+    ct: &mut [u16],
+    bt: &mut [u16],
+    fst: &mut [u16],
+    bst: &mut [u8],
+    wear: &mut [u32],
+    marks: &mut [u64],
+    ordered: bool,
+    lba: u32,
+    count: u32,
+    first: u32,
+    bytes: &[u8],
+) -> Answer
+    requires { ⌜ Ready p ordered (boardOf (now chip) (now ct) (now bt) (now fst) (now bst) (now wear) (now marks)) ⌝ }
+    ensures { λ a. ⌜ ItemIs p ordered (boardOf (now (chip .entry)) (now (ct .entry)) (now (bt .entry)) (now (fst .entry)) (now (bst .entry)) (now (wear .entry)) (now (marks .entry))) (now (bytes .entry)) (itemOf lba count first) a (boardOf (now (chip .exit)) (now (ct .exit)) (now (bt .exit)) (now (fst .exit)) (now (bst .exit)) (now (wear .exit)) (now (marks .exit))) ⌝ }
+{
+    let fits = has_bytes(p, bytes.len(), count, first);
+    let reply = reply_rows::item_reply(p, ordered, lba, count, fits);
+    if rules::number(reply) != 0 {
+        return reply_rows::idle(reply);
+    }
+    let from = first as usize;
+    let to = from + count as usize * p.s;
+    write_work::write_orderly(
+        p,
+        chip,
+        ct,
+        bt,
+        fst,
+        bst,
+        wear,
+        marks,
+        lba as usize,
+        count as usize,
+        &bytes[from..to],
+    )
+}

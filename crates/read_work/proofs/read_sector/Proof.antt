@@ -1,0 +1,70 @@
+-- `read_work::read_sector`: 255 throughout, or the data bytes of the page.
+-- Assumes nothing.
+use mathlib.Core.Path.{_∙_}
+use native.Mathlib.Omega.{arith}
+use borrow.Author.Needs.{needs}
+use borrow.Author.Tests.{not-true, not-false}
+use Rattle.read_work.proofs.Runs.{blank-is, number-low, page-end, page-wide, sector-is}
+use Rattle.read_work.proofs.read_sector.Statement.{statement}
+use Rattle.read_work.proofs.read_sector.Tie as tie
+
+blank-requires : tie.Need-blank-requires
+blank-requires c κs = search needs
+
+same-length : tie.Need-same-length
+same-length c = search needs
+
+returns : tie.Need-returns
+returns c = c .before .before .blank .ensures ∙ blank-is _ _ _ _ _ _ (not-true _ (c .before .before .before .before .if1 .taken)) (c .before .before .before .before .before .before .before .before .pre .size)
+
+page-bytes-requires : tie.Need-page-bytes-requires
+page-bytes-requires c κs = search needs
+
+mul-a : tie.Need-mul-a
+mul-a c = omega (arith, number-low _ _ _ _ _ (c .before .before .before .before .before .before .before .pre .source) (c .before .before .before .before .before .before .before .pre .low) (not-false _ (c .before .before .before .if1 .left)) _ (c .before .before .page-bytes .ensures))
+
+add-a : tie.Need-add-a
+add-a c = omega (arith, number-low _ _ _ _ _ (c .before .before .before .before .before .before .before .pre .source) (c .before .before .before .before .before .before .before .pre .low) (not-false _ (c .before .before .before .if1 .left)) _ (c .before .before .page-bytes .ensures))
+
+mul-a-2 : tie.Need-mul-a-2
+mul-a-2 c = omega (arith, page-end _ _ _ _ _ (c .before .before .before .before .before .before .before .pre .source) (c .before .before .before .before .before .before .before .pre .low) (not-false _ (c .before .before .before .if1 .left)) _ (c .before .before .page-bytes .ensures))
+
+add-b : tie.Need-add-b
+add-b c = omega (arith, page-end _ _ _ _ _ (c .before .before .before .before .before .before .before .before .pre .source) (c .before .before .before .before .before .before .before .before .pre .low) (not-false _ (c .before .before .before .before .if1 .left)) _ (c .before .before .before .page-bytes .ensures), page-wide _ _ _ _ _ (c .before .before .before .before .before .before .before .before .pre .source) (c .before .before .before .before .before .before .before .before .pre .low) (not-false _ (c .before .before .before .before .if1 .left)) _ (c .before .before .before .page-bytes .ensures))
+
+sub-copy : tie.Need-sub-copy
+sub-copy c = search needs
+
+part-copy-start : tie.Need-part-copy-start
+part-copy-start c = search needs
+
+part-copy-end : tie.Need-part-copy-end
+part-copy-end c = omega (arith, page-end _ _ _ _ _ (c .before .before .before .before .before .before .before .before .before .pre .source) (c .before .before .before .before .before .before .before .before .before .pre .low) (not-false _ (c .before .before .before .before .before .if1 .left)) _ (c .before .before .before .before .page-bytes .ensures), page-wide _ _ _ _ _ (c .before .before .before .before .before .before .before .before .before .pre .source) (c .before .before .before .before .before .before .before .before .before .pre .low) (not-false _ (c .before .before .before .before .before .if1 .left)) _ (c .before .before .before .before .page-bytes .ensures))
+
+copy-requires : tie.Need-copy-requires
+copy-requires c κs = search needs
+
+same-length-2 : tie.Need-same-length-2
+same-length-2 c = search needs
+
+returns-2 : tie.Need-returns-2
+returns-2 c = c .before .before .copy .ensures ∙ sector-is _ _ _ _ _ (c .before .before .before .before .before .before .before .before .before .before .before .before .before .pre .source) (c .before .before .before .before .before .before .before .before .before .before .before .before .before .pre .low) (not-false _ (c .before .before .before .before .before .before .before .before .before .if1 .left)) _ (c .before .before .before .before .before .before .before .before .page-bytes .ensures)
+
+pub read-sector-spec : {M : Type 1} → statement M
+read-sector-spec =
+    tie.close
+    (tie.spec
+    blank-requires
+    same-length
+    returns
+    page-bytes-requires
+    mul-a
+    add-a
+    mul-a-2
+    add-b
+    sub-copy
+    part-copy-start
+    part-copy-end
+    copy-requires
+    same-length-2
+    returns-2)

@@ -1,0 +1,238 @@
+-- The forecast is what a write then does: the plan's numbers are those of the write's counts, of the place that it leaves the cluster at, and of the block that
+-- it opens or erases.
+-- Assumes nothing.
+use mathlib.Core.Path.{_≡_, refl, sym, _∙_}
+use mathlib.Core.Logic.{_⊎_, inl, inr}
+use mathlib.Core.Bool.{cond, false, true}
+use mathlib.Core.List.{List, [], _++_, _∷_}
+use Prim.Native.Nat.{_*_, _+_, _/_, _<_, ℕ, suc, zero}
+use native.Mathlib.Nat.{mod-lt}
+use native.Mathlib.Omega.{arith}
+use lib.Dec.{eqb}
+use lib.ListN.{getD, length, length-map}
+use Rattle.rules.specs.declared.Params.{Params}
+use Rattle.rules.specs.declared.Reply.the-variants.{Accepted}
+use Rattle.rules.specs.Calls.{answerOf, outcomeOf}
+use Rattle.rules.specs.Numbers.{clusterOf, placeOf, segmentOf, vblockOf}
+use Rattle.rules.specs.Pages.{block, erased, lastIn}
+use Rattle.rules.specs.Regions.{View, looksAt, validFrames, view, viewOf}
+use Rattle.rules.specs.Replies.{OrderlyBoard, badAddress, badParameter, firstRow, lentRows, notOrderly, numberOf, orderRow, replyOf, whyReply, whyRows, wrongLength}
+use Rattle.rules.specs.Requests.{Request, requestCluster, requestRegion, write}
+use Rattle.rules.specs.Tables.{Board, bstAt, btAt, ctAt, none}
+use Rattle.rules.specs.Words.{PlanListed}
+use Rattle.rules.specs.Write.{Plan, continues, copies, newFrame, opens, planBlock, planBst, planErases, planFrame, planOf, planVBlock, reclaims, written, writtenBy}
+use Rattle.rules.specs.Machine.{viewAfter, withFrame, withRoom}
+use Rattle.rules.proofs.Admitted.{Admitted, admitted, write-checks}
+use Rattle.rules.proofs.Continues.{Makes, frames-pos, segs-in}
+use Rattle.rules.proofs.FramePut.{Sheet, last-new, seg-new}
+use Rattle.rules.proofs.Frames.{seg-low, seg-place, seg-vblock}
+use Rattle.rules.proofs.Isolation.{index-low}
+use Rattle.rules.proofs.Outcomes.{write-accepted}
+use Rattle.rules.proofs.RegionFacts.{Neat, neat}
+use Rattle.rules.proofs.Sizes.{Sizes}
+use Rattle.rules.proofs.TableFacts.{Tables, tables-in}
+use Rattle.rules.proofs.Views.{block-low, free-unnamed, has-block, no-block}
+use Rattle.rules.proofs.Words.{plan-exactly}
+use Rattle.rules.proofs.Writes.{own-sheet}
+use Rattle.rules.proofs.WritePromise.{Promise, makes, write-promise}
+use Rattle.call_why.specs.Why.{forecastOf, holderOf, planNumbers, whyOf}
+use Rattle.call_why.proofs.Holder.{body-is}
+use Rattle.why_claims.specs.Truths.{ForecastTrue, toldAt}
+use Rattle.why_claims.proofs.Told.{told-held}
+
+-- ---- the numbers of a plan
+
+-- number i of the plan
+unfoldable pub planAt : Params → View → Plan → ℕ → ℕ
+planAt p vw pl i = getD (planNumbers p vw pl) i 0
+
+-- they are four, and a number may follow them
+front-at : (l : List ℕ) (x i : ℕ) → i < length l → getD (l ++ (x ∷ [])) i 0 ≡ getD l i 0
+front-at [] x i h = absurd (omega (arith, h))
+front-at (y ∷ l) x zero h = refl
+front-at (y ∷ l) x (suc i) h = front-at l x i (omega (arith, h))
+
+pub plan-front : (p : Params) (vw : View) (pl : Plan) (x i : ℕ) → i < 4 → getD (planNumbers p vw pl ++ (x ∷ [])) i 0 ≡ planAt p vw pl i
+unfolding planAt planNumbers
+plan-front p vw (continues v f) x i h = front-at (planNumbers p vw (continues v f)) x i h
+plan-front p vw (opens v) x i h = front-at (planNumbers p vw (opens v)) x i h
+plan-front p vw (reclaims v) x i h = front-at (planNumbers p vw (reclaims v)) x i h
+
+pub plan-last : (p : Params) (vw : View) (pl : Plan) (x : ℕ) → getD (planNumbers p vw pl ++ (x ∷ [])) 4 0 ≡ x
+unfolding planNumbers
+plan-last p vw (continues v f) x = refl
+plan-last p vw (opens v) x = refl
+plan-last p vw (reclaims v) x = refl
+
+-- the last but one of the numbers n are those of the plan
+pub record Planned (p : Params) (vw : View) (pl : Plan) (n : ℕ → ℕ) : Type 0 where
+  pub kind : n 8 ≡ planAt p vw pl 0
+  pub vblock : n 9 ≡ planAt p vw pl 1
+  pub frame : n 10 ≡ planAt p vw pl 2
+  pub count : n 11 ≡ planAt p vw pl 3
+
+-- 1, 2 or 3 by the kind of the plan; its virtual block, its frame, the frames that it copies, and an erase where it is 3
+module _ (p : Params) (vw : View) where
+  plan-kind : (pl : Plan) → (planAt p vw pl 0 ≡ 1) ⊎ ((planAt p vw pl 0 ≡ 2) ⊎ (planAt p vw pl 0 ≡ 3))
+  unfolding planAt planNumbers
+  plan-kind (continues v f) = inl refl
+  plan-kind (opens v) = inr (inl refl)
+  plan-kind (reclaims v) = inr (inr refl)
+
+  plan-block : (pl : Plan) → planVBlock pl ≡ planAt p vw pl 1
+  unfolding planVBlock planAt planNumbers
+  plan-block (continues v f) = refl
+  plan-block (opens v) = refl
+  plan-block (reclaims v) = refl
+
+  plan-frame : (pl : Plan) → planFrame p vw pl ≡ planAt p vw pl 2
+  unfolding planFrame planAt planNumbers
+  plan-frame (continues v f) = refl
+  plan-frame (opens v) = refl
+  plan-frame (reclaims v) = refl
+
+  plan-copies : (pl : Plan) → length (copies p vw pl) ≡ planAt p vw pl 3
+  unfolding copies planAt planNumbers
+  plan-copies (continues v f) = refl
+  plan-copies (opens v) = refl
+  plan-copies (reclaims v) = length-map (validFrames p vw v) _
+
+  plan-erases : (pl : Plan) → planErases pl ≡ cond (eqb (planAt p vw pl 0) 3) 1 0
+  unfolding planErases planAt planNumbers
+  plan-erases (continues v f) = refl
+  plan-erases (opens v) = refl
+  plan-erases (reclaims v) = refl
+
+  -- a plan that reclaims copies the valid frames
+  plan-valid : (pl : Plan) → planAt p vw pl 0 ≡ 3 → planAt p vw pl 3 ≡ length (validFrames p vw (planAt p vw pl 1))
+  unfolding planAt planNumbers
+  plan-valid (continues v f) e = absurd (omega (arith, e))
+  plan-valid (opens v) e = absurd (omega (arith, e))
+  plan-valid (reclaims v) e = refl
+
+  -- a plan that continues is of the open block
+  plan-open : (pl : Plan) → PlanListed p vw pl → planAt p vw pl 0 ≡ 1 → planAt p vw pl 1 ≡ vblockOf p (vw .lastSeg)
+  unfolding planAt planNumbers
+  plan-open (continues v f) w e = w .block
+  plan-open (opens v) w e = absurd (omega (arith, e))
+  plan-open (reclaims v) w e = absurd (omega (arith, e))
+
+module _ (p : Params) (z : Sizes p) (b : Board) (t : Tables p b) (r : ℕ) (region : r < p .mu) where
+  -- a plan that opens takes a virtual block without a physical block
+  plan-opens : (pl : Plan) → PlanListed p (view p b r) pl → planAt p (view p b r) pl 0 ≡ 2 → btAt p (b .bt) r (planAt p (view p b r) pl 1) ≡ none
+  unfolding planAt planNumbers
+  plan-opens (continues v f) w e = absurd (omega (arith, e))
+  plan-opens (opens v) w e = no-block p z b t r v region (w .low) (frames-pos p z) (w .bare)
+  plan-opens (reclaims v) w e = absurd (omega (arith, e))
+
+  -- a plan that reclaims frees the virtual block's physical block
+  plan-frees : (pl : Plan) → PlanListed p (view p b r) pl → Makes p b r pl → planAt p (view p b r) pl 0 ≡ 3
+      → (btAt p (b .bt) r (planAt p (view p b r) pl 1) < p .N) × (bstAt (planBst p b r pl) (btAt p (b .bt) r (planAt p (view p b r) pl 1)) ≡ 0)
+  unfolding planAt planNumbers
+  plan-frees (continues v f) w m e = absurd (omega (arith, e))
+  plan-frees (opens v) w m e = absurd (omega (arith, e))
+  plan-frees (reclaims v) w m e =
+      let some = has-block p z b t r v region (w .low) (w .every v (w .low)) in (
+        block-low p z b t r v region (w .low) some,
+        unfold bstAt planVBlock planBlock btAt in m .kindOld (free-unnamed p z b t (r * p .gamma + v) (index-low p r v region (w .low))) some,
+      )
+
+-- ---- an accepted write
+
+-- what it shows of the board, its plan, and the frame that it writes
+module _ (p : Params) (b : Board) (q : Request) (e : replyOf p b (write q) ≡ Accepted) where
+  adm : Admitted p b q
+  adm = admitted p b q (write-checks p b q e)
+
+  promise : Promise p b q (written p b q)
+  promise = write-promise p b q e
+
+  abbrev vw : View
+  vw = view p b (requestRegion p q)
+
+  abbrev pl : Plan
+  pl = planOf p vw
+
+  region : requestRegion p q < p .mu
+  region = mod-lt (requestCluster p q) (adm .sized .regions)
+
+  neat-r : Neat p (requestRegion p q) vw
+  neat-r = neat p (requestRegion p q) vw (adm .tidy (requestRegion p q) region)
+
+  made : Makes p b (requestRegion p q) pl
+  made = makes p (adm .sized) b (adm .tables) (requestRegion p q) region neat-r
+
+  listed : PlanListed p vw pl
+  listed = plan-exactly p b (record { fine = adm .fine; lengths = adm .lengths; tidy = (write-checks p b q e) .tidy }) (requestRegion p q) region
+
+  sheet : Sheet p (requestCluster p q) (newFrame p vw q)
+  sheet = own-sheet p b q adm
+
+  -- the board that is left
+  ordered : OrderlyBoard p (written p b q)
+  ordered = record { fine = adm .fine; lengths = promise .lengths; tidy = promise .orderlyLeft }
+
+  own : view p (written p b q) (requestRegion p q) ≡ withFrame p (withRoom p vw pl) (planVBlock pl) (planFrame p vw pl) (requestCluster p q) (newFrame p vw q)
+  unfolding viewAfter
+  own = promise .own
+
+  -- CT names the plan's segment
+  seg-after : ctAt ((written p b q) .ct) (requestCluster p q) ≡ segmentOf p (planVBlock pl) (planFrame p vw pl)
+  seg-after =
+      segs-in p (written p b q) (requestRegion p q) (requestCluster p q) refl
+      ∙ rw own (seg-new p (adm .sized) (withRoom p vw pl) (planVBlock pl) (planFrame p vw pl) (requestCluster p q) (newFrame p vw q) (made .base .ready) sheet)
+
+  some-after : ctAt ((written p b q) .ct) (requestCluster p q) ≡ none → ⊥
+  some-after n = omega (arith, seg-low p (adm .sized) (planVBlock pl) (planFrame p vw pl) (made .base .ready .low) (made .base .ready .mine), adm .sized .few, sym seg-after ∙ n)
+
+  vblock-after : vblockOf p (ctAt ((written p b q) .ct) (requestCluster p q)) ≡ planVBlock pl
+  vblock-after = rw seg-after (seg-vblock p (adm .sized) (planVBlock pl) (planFrame p vw pl) (made .base .ready .low))
+
+  place-after : placeOf p (ctAt ((written p b q) .ct) (requestCluster p q)) ≡ planFrame p vw pl / p .beta
+  place-after = rw seg-after (seg-place p (adm .sized) (planVBlock pl) (planFrame p vw pl) (made .base .ready .low))
+
+  -- its last frame there is the plan's
+  frame-after : lastIn p ((view p (written p b q) (requestRegion p q)) .body (vblockOf p (ctAt ((written p b q) .ct) (requestCluster p q)))) (placeOf p (ctAt ((written p b q) .ct) (requestCluster p q))) (requestCluster p q)
+      ≡ planFrame p vw pl
+  frame-after =
+      rw (vblock-after, place-after, own)
+      (last-new p (adm .sized) (withRoom p vw pl) (planVBlock pl) (planFrame p vw pl) (requestCluster p q) (newFrame p vw q) (made .base .ready) sheet)
+
+  -- the block that was reclaimed is free, and so erased
+  erased-after : planAt p vw pl 0 ≡ 3 → (btAt p (b .bt) (requestRegion p q) (planAt p vw pl 1) < p .N) × (erased (block p ((written p b q) .chip) (btAt p (b .bt) (requestRegion p q) (planAt p vw pl 1))) ≡ true)
+  erased-after k =
+      let w = plan-frees p (adm .sized) b (adm .tables) (requestRegion p q) region pl listed made k in
+      (w .0, (tables-in p (written p b q) (promise .lengths) (promise .orderlyLeft)) .free (btAt p (b .bt) (requestRegion p q) (planAt p vw pl 1)) (w .0) (unfold written writtenBy in w .1))
+
+  -- ---- what is told of a sector of the cluster, before and after
+
+  module _ (lba : ℕ) (in-range : badAddress p lba ≡ false) (is : requestCluster p q ≡ clusterOf p lba) (n : ℕ → ℕ) (h : Planned p vw pl n)
+      (seen : n 12 ≡ looksAt p b (requestCluster p q)) where
+    -- the board that is left is orderly, so why answers 0
+    accepted : numberOf (whyReply p (written p b q) lba) ≡ 0
+    unfolding whyReply whyRows lentRows orderRow firstRow badParameter wrongLength notOrderly
+    accepted = rw (ordered .fine, ordered .lengths, in-range, ordered .tidy)
+
+    -- and tells the place where the cluster is now
+    told : whyOf p (written p b q) lba
+        ≡ 0 ∷ 0 ∷ 1 ∷ holderOf p (written p b q) (requestCluster p q) ++ (forecastOf p (written p b q) (requestCluster p q) ++ (looksAt p (written p b q) (requestCluster p q) ∷ []))
+    told = rw is (told-held p (written p b q) lba accepted (rw is at some-after))
+
+    pub forecast-true : ForecastTrue p b lba n (outcomeOf p b (write q))
+    unfolding toldAt holderOf answerOf
+    forecast-true =
+        rw (write-accepted p b q e)
+        (record {
+          reply = rw told;
+          held = rw told;
+          vblock = rw (told, h .vblock) (vblock-after ∙ plan-block p vw pl);
+          frame = rw (told, h .frame) (rw (← body-is p (written p b q) ordered (requestCluster p q) (adm .asked .cluster) some-after) (frame-after ∙ plan-frame p vw pl));
+          kind = rw (h .kind) (plan-kind p vw pl);
+          continued = λ k. rw (← is, h .vblock) (unfold viewOf in plan-open p vw pl listed (sym (h .kind) ∙ k));
+          opened = λ k. rw (← is, h .vblock) (plan-opens p (adm .sized) b (adm .tables) (requestRegion p q) region pl listed (sym (h .kind) ∙ k));
+          reclaimed = λ k. rw (← is, h .vblock) (erased-after (sym (h .kind) ∙ k));
+          copied = λ k. rw (← is, h .vblock, h .count) (plan-valid p vw pl (sym (h .kind) ∙ k));
+          programs = rw (h .count) (promise .programs ∙ rw (plan-copies p vw pl));
+          erases = rw (h .kind) (promise .erases ∙ plan-erases p vw pl);
+          looks = sym seen;
+        })

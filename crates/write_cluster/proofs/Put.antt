@@ -1,0 +1,276 @@
+-- The host's frame on a board where a plan has made room.
+-- Assumes nothing.
+use mathlib.Core.Path.{_≡_, refl, sym, ap, _∙_}
+use mathlib.Core.Logic.{_⊎_, inl, inr}
+use mathlib.Core.Bool.{Bool, true, false, not, cond, false≢true}
+use mathlib.Core.List.{List, []}
+use Prim.Native.Nat.{ℕ, _+_, _*_, _-_, _≤_, _<_}
+use native.Mathlib.Omega.{arith}
+use native.Mathlib.Decide.{ℕ-discrete, decLt}
+use native.Mathlib.Nat.{div-lt-iff-lt-mul, mod-lt, zero-mul}
+use lib.Dec.{eqb}
+use borrow.Author.Tests.{eq-eqb, ne-eqb, lt-ltb, eqb-true}
+use lib.ListN.{length, take, set, replicate}
+use Rattle.lists.proofs.Joins.{join-cong}
+use Rattle.chip_frames.specs.Frame.{HostAsked, hostPage, hostFrame, sectorsOf}
+use Rattle.read_work.specs.Lookup.{blockFor, lastFor, frameFor, Lookup, Stands}
+use Rattle.read_work.proofs.Views.{lookup-of}
+use Rattle.write_cluster.specs.Clusters.{Standing, ClusterPut}
+use Rattle.lists.specs.Parts.{allAre, part, putPart}
+use Rattle.lists.proofs.Tests.{and-left, and-right, never}
+use Rattle.rules.specs.declared.Params.{Params}
+use Rattle.rules.specs.Parameters.{frames, pageBytes, frameBytes, blockBytes}
+use Rattle.rules.specs.Numbers.{sectorOf, regionOf, vblockOf, placeOf, segmentOf}
+use Rattle.rules.specs.Write.{newSector, newPage, newFrame}
+use Rattle.rules.specs.Tables.{Board, none, ctAt, btAt, btEntry}
+use Rattle.rules.specs.Regions.{View, view, viewOf, bodyAt, assigned, frameOf, sectorIn}
+use Rattle.rules.specs.Pages.{block, frame, page, spare, spareBytes, programmed, held, holds, lastIn}
+use Rattle.rules.specs.Requests.{requestCluster, Request, requestRegion}
+use Rattle.rules.proofs.Sizes.{Sizes, sizes}
+use Rattle.rules.proofs.Frames.{erased-not, seg-low as seg-low-of}
+use Rattle.lists.proofs.Parts.{next, part-part, part-length}
+use Rattle.rules.proofs.Isolation.{index-low}
+use Rattle.lists.proofs.Joins.{replicate-of}
+use Rattle.rules.proofs.Continues.{segs-in}
+use Rattle.rules.proofs.RegionFacts.{GoodFrame, Entry}
+use Rattle.rules.proofs.FramePut.{last-holds}
+
+module _ (p : Params) (b : Board) (q : Request) (v f : ℕ) (t : Standing p b q v f) where
+  z : Sizes p
+  z = sizes p (t .fine)
+
+  abbrev r : ℕ
+  r = requestRegion p q
+
+  abbrev c : ℕ
+  c = requestCluster p q
+
+  abbrev vw : View
+  vw = view p b r
+
+  region-in : r < p .mu
+  region-in = mod-lt c (z .regions)
+
+  segs : ctAt (b .ct) c ≡ vw .segOf c
+  segs = segs-in p b (regionOf p c) c refl
+
+  -- a virtual block that has a physical block
+  module _ (u : ℕ) (low : u < p .gamma) where
+    body-none : btAt p (b .bt) r u ≡ none → vw .body u ≡ []
+    unfolding viewOf bodyAt
+    body-none e = rw (lt-ltb u (p .gamma) low, e)
+
+    has-block : assigned vw u ≡ true → btAt p (b .bt) r u ≡ none → ⊥
+    unfolding assigned
+    has-block a e = false≢true (rw (body-none e) at a)
+
+    body-some : (btAt p (b .bt) r u ≡ none → ⊥) → vw .body u ≡ block p (b .chip) (btAt p (b .bt) r u)
+    unfolding viewOf bodyAt
+    body-some ne = rw (lt-ltb u (p .gamma) low, ne-eqb (btAt p (b .bt) r u) none ne)
+
+    block-low : (btAt p (b .bt) r u ≡ none → ⊥) → btAt p (b .bt) r u < p .N
+    unfolding btAt btEntry
+    block-low ne = go (t .names (r * p .gamma + u) (index-low p r u region-in low))
+      where
+        go : (btAt p (b .bt) r u ≡ none) ⊎ (btAt p (b .bt) r u < p .N) → btAt p (b .bt) r u < p .N
+        go (inl e) = absurd (ne e)
+        go (inr h) = h
+
+    frame-here : (ne : btAt p (b .bt) r u ≡ none → ⊥) (g : ℕ) → g < frames p → frame p (vw .body u) g ≡ part (frameBytes p) (btAt p (b .bt) r u * frames p + g) (b .chip)
+    unfolding frame block blockBytes
+    frame-here ne g h = rw (body-some ne) (part-part (frameBytes p) (frames p) (btAt p (b .bt) r u) g (b .chip) h)
+
+    frame-fits : (btAt p (b .bt) r u ≡ none → ⊥) → (g : ℕ) → g < frames p → (btAt p (b .bt) r u * frames p + g) * frameBytes p + frameBytes p ≤ length (b .chip)
+    unfolding blockBytes
+    frame-fits ne g h = omega (arith, t .chipLength, next (frameBytes p) g (frames p) h, next (frames p * frameBytes p) (btAt p (b .bt) r u) (p .N) (block-low ne))
+
+  entry : (vw .segOf c ≡ none) ⊎ Entry p vw c
+  entry = t .base .entries c (t .asked .cluster)
+
+  pub lookup : Lookup p (b .chip) (b .ct) (b .bt) c
+  lookup = lookup-of p (b .chip) (b .ct) (b .bt) (b .fst) c (t .fine) (t .chipLength) (t .ctLength) (t .btLength) (t .asked .cluster) (t .names) entry
+
+  -- ---- the frame that is written
+
+  low : v < p .gamma
+  low = t .base .ready .mine
+
+  abbrev n : ℕ
+  n = btAt p (b .bt) r v
+
+  to-fits : (n * frames p + f) * frameBytes p + frameBytes p ≤ length (b .chip)
+  to-fits = frame-fits v low (t .taken) f (t .base .ready .low)
+
+  to-erased : allAre 255 (part (frameBytes p) (n * frames p + f) (b .chip)) ≡ true
+  to-erased = rw (frame-here v low (t .taken) f (t .base .ready .low)) at (t .base .ready .rest f (omega arith) (t .base .ready .low))
+
+  to-clean : part (frameBytes p) (n * frames p + f) (b .chip) ≡ replicate (frameBytes p) 255
+  to-clean = replicate-of 255 _ to-erased ∙ ap (λ (m : ℕ). replicate m 255) (part-length (frameBytes p) (n * frames p + f) (b .chip) to-fits)
+
+  -- ---- the frame that the cluster is read from
+
+  module _ (e : Entry p vw c) where
+    abbrev u : ℕ
+    u = vblockOf p (vw .segOf c)
+
+    abbrev l : ℕ
+    l = lastIn p (vw .body u) (placeOf p (vw .segOf c)) c
+
+    u-low : u < p .gamma
+    u-low = div-lt-iff-lt-mul (z .segments) .1 (e .low)
+
+    u-some : btAt p (b .bt) r u ≡ none → ⊥
+    u-some = has-block u u-low (e .has)
+
+    old-is : frameFor p (b .chip) (b .ct) (b .bt) c ≡ btAt p (b .bt) r u * frames p + l
+    unfolding frameFor blockFor lastFor
+    old-is = rw (segs, body-some u u-low u-some)
+
+    old-frame : part (frameBytes p) (frameFor p (b .chip) (b .ct) (b .bt) c) (b .chip) ≡ frame p (vw .body u) l
+    old-frame = rw old-is (sym (frame-here u u-low u-some l (e .held)))
+
+    old-fits : frameFor p (b .chip) (b .ct) (b .bt) c * frameBytes p + frameBytes p ≤ length (b .chip)
+    old-fits = rw old-is (frame-fits u u-low u-some l (e .held))
+
+    old-holds : holds p (frame p (vw .body u) l) c ≡ true
+    old-holds = (last-holds p z (vw .body u) (placeOf p (vw .segOf c)) c (e .held)) .1
+
+    old-programmed : programmed p (frame p (vw .body u) l) ≡ true
+    unfolding holds
+    old-programmed = and-left (programmed p (frame p (vw .body u) l)) _ old-holds
+
+    old-held : held p (frame p (vw .body u) l) ≡ c
+    unfolding holds
+    old-held = eqb-true _ _ (and-right (programmed p (frame p (vw .body u) l)) old-holds)
+
+    old-apart : frameFor p (b .chip) (b .ct) (b .bt) c ≡ n * frames p + f → ⊥
+    old-apart x = never old-programmed (rw old-frame at (erased-not p _ (rw (sym x) at to-erased)))
+
+    old-good : GoodFrame p r (frame p (vw .body u) l)
+    old-good = go (ℕ-discrete u v) (decLt l f)
+      where
+        go : Dec (u ≡ v) → Dec (l < f) → GoodFrame p r (frame p (vw .body u) l)
+        go (no x) k = ((t .base .others u u-low x (e .has)) .1) .front l (e .held) (e .held)
+        go (yes x) (yes k) = rw x (t .base .front .front (lastIn p (vw .body v) (placeOf p (vw .segOf c)) c) (rw x at k) (rw x at (e .held)))
+        go (yes x) (no k) = absurd (never old-programmed (erased-not p _ (rw (sym x) at (t .base .ready .rest l (omega arith) (e .held)))))
+
+    old-marked : (j : ℕ) → j < p .alpha → spare p (part (frameBytes p) (frameFor p (b .chip) (b .ct) (b .bt) c) (b .chip)) j ≡ spareBytes c j
+    old-marked j h = rw old-frame (old-good .marks j h ∙ ap (λ (x : ℕ). spareBytes x j) old-held)
+
+  -- ---- with what the lookup found
+
+  module _ (kept : Bool) (fr : ℕ) (found : Stands p (b .chip) (b .ct) (b .bt) c kept fr) where
+    has : kept ≡ not (eqb (ctAt (b .ct) c) none)
+    has = found .has
+
+    at-frame : fr ≡ cond (eqb (ctAt (b .ct) c) none) 0 (frameFor p (b .chip) (b .ct) (b .bt) c)
+    at-frame = found .at
+
+    -- the cluster has no frame, or this one
+    data Which : Type 0 where
+      nowhere : kept ≡ false → fr ≡ 0 → vw .segOf c ≡ none → Which
+      somewhere : kept ≡ true → fr ≡ frameFor p (b .chip) (b .ct) (b .bt) c → (vw .segOf c ≡ none → ⊥) → Entry p vw c → Which
+
+    which : Which
+    which = go (ℕ-discrete (ctAt (b .ct) c) none) entry
+      where
+        go : Dec (ctAt (b .ct) c ≡ none) → (vw .segOf c ≡ none) ⊎ Entry p vw c → Which
+        go (yes x) s = nowhere (has ∙ rw (eq-eqb (ctAt (b .ct) c) none x)) (at-frame ∙ rw (eq-eqb (ctAt (b .ct) c) none x)) (sym segs ∙ x)
+        go (no x) (inl s) = absurd (x (segs ∙ s))
+        go (no x) (inr s) = somewhere (has ∙ rw (ne-eqb (ctAt (b .ct) c) none x)) (at-frame ∙ rw (ne-eqb (ctAt (b .ct) c) none x)) (λ y. x (segs ∙ y)) s
+
+    source : fr * frameBytes p + frameBytes p ≤ length (b .chip)
+    source = go which
+      where
+        go : Which → fr * frameBytes p + frameBytes p ≤ length (b .chip)
+        go (nowhere k z s) = rw (z, zero-mul) (omega (arith, to-fits))
+        go (somewhere k z ne e) = rw z (old-fits e)
+
+    apart : kept ≡ true → fr ≡ n * frames p + f → ⊥
+    apart h x = go which
+      where
+        go : Which → ⊥
+        go (nowhere k z s) = never h k
+        go (somewhere k z ne e) = old-apart e (sym z ∙ x)
+
+    marked : kept ≡ true → (j : ℕ) → j < p .alpha → spare p (part (frameBytes p) fr (b .chip)) j ≡ spareBytes c j
+    marked h j m = go which
+      where
+        go : Which → spare p (part (frameBytes p) fr (b .chip)) j ≡ spareBytes c j
+        go (nowhere k z s) = absurd (never h k)
+        go (somewhere k z ne e) = rw z (old-marked e j m)
+
+    pub host-asked : (to off : ℕ) → to ≡ n * frames p + f → off ≡ sectorOf p (q .lba) → HostAsked (b .chip) (p .s) (p .alpha) to kept fr off (q .count) (q .bytes) c
+    unfolding frameBytes pageBytes spare page
+    host-asked to off e o =
+        record {
+          small = z .sHigh;
+          few = omega (arith, z .alphaHigh);
+          fits = rw e to-fits;
+          inside = rw o (t .asked .inside);
+          given = t .asked .bytes;
+          clean = rw e to-clean;
+          source = source;
+          apart = λ h x. apart h (x ∙ e);
+          marked = marked;
+        }
+
+    sectors-are : (j : ℕ) → sectorsOf (p .s) (p .alpha) kept fr (b .chip) j ≡ sectorIn p vw c j
+    unfolding sectorsOf sectorIn frameOf page frameBytes pageBytes
+    sectors-are j = go which
+      where
+        go : Which → cond kept (take (p .s) (part (p .s + 16) j (part (p .alpha * (p .s + 16)) fr (b .chip)))) (replicate (p .s) 255) ≡ sectorIn p vw c j
+        go (nowhere k z s) = rw (k, s)
+        go (somewhere k z ne e) = rw (k, z, ne-eqb (vw .segOf c) none ne, old-frame e)
+
+    pub frame-is : (off : ℕ) → off ≡ sectorOf p (q .lba) → hostFrame (p .s) (p .alpha) off (q .count) (q .bytes) (sectorsOf (p .s) (p .alpha) kept fr (b .chip)) c ≡ newFrame p vw q
+    unfolding hostFrame hostPage newFrame newPage newSector
+    frame-is off o = join-cong (p .alpha) _ _ (λ j l. rw (o, sectors-are j))
+
+  -- ---- the same over the numbers that the code has
+
+  module _ (c′ r′ : ℕ) (ec : c′ ≡ c) (er : r′ ≡ regionOf p c′) where
+    region-is : r′ ≡ r
+    region-is = er ∙ ap (regionOf p) ec
+
+    pub region-at : r′ < p .mu
+    region-at = rw region-is region-in
+
+    pub vblock-low : v < p .gamma
+    vblock-low = low
+
+    pub ct-in : c′ < length (b .ct)
+    ct-in = rw (ec, t .ctLength) (t .asked .cluster)
+
+    pub fst-in : r′ < length (b .fst)
+    fst-in = rw (region-is, t .fstLength) region-in
+
+    pub frame-few : f < 256
+    frame-few = omega (arith, t .base .ready .low, z .short)
+
+    pub segment-few : (sg : ℕ) → sg ≡ segmentOf p v f → sg < 65536
+    segment-few sg e = rw e (omega (arith, seg-low-of p z v f (t .base .ready .low) low, z .few))
+
+    module _ (n′ : ℕ) (en : n′ ≡ btAt p (b .bt) r′ v) where
+      block-is : n′ ≡ n
+      block-is = en ∙ rw region-is
+
+      pub number-asked : (n′ < p .N) × (f < frames p)
+      number-asked = (rw block-is (block-low v low (t .taken)), t .base .ready .low)
+
+      module _ (to off : ℕ) (et : to ≡ n′ * frames p + f) (eo : off ≡ sectorOf p (q .lba)) (kept : Bool) (fr : ℕ) (found : Stands p (b .chip) (b .ct) (b .bt) c kept fr) where
+        to-is : to ≡ n * frames p + f
+        to-is = et ∙ rw block-is
+
+        pub host-requires : HostAsked (b .chip) (p .s) (p .alpha) to kept fr off (q .count) (q .bytes) c′
+        host-requires = rw ec (host-asked kept fr found to off to-is eo)
+
+        pub cluster-put : (chip₁ ct₁ fst₁ : List ℕ) (sg : ℕ)
+            → chip₁ ≡ putPart (p .alpha * (p .s + 16)) to (hostFrame (p .s) (p .alpha) off (q .count) (q .bytes) (sectorsOf (p .s) (p .alpha) kept fr (b .chip)) c′) (b .chip)
+            → sg ≡ segmentOf p v f → ct₁ ≡ set (b .ct) c′ sg → fst₁ ≡ set (b .fst) r′ sg → ClusterPut p b q v f chip₁ ct₁ fst₁
+        cluster-put chip₁ ct₁ fst₁ sg e s x y =
+            record {
+              chip = unfold frameBytes pageBytes in (e ∙ rw (ec, frame-is kept fr found off eo, to-is));
+              ct = x ∙ rw (ec, s);
+              fst = y ∙ rw (region-is, s);
+            }

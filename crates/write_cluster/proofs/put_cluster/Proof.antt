@@ -1,0 +1,64 @@
+-- `write_cluster::put_cluster`: the new frame is programmed from the old one where it now stands.
+-- Assumes nothing.
+use borrow.Author.Needs.{needs}
+use Rattle.rules.proofs.Sizes.{sizes}
+use Rattle.write_cluster.proofs.Put.{region-at, vblock-low, ct-in, fst-in, frame-few, segment-few, number-asked, host-requires, cluster-put}
+use Rattle.write_cluster.proofs.put_cluster.Statement.{statement}
+use Rattle.write_cluster.proofs.put_cluster.Tie as tie
+
+cluster-of-requires : tie.Need-cluster-of-requires
+cluster-of-requires c κs = (sizes _ (c .before .before .before .before .before .pre .0 .fine)) .sectors
+
+region-of-requires : tie.Need-region-of-requires
+region-of-requires c κs = (sizes _ (c .before .before .before .before .before .before .pre .0 .fine)) .regions
+
+bt-at-requires : tie.Need-bt-at-requires
+bt-at-requires c κs = (c .before .before .before .before .before .before .before .pre .0 .btLength, (region-at _ _ _ _ _ (c .before .before .before .before .before .before .before .pre .0) _ _ (c .before .cluster-of .ensures) (c .region-of .ensures), vblock-low _ _ _ _ _ (c .before .before .before .before .before .before .before .pre .0) _ _ (c .before .cluster-of .ensures) (c .region-of .ensures)))
+
+frame-at-requires : tie.Need-frame-at-requires
+frame-at-requires c κs = (c .before .before .before .before .before .before .before .before .pre .0 .fine, number-asked _ _ _ _ _ (c .before .before .before .before .before .before .before .before .pre .0) _ _ (c .before .before .cluster-of .ensures) (c .before .region-of .ensures) _ (c .bt-at .ensures .0))
+
+sector-of-requires : tie.Need-sector-of-requires
+sector-of-requires c κs = (sizes _ (c .before .before .before .before .before .before .before .before .before .before .pre .0 .fine)) .sectors
+
+host-frame-requires : tie.Need-host-frame-requires
+host-frame-requires c κs = host-requires _ _ _ _ _ (c .before .before .before .before .before .before .before .before .before .before .before .pre .0) _ _ (c .before .before .before .before .before .cluster-of .ensures) (c .before .before .before .before .region-of .ensures) _ (c .before .before .before .bt-at .ensures .0) _ _ (c .before .before .frame-at .ensures) (c .sector-of .ensures) _ _ (c .before .before .before .before .before .before .before .before .before .before .before .pre .1)
+
+segment-of-requires : tie.Need-segment-of-requires
+segment-of-requires c κs = (c .before .before .before .before .before .before .before .before .before .before .before .before .before .before .pre .0 .fine, (vblock-low _ _ _ _ _ (c .before .before .before .before .before .before .before .before .before .before .before .before .before .before .pre .0) _ _ (c .before .before .before .before .before .before .before .before .cluster-of .ensures) (c .before .before .before .before .before .before .before .region-of .ensures), frame-few _ _ _ _ _ (c .before .before .before .before .before .before .before .before .before .before .before .before .before .before .pre .0) _ _ (c .before .before .before .before .before .before .before .before .cluster-of .ensures) (c .before .before .before .before .before .before .before .region-of .ensures)))
+
+set-ct-requires : tie.Need-set-ct-requires
+set-ct-requires c κs = (ct-in _ _ _ _ _ (c .before .before .before .before .before .before .before .before .before .before .before .before .before .before .before .before .pre .0) _ _ (c .before .before .before .before .before .before .before .before .before .before .cluster-of .ensures) (c .before .before .before .before .before .before .before .before .before .region-of .ensures), segment-few _ _ _ _ _ (c .before .before .before .before .before .before .before .before .before .before .before .before .before .before .before .before .pre .0) _ _ (c .before .before .before .before .before .before .before .before .before .before .cluster-of .ensures) (c .before .before .before .before .before .before .before .before .before .region-of .ensures) _ (c .before .segment-of .ensures))
+
+set-fst-requires : tie.Need-set-fst-requires
+set-fst-requires c κs = (fst-in _ _ _ _ _ (c .before .before .before .before .before .before .before .before .before .before .before .before .before .before .before .before .before .before .before .before .pre .0) _ _ (c .before .before .before .before .before .before .before .before .before .before .before .before .before .before .cluster-of .ensures) (c .before .before .before .before .before .before .before .before .before .before .before .before .before .region-of .ensures), segment-few _ _ _ _ _ (c .before .before .before .before .before .before .before .before .before .before .before .before .before .before .before .before .before .before .before .before .pre .0) _ _ (c .before .before .before .before .before .before .before .before .before .before .before .before .before .before .cluster-of .ensures) (c .before .before .before .before .before .before .before .before .before .before .before .before .before .region-of .ensures) _ (c .before .before .before .before .before .segment-of .ensures))
+
+same-length : tie.Need-same-length
+same-length c = search needs
+
+same-length-2 : tie.Need-same-length-2
+same-length-2 c = search needs
+
+same-length-3 : tie.Need-same-length-3
+same-length-3 c = search needs
+
+returns : tie.Need-returns
+returns c = cluster-put _ _ _ _ _ (c .before .before .before .before .before .before .before .before .before .before .before .before .before .before .before .before .before .before .before .before .before .before .before .pre .0) _ _ (c .before .before .before .before .before .before .before .before .before .before .before .before .before .before .before .before .before .cluster-of .ensures) (c .before .before .before .before .before .before .before .before .before .before .before .before .before .before .before .before .region-of .ensures) _ (c .before .before .before .before .before .before .before .before .before .before .before .before .before .before .before .bt-at .ensures .0) _ _ (c .before .before .before .before .before .before .before .before .before .before .before .before .before .before .frame-at .ensures) (c .before .before .before .before .before .before .before .before .before .before .before .before .sector-of .ensures) _ _ (c .before .before .before .before .before .before .before .before .before .before .before .before .before .before .before .before .before .before .before .before .before .before .before .pre .1) _ _ _ _ (c .before .before .before .before .before .before .before .before .before .before .before .host-frame .ensures) (c .before .before .before .before .before .before .before .before .segment-of .ensures) (c .before .before .before .before .before .before .set-ct .ensures) (c .before .before .set-fst .ensures)
+
+pub put-cluster-spec : {M : Type 1} → statement M
+put-cluster-spec =
+    tie.close
+    (tie.spec
+    cluster-of-requires
+    region-of-requires
+    bt-at-requires
+    frame-at-requires
+    sector-of-requires
+    host-frame-requires
+    segment-of-requires
+    set-ct-requires
+    set-fst-requires
+    same-length
+    same-length-2
+    same-length-3
+    returns)

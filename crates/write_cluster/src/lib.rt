@@ -1,0 +1,49 @@
+// Document 01, "Write", on a state that is known to be orderly: the cluster put in the room that a plan has made.
+ghost use mathlib.Core.List.{[]};
+ghost use Rattle.rules.specs.Numbers.{clusterOf};
+ghost use Rattle.rules.specs.Tables.{boardOf};
+ghost use Rattle.read_work.specs.Lookup.{Stands};
+ghost use Rattle.rules.specs.Requests.{requestOf};
+ghost use Rattle.write_cluster.specs.Clusters.{Standing, ClusterPut};
+use read_work::Found;
+use rules::Params;
+use rules::VBlock;
+
+// The new cluster goes to frame f of virtual block v, its old sectors read where the old one now stands; CT and FST name its segment.
+pub fn put_cluster(
+    p: Params,
+    chip: &mut [u8],
+    ct: &mut [u16],
+    bt: &[u16],
+    fst: &mut [u16],
+    lba: usize,
+    count: usize,
+    bytes: &[u8],
+    old: Found,
+    v: VBlock,
+    f: usize,
+)
+    requires { ⌜ Standing p (boardOf (now chip) (now ct) (now bt) (now fst) [] [] []) (requestOf lba count (now bytes)) (v .0) f ⌝ }
+    requires { ⌜ Stands p (now chip) (now ct) (now bt) (clusterOf p lba) (old .kept) (old .frame) ⌝ }
+    ensures { λ _. ⌜ ClusterPut p (boardOf (now (chip .entry)) (now (ct .entry)) (now (bt .entry)) (now (fst .entry)) [] [] []) (requestOf lba count (now (bytes .entry))) (v .0) f (now (chip .exit)) (now (ct .exit)) (now (fst .exit)) ⌝ }
+{
+    let c = rules::cluster_of(p, lba);
+    let r = rules::region_of(p, c);
+    let n = chip_tables::bt_at(p, bt, r, v);
+    let to = chip_frames::frame_at(p, n, f);
+    chip_frames::host_frame(
+        chip,
+        p.s,
+        p.alpha,
+        to,
+        old.kept,
+        old.frame,
+        rules::sector_of(p, lba),
+        count,
+        bytes,
+        c,
+    );
+    let sg = rules::segment_of(p, v, f);
+    chip_tables::set_ct(ct, c, sg);
+    chip_tables::set_fst(fst, r, sg);
+}

@@ -1,0 +1,117 @@
+-- A plan's room: what each kind of plan leaves is what the rules' operations and tables are.
+-- Assumes nothing.
+use mathlib.Core.Path.{_≡_, ap, refl, sym, _∙_}
+use mathlib.Core.Bool.{Bool}
+use mathlib.Core.List.{List, [], _∷_, map}
+use Prim.Native.Nat.{ℕ, _+_, _*_, _<_}
+use native.Mathlib.Omega.{arith}
+use borrow.Author.Tests.{lt-ltb, ne-eqb}
+use lib.ListN.{length, set}
+use lib.Seq.{set-getD}
+use Rattle.lists.proofs.Ranks.{keep-cong}
+use Rattle.rules.specs.declared.Params.{Params}
+use Rattle.rules.specs.Parameters.{frames}
+use Rattle.rules.specs.Tables.{Board, boardOf, none, btAt, btEntry}
+use Rattle.rules.specs.Pages.{block, frame}
+use Rattle.rules.specs.Regions.{view, viewOf, bodyAt, validFrames}
+use Rattle.rules.specs.Traces.{erase, isErase, erasesIn, onWear, replayChip, replayWear, framesOps}
+use Rattle.rules.specs.Write.{continues, opens, reclaims, planVBlock, planFrame, copies, freeBlock, planBlock, eraseOps, roomOps, followCt, planBst}
+use Rattle.rules.proofs.Sizes.{sizes}
+use Rattle.rules.specs.Marks.{Marks, marksIn, marksOf, marksOn, tableOf}
+use Rattle.marks.proofs.FrameMarks.{marked-valid}
+use Rattle.write_reclaim.specs.Moves.{Reclaimed, ReclaimAsked, markedFrames}
+use Rattle.write_room.specs.Rooms.{OpenAsked, Opened, ReclaimReady, BlockReclaimed, RoomMade}
+use Rattle.write_room.proofs.Worn.{wear-append, frames-wear, map-length}
+
+-- the bytes of a virtual block that has a block
+block-of-view : (p : Params) (chip ct bt fst : List ℕ) (r v : ℕ) → v < p .gamma → (btAt p bt r v ≡ none → ⊥) → (viewOf p chip ct bt fst r) .body v ≡ block p chip (btAt p bt r v)
+unfolding viewOf bodyAt
+block-of-view p chip ct bt fst r v low ne = rw (lt-ltb v (p .gamma) low, ne-eqb (btAt p bt r v) none ne)
+
+-- ---- the free block
+
+module _ (p : Params) (bt bst wear : List ℕ) (r v : ℕ) (a : OpenAsked p bt bst wear r v) (n : ℕ) (is : n ≡ freeBlock p bst wear) where
+  pub free-few : n < 65536
+  free-few = rw is (omega (arith, a .free, (sizes p (a .pool .fine)) .blocks))
+
+  pub free-in : n < length bst
+  free-in = rw (is, a .pool .bstLength) (a .free)
+
+  pub opened : (bt′ bst′ : List ℕ) → bt′ ≡ set bt (r * p .gamma + v) n → bst′ ≡ set bst n 1 → Opened p bt bst wear r v bt′ bst′
+  opened bt′ bst′ x y = record { btIs = x ∙ rw is; bstIs = y ∙ rw is }
+
+module _ (p : Params) (chip ct bt bst wear marks : List ℕ) (r v : ℕ) (a : ReclaimReady p chip ct bt bst wear marks r v) where
+  -- the marked frames are the ones that the plan copies
+  copies-are : (fst : List ℕ) → markedFrames p (block p chip (btAt p bt r v)) (marksOn p (boardOf chip ct bt fst bst wear marks) r v) ≡ copies p (viewOf p chip ct bt fst r) (reclaims v)
+  unfolding copies validFrames marksIn
+  copies-are fst =
+      rw (body fst)
+      (ap (map (frame p (block p chip (btAt p bt r v)))) (keep-cong (frames p) _ _ (λ f h. marked-valid p (viewOf p chip ct bt fst r) v f h)))
+    where
+      body : (fst : List ℕ) → (viewOf p chip ct bt fst r) .body v ≡ block p chip (btAt p bt r v)
+      body fst = block-of-view p chip ct bt fst r v (a .taking .low) (λ x. omega (arith, x, a .blocks .from, (sizes p (a .taking .pool .fine)) .blocks))
+
+  module _ (o n : ℕ) (eo : o ≡ btAt p bt r v) (en : n ≡ freeBlock p bst wear) where
+    pub reclaim-asked : ReclaimAsked p chip ct wear marks o n r v
+    reclaim-asked = record { blocks = rw (eo, en) (a .blocks); wearLength = a .taking .pool .wearLength; words = a .words }
+
+    pub old-in : o < length bst
+    old-in = rw (eo, a .taking .pool .bstLength) (a .blocks .from)
+
+    pub block-reclaimed : (m : ℕ → Bool) (chip′ ct′ bt′ bst₁ bst′ wear′ : List ℕ) (k : ℕ) → Reclaimed p chip ct wear o n v (markedFrames p (block p chip o) m) chip′ ct′ wear′ k
+        → bt′ ≡ set bt (r * p .gamma + v) n → bst₁ ≡ set bst n 1 → bst′ ≡ set bst₁ o 0
+        → BlockReclaimed p chip ct bt bst wear r v (markedFrames p (block p chip (btAt p bt r v)) m) chip′ ct′ bt′ bst′ wear′ k
+    block-reclaimed m chip′ ct′ bt′ bst₁ bst′ wear′ k d x y w = record { moved = rw (eo, en) at d; btIs = x ∙ rw en; bstIs = w ∙ rw (y, en, eo) }
+
+-- ---- by the plan
+
+module _ (p : Params) (chip ct bt fst bst wear marks : List ℕ) (r : ℕ) where
+  abbrev b : Board
+  b = boardOf chip ct bt fst bst wear marks
+
+  pub made-continues : (v f : ℕ) → RoomMade p b r (continues v f) v f 0 0 chip ct bt bst wear
+  unfolding planVBlock planFrame copies eraseOps erasesIn roomOps framesOps replayChip followCt planBlock planBst replayWear
+  made-continues v f =
+      record {
+        vblock = refl;
+        frame = refl;
+        count = refl;
+        erases = refl;
+        chipIs = refl;
+        ctIs = refl;
+        btIs = unfold btAt btEntry in sym (set-getD bt (r * p .gamma + v) 65535);
+        bstIs = refl;
+        wearIs = refl;
+      }
+
+  pub made-opens : (v : ℕ) (bt′ bst′ : List ℕ) → Opened p bt bst wear r v bt′ bst′ → RoomMade p b r (opens v) v 0 0 0 chip ct bt′ bst′ wear
+  unfolding planVBlock planFrame copies eraseOps erasesIn roomOps framesOps replayChip followCt planBlock planBst replayWear
+  made-opens v bt′ bst′ o =
+      record { vblock = refl; frame = refl; count = refl; erases = refl; chipIs = refl; ctIs = refl; btIs = o .btIs; bstIs = o .bstIs; wearIs = refl }
+
+  made-reclaims : (v : ℕ) (chip′ ct′ bt′ bst′ wear′ : List ℕ) (k : ℕ) → BlockReclaimed p chip ct bt bst wear r v (copies p (view p b r) (reclaims v)) chip′ ct′ bt′ bst′ wear′ k
+      → RoomMade p b r (reclaims v) v k k 1 chip′ ct′ bt′ bst′ wear′
+  unfolding planVBlock planFrame eraseOps erasesIn isErase roomOps planBlock planBst
+  made-reclaims v chip′ ct′ bt′ bst′ wear′ k d =
+      record {
+        vblock = refl;
+        frame = d .moved .count ∙ unfold copies in map-length (frame p ((view p b r) .body v)) (validFrames p (view p b r) v);
+        count = d .moved .count;
+        erases = refl;
+        chipIs = d .moved .chipIs;
+        ctIs = d .moved .ctIs;
+        btIs = d .btIs;
+        bstIs = d .bstIs;
+        wearIs =
+            d .moved .wearIs
+            ∙ sym (wear-append wear (framesOps p (freeBlock p bst wear) 0 (copies p (view p b r) (reclaims v))) (erase (btAt p bt r v) ∷ [])
+            ∙ rw (frames-wear p (freeBlock p bst wear) 0 (copies p (view p b r) (reclaims v)) wear) (unfold replayWear onWear in refl));
+      }
+
+-- the copies of a reclaim are the marked frames, where each mark equals the validity rule
+pub made-by-marks : (p : Params) (chip ct bt bst wear marks : List ℕ) (r v : ℕ) → ReclaimReady p chip ct bt bst wear marks r v → (fst : List ℕ) → marks ≡ marksOf p (boardOf chip ct bt fst bst wear marks)
+    → (chip′ ct′ bt′ bst′ wear′ : List ℕ) (k : ℕ)
+    → ((m : Marks) → marks ≡ tableOf p m → BlockReclaimed p chip ct bt bst wear r v (markedFrames p (block p chip (btAt p bt r v)) (m r v)) chip′ ct′ bt′ bst′ wear′ k)
+    → RoomMade p (boardOf chip ct bt fst bst wear marks) r (reclaims v) v k k 1 chip′ ct′ bt′ bst′ wear′
+made-by-marks p chip ct bt bst wear marks r v a fst e chip′ ct′ bt′ bst′ wear′ k d =
+    made-reclaims p chip ct bt fst bst wear marks r v chip′ ct′ bt′ bst′ wear′ k (rw (copies-are p chip ct bt bst wear marks r v a fst) at (d (marksOn p (boardOf chip ct bt fst bst wear marks)) e))

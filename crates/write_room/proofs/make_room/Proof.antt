@@ -1,0 +1,76 @@
+-- `write_room::make_room`: each arm is given that the plan is its constructor.
+-- Assumes nothing.
+use borrow.Author.Needs.{needs}
+use Rattle.write_room.proofs.Rooms.{made-by-marks, made-continues, made-opens}
+use Rattle.write_room.proofs.make_room.Statement.{statement}
+use Rattle.write_room.proofs.make_room.Tie as tie
+
+enum-known-pl : tie.Need-enum-known-pl
+enum-known-pl c = search needs
+
+enum-known-pl-2 : tie.Need-enum-known-pl-2
+enum-known-pl-2 c = search needs
+
+open-block-requires : tie.Need-open-block-requires
+open-block-requires c κs = rw (c .before .before .before .before .pl2 .given .1) at (c .before .before .before .before .before .before .before .before .before .before .before .before .pre)
+
+enum-known-pl-3 : tie.Need-enum-known-pl-3
+enum-known-pl-3 c = search needs
+
+reclaim-block-requires : tie.Need-reclaim-block-requires
+reclaim-block-requires c κs = rw (c .before .before .before .before .before .before .pl3 .given .1) at (c .before .before .before .before .before .before .before .before .before .before .before .before .before .before .pre)
+
+returns : tie.Need-returns
+returns c = λ fst e. rw (c .before .pl .given .1) (made-continues _ _ _ _ fst _ _ _ _ _ _)
+
+same-length : tie.Need-same-length
+same-length c = search needs
+
+same-length-2 : tie.Need-same-length-2
+same-length-2 c = search needs
+
+same-length-3 : tie.Need-same-length-3
+same-length-3 c = search needs
+
+returns-2 : tie.Need-returns-2
+returns-2 c = λ fst e. rw (c .before .before .before .before .before .before .before .before .before .pl2 .given .1) (made-opens _ _ _ _ fst _ _ _ _ _ _ _ (c .before .before .before .before .open-block .ensures))
+
+same-length-4 : tie.Need-same-length-4
+same-length-4 c = search needs
+
+same-length-5 : tie.Need-same-length-5
+same-length-5 c = search needs
+
+same-length-6 : tie.Need-same-length-6
+same-length-6 c = search needs
+
+same-length-7 : tie.Need-same-length-7
+same-length-7 c = search needs
+
+same-length-8 : tie.Need-same-length-8
+same-length-8 c = search needs
+
+returns-3 : tie.Need-returns-3
+returns-3 c =
+    λ fst e. rw (c .before .before .before .before .before .before .before .before .before .before .before .before .before .before .before .before .before .pl3 .given .1) (made-by-marks _ _ _ _ _ _ _ _ _ (rw (c .before .before .before .before .before .before .before .before .before .before .before .before .before .before .before .before .before .pl3 .given .1) at (c .before .before .before .before .before .before .before .before .before .before .before .before .before .before .before .before .before .before .before .before .before .before .before .before .before .pre)) fst e _ _ _ _ _ _ (c .before .before .before .before .before .before .before .before .before .before .reclaim-block .ensures))
+
+pub make-room-spec : {M : Type 1} → statement M
+make-room-spec =
+    tie.close
+    (tie.spec
+    enum-known-pl
+    enum-known-pl-2
+    open-block-requires
+    enum-known-pl-3
+    reclaim-block-requires
+    returns
+    same-length
+    same-length-2
+    same-length-3
+    returns-2
+    same-length-4
+    same-length-5
+    same-length-6
+    same-length-7
+    same-length-8
+    returns-3)

@@ -1,0 +1,58 @@
+-- What a plan asks to make room, and what it leaves.
+-- Assumes nothing.
+use mathlib.Core.Path.{_≡_}
+use mathlib.Core.Bool.{true}
+use mathlib.Core.List.{List, _∷_, [], _++_}
+use Prim.Native.Nat.{ℕ, _+_, _*_, _<_}
+use lib.ListN.{length, set}
+use Rattle.rules.specs.declared.Params.{Params}
+use Rattle.rules.specs.Tables.{Board, btAt}
+use Rattle.rules.specs.Regions.{view}
+use Rattle.rules.specs.Traces.{erase, erasesIn, replayChip, replayWear, framesOps}
+use Rattle.rules.specs.Write.{Plan, continues, opens, reclaims, planVBlock, planFrame, copies, freeBlock, planBlock, eraseOps, roomOps, followCt, planBst}
+use Rattle.chip_marks.specs.Asked.{WordsAsked}
+use Rattle.write_choose.specs.Search.{Pool}
+use Rattle.write_reclaim.specs.Moves.{FromTo, Reclaimed}
+
+-- a free block is there for virtual block v of region r
+pub record OpenAsked (p : Params) (bt bst wear : List ℕ) (r v : ℕ) : Type 0 where
+  pub pool : Pool p bst wear
+  pub btLength : length bt ≡ p .mu * p .gamma
+  pub region : r < p .mu
+  pub low : v < p .gamma
+  pub free : freeBlock p bst wear < p .N
+
+-- BT names the free block, which is used
+pub record Opened (p : Params) (bt bst wear : List ℕ) (r v : ℕ) (bt′ bst′ : List ℕ) : Type 0 where
+  pub btIs : bt′ ≡ set bt (r * p .gamma + v) (freeBlock p bst wear)
+  pub bstIs : bst′ ≡ set bst (freeBlock p bst wear) 1
+
+-- and virtual block v has another block, whose frames can be copied there
+pub record ReclaimReady (p : Params) (chip ct bt bst wear marks : List ℕ) (r v : ℕ) : Type 0 where
+  pub taking : OpenAsked p bt bst wear r v
+  pub words : WordsAsked p marks r v
+  pub blocks : FromTo p chip ct (btAt p bt r v) (freeBlock p bst wear) v
+
+-- the frames xs, which are its marked ones, are copied, it is erased and free, and BT names the other, which is used
+pub record BlockReclaimed (p : Params) (chip ct bt bst wear : List ℕ) (r v : ℕ) (xs : List (List ℕ)) (chip′ ct′ bt′ bst′ wear′ : List ℕ) (k : ℕ) : Type 0 where
+  pub moved : Reclaimed p chip ct wear (btAt p bt r v) (freeBlock p bst wear) v xs chip′ ct′ wear′ k
+  pub btIs : bt′ ≡ set bt (r * p .gamma + v) (freeBlock p bst wear)
+  pub bstIs : bst′ ≡ set (set bst (freeBlock p bst wear) 1) (btAt p bt r v) 0
+
+-- by the plan
+abbrev pub RoomAsked : Params → List ℕ → List ℕ → List ℕ → List ℕ → List ℕ → List ℕ → ℕ → Plan → Type 0
+RoomAsked p chip ct bt bst wear marks r (continues v f) = Unit {0}
+RoomAsked p chip ct bt bst wear marks r (opens v) = OpenAsked p bt bst wear r v
+RoomAsked p chip ct bt bst wear marks r (reclaims v) = ReclaimReady p chip ct bt bst wear marks r v
+
+-- the plan's room: the rules' operations are made, and the tables follow
+pub record RoomMade (p : Params) (b : Board) (r : ℕ) (pl : Plan) (v f copied erased : ℕ) (chip′ ct′ bt′ bst′ wear′ : List ℕ) : Type 0 where
+  pub vblock : v ≡ planVBlock pl
+  pub frame : f ≡ planFrame p (view p b r) pl
+  pub count : copied ≡ length (copies p (view p b r) pl)
+  pub erases : erased ≡ erasesIn (eraseOps p b r pl)
+  pub chipIs : chip′ ≡ replayChip p (b .chip) (roomOps p b r pl)
+  pub ctIs : ct′ ≡ followCt p (planVBlock pl) 0 (copies p (view p b r) pl) (b .ct)
+  pub btIs : bt′ ≡ set (b .bt) (r * p .gamma + planVBlock pl) (planBlock p b r pl)
+  pub bstIs : bst′ ≡ planBst p b r pl
+  pub wearIs : wear′ ≡ replayWear (b .wear) (roomOps p b r pl)

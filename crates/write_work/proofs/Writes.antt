@@ -1,0 +1,335 @@
+-- A write that has passed its checks: what its plan asks is there, and what it leaves is the rules' outcome.
+-- Assumes nothing.
+use mathlib.Core.Path.{_≡_, refl, sym, ap, ap₂, _∙_}
+use mathlib.Core.Logic.{_⊎_, inl, inr}
+use mathlib.Core.Bool.{Bool, true, false, not}
+use mathlib.Core.List.{List, []}
+use Prim.Native.Nat.{ℕ, _+_, _-_, _*_, _/_, _≤_, _<_}
+use native.Mathlib.Omega.{arith}
+use native.Mathlib.Decide.{decLt}
+use native.Mathlib.Nat.{mod-lt, div-lt-iff-lt-mul, div-mul-le-self}
+use lib.Dec.{eqb, ltb}
+use borrow.Author.Tests.{eqb-true, le-ltb, lt-ltb, not-false}
+use lib.ListN.{length}
+use Rattle.lists.proofs.Tests.{so}
+use Rattle.lists.proofs.Searches.{first-spec}
+use Rattle.rules.specs.declared.Params.{Params}
+use Rattle.rules.specs.declared.Answer.{Answer}
+use Rattle.rules.specs.declared.Reply.the-variants.{Accepted}
+use Rattle.rules.specs.Parameters.{frames}
+use Rattle.rules.specs.Numbers.{placeOf, regionOf, segmentOf, vblockOf}
+use Rattle.rules.specs.Tables.{Board, boardOf, none, btAt, ctAt, fstAt, marksLength}
+use Rattle.rules.specs.Pages.{block, filled, frame, programmed}
+use Rattle.rules.specs.Regions.{View, view, viewOf, assigned, looksAt}
+use Rattle.rules.specs.Traces.{programsIn, erasesIn}
+use Rattle.rules.specs.Write.{Plan, continues, opens, reclaims, hasRoom, lowestUnassigned, planOf, planVBlock, planFrame, eraseOps, freeBlock, planOps, writeOps, written, writtenBy}
+use Rattle.rules.specs.Replies.{replyOf}
+use Rattle.rules.specs.Calls.{Outcome, answerOf, outcomeOf}
+use Rattle.rules.proofs.Sizes.{Sizes}
+use Rattle.rules.proofs.Isolation.{index-low}
+use Rattle.rules.proofs.Views.{body-some, has-block, block-low, free-block, free-unnamed}
+use Rattle.rules.proofs.Frames.{erased-not, marked-programmed, seg-place}
+use Rattle.rules.proofs.RegionFacts.{GoodFrame, Open, Neat, filled-le, neat}
+use Rattle.marks.specs.Kept.{putMark, roomMarks, writtenMarks}
+use Rattle.rules.specs.Requests.{Request, write, requestCluster, requestRegion}
+use Rattle.rules.specs.Machine.{withRoom}
+use Rattle.rules.specs.Marks.{Marks, marksOf, marksOn, tableOf}
+use Rattle.rules.proofs.MarkFacts.{marks-long}
+use Rattle.rules.proofs.TableFacts.{marks-in}
+use Rattle.rules.proofs.Writes.{write-marks}
+use Rattle.rules.proofs.Outcomes.{write-accepted}
+use Rattle.marks.proofs.WrittenMarks.{written-marks}
+use Rattle.chip_marks.specs.Asked.{MarkAsked}
+use Rattle.rules.proofs.Admitted.{Admitted, Checks, admitted, write-checks}
+use Rattle.rules.proofs.Continues.{Makes}
+use Rattle.rules.proofs.Opens.{free-fresh, fresh-frame}
+use Rattle.rules.proofs.Victims.{good-at}
+use Rattle.rules.proofs.WritePromise.{makes, counts, copies-few, erase-counts}
+use Rattle.write_choose.specs.Search.{Pool}
+use Rattle.write_reclaim.specs.Moves.{FromTo}
+use Rattle.rules.specs.Words.{PlanListed}
+use Rattle.rules.proofs.Words.{plan-exactly}
+use Rattle.read_work.specs.Lookup.{blockFor, Looked, Lookup, Stands, Within}
+use Rattle.read_work.proofs.Requests.{lookup-admitted}
+use Rattle.write_plan.specs.Plans.{OpenFrames, PlanAsked}
+use Rattle.write_room.specs.Rooms.{OpenAsked, RoomAsked, RoomMade}
+use Rattle.write_cluster.specs.Clusters.{Standing, ClusterPut}
+use Rattle.outcomes.specs.Claims.{outcome}
+use Rattle.write_marks.specs.Keeping.{UnmarkAsked, keptMarks, acceptedAnswer}
+use Rattle.write_marks.proofs.Keeping.{old-is, room-is, unmark-asked}
+use Rattle.write_work.proofs.Made as made
+use Rattle.write_work.proofs.Stays.{chip-same, ct-same, entry-same, stands-same, within-same}
+use Rattle.write_cluster.proofs.Put.{lookup}
+
+-- a plan that reclaims: the open block has no room, and every virtual block has a block
+record Reclaiming (p : Params) (vw : View) : Type 0 where
+  noRoom : hasRoom p vw ≡ false
+  full : lowestUnassigned p vw ≡ none
+
+kind : Plan → ℕ
+kind (continues v f) = 0
+kind (opens v) = 1
+kind (reclaims v) = 2
+
+reclaiming : (p : Params) (vw : View) (v : ℕ) → planOf p vw ≡ reclaims v → Reclaiming p vw
+unfolding planOf kind
+reclaiming p vw v e = go (so (hasRoom p vw)) (so (eqb (lowestUnassigned p vw) none))
+  where
+    go : (hasRoom p vw ≡ true) ⊎ (hasRoom p vw ≡ false) → (eqb (lowestUnassigned p vw) none ≡ true) ⊎ (eqb (lowestUnassigned p vw) none ≡ false) → Reclaiming p vw
+    go (inl h) s = absurd (omega (arith, ap kind (rw h at e)))
+    go (inr h) (inr s) = absurd (omega (arith, ap kind (rw (h, s) at e)))
+    go (inr h) (inl s) = record { noRoom = h; full = eqb-true _ _ s }
+
+module _ (p : Params) (b : Board) (q : Request) (e : replyOf p b (write q) ≡ Accepted) where
+  checks : Checks p b q
+  checks = write-checks p b q e
+
+  acc : Admitted p b q
+  acc = admitted p b q checks
+
+  z : Sizes p
+  z = acc .sized
+
+  pub sectors : 0 < p .alpha
+  sectors = z .sectors
+
+  pub regions : 0 < p .mu
+  regions = z .regions
+
+  pub alpha-few : p .alpha ≤ 16
+  alpha-few = z .alphaHigh
+
+  marks-are : b .marks ≡ marksOf p b
+  marks-are = marks-in p b (checks .lengths) (checks .tidy)
+
+  pub marks-full : length (b .marks) ≡ marksLength p
+  marks-full = marks-long p b marks-are
+
+  abbrev r : ℕ
+  r = requestRegion p q
+
+  abbrev vw : View
+  vw = view p b r
+
+  region-in : r < p .mu
+  region-in = mod-lt (requestCluster p q) (z .regions)
+
+  nt : Neat p r vw
+  nt = neat p r vw (acc .tidy r region-in)
+
+  all-make : Makes p b r (planOf p vw)
+  all-make = makes p z b (acc .tables) r region-in nt
+
+  -- ---- what the plan asks
+
+  last-is : vw .lastSeg ≡ fstAt (b .fst) r
+  unfolding viewOf
+  last-is = refl
+
+  opened : (fstAt (b .fst) r ≡ none → ⊥) → (vblockOf p (fstAt (b .fst) r) < p .gamma) × (btAt p (b .bt) r (vblockOf p (fstAt (b .fst) r)) ≡ none → ⊥)
+  opened ne = rw (← last-is) (go (nt .opened))
+    where
+      go : (((v : ℕ) → v < p .gamma → assigned vw v ≡ false) × (vw .lastSeg ≡ none)) ⊎ (((v : ℕ) × (v < p .gamma) × (assigned vw v ≡ true)) × Open p vw)
+          → (vblockOf p (vw .lastSeg) < p .gamma) × (btAt p (b .bt) r (vblockOf p (vw .lastSeg)) ≡ none → ⊥)
+      go (inl w) = absurd (ne (sym last-is ∙ w .1))
+      go (inr w) =
+          let h : vblockOf p (vw .lastSeg) < p .gamma = div-lt-iff-lt-mul (z .segments) .1 (w .1 .low) in
+          (h, has-block p z b (acc .tables) r _ region-in h (w .1 .has))
+
+  -- the open block's programmed frames, and where the segment of the last begins
+  open-frames : (o : ℕ) → o ≡ vblockOf p (vw .lastSeg) → o < p .gamma → assigned vw o ≡ true → vw .lastSeg ≡ segmentOf p o (filled p (vw .body o) - 1) → OpenFrames p (vw .body o) (vw .lastSeg)
+  open-frames o eo low has last =
+      let w = nt .blocks o low has in
+      let n : filled p (vw .body o) - 1 < frames p = omega (arith, w .0, filled-le p (vw .body o)) in
+      let at : placeOf p (vw .lastSeg) ≡ (filled p (vw .body o) - 1) / p .beta = rw last (seg-place p z o (filled p (vw .body o) - 1) n) in
+      record {
+        front = record { most = filled-le p (vw .body o); are = λ f h. first-test f h (decLt f (filled p (vw .body o))) };
+        from = rw at (omega (arith, w .0, div-mul-le-self (filled p (vw .body o) - 1) (p .beta)));
+      }
+    where
+      first-test : (f : ℕ) → f < frames p → Dec (f < filled p (vw .body o)) → programmed p (frame p (vw .body o) f) ≡ ltb f (filled p (vw .body o))
+      first-test f h (yes a) =
+          rw (lt-ltb f (filled p (vw .body o)) a) (marked-programmed p (frame p (vw .body o) f) _ (((nt .blocks o low has) .1 .front f a h) .marks 0 (z .sectors)))
+      first-test f h (no a) = rw (le-ltb f (filled p (vw .body o)) (omega arith)) (erased-not p (frame p (vw .body o) f) ((nt .blocks o low has) .1 .rest f (omega arith) h))
+
+  first-frames : (fstAt (b .fst) r ≡ none → ⊥) → OpenFrames p (block p (b .chip) (btAt p (b .bt) r (vblockOf p (fstAt (b .fst) r)))) (fstAt (b .fst) r)
+  first-frames ne = rw (← last-is) (go (nt .opened))
+    where
+      go : (((v : ℕ) → v < p .gamma → assigned vw v ≡ false) × (vw .lastSeg ≡ none)) ⊎ (((v : ℕ) × (v < p .gamma) × (assigned vw v ≡ true)) × Open p vw)
+          → OpenFrames p (block p (b .chip) (btAt p (b .bt) r (vblockOf p (vw .lastSeg)))) (vw .lastSeg)
+      go (inl w) = absurd (ne (sym last-is ∙ w .1))
+      go (inr w) =
+          let h : vblockOf p (vw .lastSeg) < p .gamma = div-lt-iff-lt-mul (z .segments) .1 (w .1 .low) in
+          rw (body-some p z b (acc .tables) r _ region-in h (has-block p z b (acc .tables) r _ region-in h (w .1 .has))) at (open-frames _ refl h (w .1 .has) (w .1 .last))
+
+  pub plan-asked : (r′ : ℕ) → r′ ≡ r → PlanAsked p (b .chip) (b .bt) (b .fst) r′
+  plan-asked r′ er =
+      record {
+        fine = acc .fine;
+        chipLength = acc .tables .chipLength;
+        btLength = acc .tables .btLength;
+        fstLength = acc .tables .fstLength;
+        low = rw er region-in;
+        names = λ v h. unfold btAt in acc .tables .names (r′ * p .gamma + v) (index-low p r′ v (rw er region-in) h);
+        opened = rw er opened;
+        first = rw er first-frames;
+      }
+
+  pool : Pool p (b .bst) (b .wear)
+  pool = record { fine = acc .fine; bstLength = acc .tables .bstLength; wearLength = acc .tables .wearLength }
+
+  open-asked : (v : ℕ) → v < p .gamma → OpenAsked p (b .bt) (b .bst) (b .wear) r v
+  open-asked v h = record { pool = pool; btLength = acc .tables .btLength; region = region-in; low = h; free = (free-block p z b (acc .tables)) .0 }
+
+  every : lowestUnassigned p vw ≡ none → (u : ℕ) → u < p .gamma → assigned vw u ≡ true
+  unfolding lowestUnassigned
+  every full u k = go (first-spec none (p .gamma) (λ v. not (assigned vw v)) (omega (arith, z .gammaHigh)))
+    where
+      go : ((lowestUnassigned p vw ≡ none) × ((i : ℕ) → i < p .gamma → not (assigned vw i) ≡ false)) ⊎ ((lowestUnassigned p vw < p .gamma) × (not (assigned vw (lowestUnassigned p vw)) ≡ true)) → assigned vw u ≡ true
+      go (inl w) = not-false _ (w .1 u k)
+      go (inr w) = absurd (omega (arith, z .gammaHigh, full, w .0))
+
+  -- the victim's block and the free block
+  module _ (v : ℕ) (h : v < p .gamma) (c : Reclaiming p vw) where
+    some : btAt p (b .bt) r v ≡ none → ⊥
+    some = has-block p z b (acc .tables) r v region-in h (every (c .full) v h)
+
+    good : (f : ℕ) → f < frames p → GoodFrame p r (frame p (block p (b .chip) (btAt p (b .bt) r v)) f)
+    good f k = rw (body-some p z b (acc .tables) r v region-in h some) at (good-at p z vw r nt (c .noRoom) (every (c .full)) v f h k)
+
+    from-to : FromTo p (b .chip) (b .ct) (btAt p (b .bt) r v) (freeBlock p (b .bst) (b .wear)) v
+    from-to =
+        record {
+          whole = record { fine = acc .fine; size = acc .tables .chipLength };
+          from = block-low p z b (acc .tables) r v region-in h some;
+          to = (free-block p z b (acc .tables)) .0;
+          low = h;
+          apart = λ x. free-unnamed p z b (acc .tables) (r * p .gamma + v) (index-low p r v region-in h) (unfold btAt in x);
+          clean = λ k m. rw (free-fresh p z b (acc .tables)) (fresh-frame p k);
+          good = λ f m. rw (acc .tables .ctLength) ((good f m) .low);
+        }
+
+  -- the cluster is looked up at entry
+  pub lookup-entry : (c : ℕ) → c ≡ requestCluster p q → Lookup p (b .chip) (b .ct) (b .bt) c
+  lookup-entry c ec = rw ec (lookup-admitted p b q acc)
+
+  -- the plan that was found by the marks, which are the board's
+  abbrev Found : ℕ → Plan → Type 0
+  Found r′ pl = (ct : List ℕ) → b .marks ≡ marksOf p (boardOf (b .chip) ct (b .bt) (b .fst) [] [] []) → pl ≡ planOf p (viewOf p (b .chip) ct (b .bt) (b .fst) r′)
+
+  plan-is : (r′ : ℕ) → r′ ≡ r → (pl : Plan) → Found r′ pl → pl ≡ planOf p vw
+  plan-is r′ er pl found = rw er at (found (b .ct) marks-are)
+
+  pub room-asked : (r′ : ℕ) → r′ ≡ r → (pl : Plan) → Found r′ pl → RoomAsked p (b .chip) (b .ct) (b .bt) (b .bst) (b .wear) (b .marks) r′ pl
+  room-asked r′ er pl found = rw er (go pl (plan-is r′ er pl found))
+    where
+      go : (pl : Plan) → pl ≡ planOf p vw → RoomAsked p (b .chip) (b .ct) (b .bt) (b .bst) (b .wear) (b .marks) r pl
+      go (continues v f) k = tt
+      go (opens v) k =
+          let mk : Makes p b r (opens v) = rw (← k) at all-make in
+          open-asked v (unfold planVBlock in mk .base .ready .mine)
+      go (reclaims v) k =
+          let mk : Makes p b r (reclaims v) = rw (← k) at all-make in
+          let h : v < p .gamma = unfold planVBlock in mk .base .ready .mine in
+          record { taking = open-asked v h; words = record { fine = acc .fine; long = marks-full; region = region-in; vblock = h }; blocks = from-to v h (reclaiming p vw v (sym k)) }
+
+  -- ---- what the write leaves
+
+  module _ (r′ : ℕ) (er : r′ ≡ r) (pl : Plan) (found : Found r′ pl) (v f copied erases : ℕ) (chip₁ ct₁ bt₁ bst₁ wear₁ : List ℕ)
+      (m : (fst : List ℕ) → b .marks ≡ marksOf p (boardOf (b .chip) (b .ct) (b .bt) fst (b .bst) (b .wear) (b .marks))
+      → RoomMade p (boardOf (b .chip) (b .ct) (b .bt) fst (b .bst) (b .wear) (b .marks)) r′ pl v f copied erases chip₁ ct₁ bt₁ bst₁ wear₁) where
+    ep-r : pl ≡ planOf p vw
+    ep-r = plan-is r′ er pl found
+
+    mk : Makes p b r pl
+    mk = rw ep-r all-make
+
+    listed : PlanListed p vw pl
+    listed = rw ep-r (plan-exactly p b (record { fine = acc .fine; lengths = checks .lengths; tidy = checks .tidy }) r region-in)
+
+    m-r : RoomMade p b r pl v f copied erases chip₁ ct₁ bt₁ bst₁ wear₁
+    m-r = rw er at (m (b .fst) marks-are)
+
+    pub standing : Standing p (boardOf chip₁ ct₁ bt₁ (b .fst) [] [] []) q v f
+    standing = rw (m-r .chipIs, m-r .ctIs, m-r .btIs, m-r .vblock, m-r .frame) (made.standing p b q acc pl mk)
+
+    -- the old cluster is looked up on the board with room
+    pub lookup-made : (c : ℕ) → c ≡ requestCluster p q → Lookup p chip₁ ct₁ bt₁ c
+    lookup-made c ec = rw ec (lookup p (boardOf chip₁ ct₁ bt₁ (b .fst) [] [] []) q v f standing)
+
+    -- where nothing is erased, it stands where it was found at entry
+    module _ (c : ℕ) (ec : c ≡ requestCluster p q) (still : erases ≡ 0) (kept : Bool) where
+      none-erased : erasesIn (eraseOps p b r pl) ≡ 0
+      none-erased = sym (m-r .erases) ∙ still
+
+      same-block : (ctAt (b .ct) c ≡ none → ⊥) → blockFor p (b .ct) bt₁ c ≡ blockFor p (b .ct) (b .bt) c
+      unfolding blockFor
+      same-block ne =
+          let k = (lookup-entry c ec) .leads ne in
+          let at : regionOf p c ≡ r = rw ec in
+          let some : btAt p (b .bt) r (vblockOf p (ctAt (b .ct) c)) ≡ none → ⊥ = λ n. omega (arith, rw at at (k .block), n, z .blocks) in
+          rw (at, m-r .btIs) (entry-same p z b (acc .tables) r region-in pl none-erased listed (mk .base .ready .mine) (vblockOf p (ctAt (b .ct) c)) some)
+
+      pub stays : (fr : ℕ) → Stands p (b .chip) (b .ct) (b .bt) c kept fr → Stands p chip₁ ct₁ bt₁ c kept fr
+      stays fr s =
+          rw (m-r .chipIs, m-r .ctIs, chip-same p b r pl none-erased, ct-same p b r pl none-erased)
+          (stands-same p (b .chip) (b .ct) (b .bt) bt₁ c (lookup-entry c ec) same-block kept fr s)
+
+      pub stays-within : (u g fr : ℕ) → Stands p (b .chip) (b .ct) (b .bt) c kept fr → Within p (b .chip) (b .ct) (b .bt) c kept u g → Within p chip₁ ct₁ bt₁ c kept u g
+      stays-within u g fr s w =
+          rw (m-r .chipIs, m-r .ctIs, chip-same p b r pl none-erased, ct-same p b r pl none-erased)
+          (within-same p (b .chip) (b .ct) (b .bt) bt₁ c (lookup-entry c ec) same-block kept u g (s .has) w)
+
+    pub copied-few : copied < 256
+    copied-few = rw (m-r .count) (omega (arith, copies-few p vw pl, mk .base .ready .low, z .short))
+
+    board-is : (chip ct fst marks : List ℕ) → ClusterPut p (boardOf chip₁ ct₁ bt₁ (b .fst) [] [] []) q v f chip ct fst → marks ≡ (written p b q) .marks
+        → boardOf chip ct bt₁ fst bst₁ wear₁ marks ≡ written p b q
+    unfolding written
+    board-is chip ct fst marks x em =
+        let y = made.done p b q acc pl mk chip ct fst bst₁ wear₁ marks (rw (m-r .chipIs, m-r .ctIs, m-r .btIs, m-r .vblock, m-r .frame) at x) (m-r .bstIs) (m-r .wearIs) (em ∙ sym (ap (λ (l : Plan). (writtenBy p b r q l) .marks) ep-r)) in
+        rw (m-r .btIs) (y ∙ ap (writtenBy p b r q) ep-r)
+
+    answer-is : (looks : ℕ) → looks ≡ looksAt p b (requestCluster p q) → acceptedAnswer p copied erases looks ≡ answerOf Accepted (writeOps p b q) (looksAt p b (requestCluster p q))
+    unfolding answerOf writeOps
+    answer-is looks el =
+        let k = counts p b r q pl in
+        let x : p .alpha * (copied + 1) ≡ programsIn (planOps p b r q (planOf p vw)) = rw (m-r .count) (sym (k .0)) ∙ ap (λ (l : Plan). programsIn (planOps p b r q l)) ep-r in
+        let y : erases ≡ erasesIn (planOps p b r q (planOf p vw)) = m-r .erases ∙ (erase-counts p b r pl) .1 ∙ sym (k .1) ∙ ap (λ (l : Plan). erasesIn (planOps p b r q l)) ep-r in
+        λ i. record { reply = Accepted; programs = x i; erases = y i; looks = el i }
+
+    -- ---- and the marks
+
+    pub mark-asked : MarkAsked p (b .marks) r′ v f
+    mark-asked =
+        rw (er, m-r .vblock, m-r .frame)
+        (record { words = record { fine = acc .fine; long = marks-full; region = region-in; vblock = mk .base .ready .mine }; frame = omega (arith, mk .base .ready .low, z .short) })
+
+    module _ (c kept-fr : ℕ) (ec : c ≡ requestCluster p q) (kept : Bool) (u g : ℕ) (s : Stands p chip₁ ct₁ bt₁ c kept kept-fr) (w : Within p chip₁ ct₁ bt₁ c kept u g) where
+      pub old-asked : UnmarkAsked p (b .marks) r′ kept u g
+      old-asked = unmark-asked p chip₁ ct₁ bt₁ c (lookup-made c ec) kept kept-fr u g s w (b .marks) marks-full r′ (er ∙ rw ec)
+
+      -- the view with room is the one that the lookup went by
+      view-made : viewOf p chip₁ ct₁ bt₁ (b .fst) r ≡ withRoom p vw pl
+      view-made = rw (m-r .chipIs, m-r .ctIs, m-r .btIs) (made.view-is p b q acc pl mk)
+
+      kept-are : (m : Marks) → keptMarks m r′ v f copied erases kept u g ≡ writtenMarks p b q m
+      unfolding writtenMarks
+      kept-are m =
+          let old = old-is p chip₁ ct₁ bt₁ c (lookup-made c ec) kept kept-fr u g s w (b .fst) (roomMarks p vw r pl m) in
+          rw (er, room-is p b r pl v copied erases (m-r .vblock) (m-r .count) (m-r .erases) m, ← ep-r, ← view-made, m-r .vblock, m-r .frame) (ap (λ (k : Marks). putMark k r (planVBlock pl) (planFrame p vw pl) true) (rw ec at old))
+
+      -- the marks that are kept are those of the board that is left
+      marks-kept : (marks : List ℕ) → ((m : Marks) → b .marks ≡ tableOf p m → marks ≡ tableOf p (keptMarks m r′ v f copied erases kept u g)) → marks ≡ (written p b q) .marks
+      marks-kept marks h =
+          h (marksOn p b) marks-are
+          ∙ ap (tableOf p) (kept-are (marksOn p b))
+          ∙ sym (written-marks p b q e)
+          ∙ unfold written in sym (write-marks p b r q (planOf p vw))
+
+      pub gives : (looks : ℕ) → Looked p (b .chip) (b .ct) (b .bt) c looks → (chip ct fst marks : List ℕ) (a : Answer) → ClusterPut p (boardOf chip₁ ct₁ bt₁ (b .fst) [] [] []) q v f chip ct fst
+          → ((m : Marks) → b .marks ≡ tableOf p m → marks ≡ tableOf p (keptMarks m r′ v f copied erases kept u g)) → a ≡ acceptedAnswer p copied erases looks
+          → outcome a (q .bytes) [] (boardOf chip ct bt₁ fst bst₁ wear₁ marks) ≡ outcomeOf p b (write q)
+      gives looks k chip ct fst marks a x h y =
+          let el : looks ≡ looksAt p b (requestCluster p q) = unfold looksAt in (rw ec at (k .is (b .fst))) in
+          ap₂ {C = Outcome} (λ (i : Answer) (j : Board). outcome i (q .bytes) [] j) (y ∙ answer-is looks el) (board-is chip ct fst marks x (marks-kept marks h)) ∙ sym (write-accepted p b q e)
