@@ -1,4 +1,4 @@
-// Is the state in order, and its table of marks? One pass over the chip, in which FST's rule is held to the frames that it counts, and then two counts instead
+// Whether the state is in order, its table of marks included. One pass over the chip, in which FST's rule is held to the frames that it counts, and then two counts instead
 // of a look at each CT entry.
 ghost use mathlib.Core.Path.{_≡_};
 ghost use mathlib.Core.Bool.{_&&_, true};
@@ -17,7 +17,7 @@ use rules::Params;
 use rules::Segment;
 use rules::VBlock;
 
-// Are k programmed frames right for virtual block v, where FST names segment sg of virtual block o?
+// True if k programmed frames are right for virtual block v, where FST names segment sg of virtual block o.
 // The last of them is in that segment, if v is o; they are all F, if it is not.
 fn frames_ok(p: Params, sg: Segment, o: VBlock, v: VBlock, k: usize) -> bool
     requires { ⌜ allowed p ≡ true ⌝ }
@@ -91,8 +91,8 @@ fn vblocks_ok(
     true
 }
 
-// Is FST's entry sg none exactly if region r has no block,
-// and else a segment of a virtual block that has one?
+// True if FST's entry sg is none exactly if region r has no block,
+// and else a segment of a virtual block that has one.
 fn entry_ok(p: Params, bt: &[u16], r: usize, sg: Segment) -> bool
     requires { ⌜ allowed p ≡ true ⌝ }
     requires { ⌜ length (now bt) ≡ p .mu * p .gamma ⌝ }
@@ -200,7 +200,7 @@ fn counts_ok(ct: &[u16], marks: &[u64]) -> bool
     k == count_marked(marks)
 }
 
-// Is the state orderly, each mark included? Reply 7 if not. No rule looks at the wear.
+// True if the state is orderly, each mark included; reply 7 if not. No rule looks at the wear.
 pub fn in_order(
     p: Params,
     chip: &[u8],

@@ -50,7 +50,7 @@ fn next_place(p: Params, f: usize, k: usize) -> usize
     k
 }
 
-// Does no frame after frame f, in the same segment, hold its cluster c? The place of the segment in the block is k.
+// True if no frame after frame f, in the same segment, holds its cluster c. The place of the segment in the block is k.
 fn is_last(p: Params, blk: &[u8], k: usize, f: usize, c: Cluster) -> bool
     requires { ⌜ HoldsAt p (now blk) k f (c .0) ⌝ }
     ensures { λ ok. ⌜ ok ≡ eqb (lastIn p (now (blk .entry)) k (c .0)) f ⌝ }
@@ -66,7 +66,7 @@ fn is_last(p: Params, blk: &[u8], k: usize, f: usize, c: Cluster) -> bool
     true
 }
 
-// Is frame f of virtual block v, whose bytes are lent, valid? The place of its segment in the block is k.
+// True if frame f of virtual block v, whose bytes are lent, is valid. The place of its segment in the block is k.
 fn is_valid(p: Params, blk: &[u8], ct: &[u16], v: VBlock, k: usize, f: usize) -> bool
     requires { ⌜ OneFrame p (now blk) (now ct) (v .0) f ⌝ }
     requires { ⌜ k ≡ f / p .beta ⌝ }
@@ -83,7 +83,7 @@ fn is_valid(p: Params, blk: &[u8], ct: &[u16], v: VBlock, k: usize, f: usize) ->
     is_last(p, blk, k, f, c)
 }
 
-// Has frame f no mark, which is the lowest bit of the word, or is it valid?
+// True if bit 0 of the word is clear, or frame f, whose mark that bit is, is valid.
 fn mark_ok(p: Params, blk: &[u8], ct: &[u16], v: VBlock, k: usize, f: usize, word: u64) -> bool
     requires { ⌜ OneBlock p (now blk) (now ct) (v .0) ⌝ }
     requires { ⌜ k ≡ f / p .beta ⌝ }
@@ -98,7 +98,7 @@ fn mark_ok(p: Params, blk: &[u8], ct: &[u16], v: VBlock, k: usize, f: usize, wor
     is_valid(p, blk, ct, v, k, f)
 }
 
-// Is each mark in word w of virtual block v, whose bytes are lent, that of a valid frame? It ends at the last mark.
+// True if each mark in word w of virtual block v, whose bytes are lent, is that of a valid frame. The loop ends at the last mark.
 fn word_ok(p: Params, blk: &[u8], ct: &[u16], v: VBlock, w: usize, word: u64) -> bool
     requires { ⌜ OneBlock p (now blk) (now ct) (v .0) ⌝ }
     requires { ⌜ w < 4 ⌝ }
@@ -122,7 +122,7 @@ fn word_ok(p: Params, blk: &[u8], ct: &[u16], v: VBlock, w: usize, word: u64) ->
     true
 }
 
-// Is each mark of virtual block v of region r, whose block's bytes are lent, that of a valid frame?
+// True if each mark of virtual block v of region r, whose block's bytes are lent, is that of a valid frame.
 fn held_ok(p: Params, blk: &[u8], ct: &[u16], marks: &[u64], r: usize, v: VBlock) -> bool
     requires { ⌜ OneBlock p (now blk) (now ct) (v .0) ⌝ }
     requires { ⌜ WordsAsked p (now marks) r (v .0) ⌝ }
@@ -138,7 +138,7 @@ fn held_ok(p: Params, blk: &[u8], ct: &[u16], marks: &[u64], r: usize, v: VBlock
     true
 }
 
-// Has it no mark, where it has no block?
+// True if it has no mark, where it has no block.
 fn none_ok(p: Params, marks: &[u64], r: usize, v: VBlock) -> bool
     requires { ⌜ WordsAsked p (now marks) r (v .0) ⌝ }
     ensures { λ ok. ⌜ ok ≡ allBelow 4 (wordOnly p (now (marks .entry)) r (v .0) (λ f. false)) ⌝ }
@@ -153,7 +153,7 @@ fn none_ok(p: Params, marks: &[u64], r: usize, v: VBlock) -> bool
     true
 }
 
-// Is each mark of virtual block v of region r that of a valid frame, with or without a block?
+// True if each mark of virtual block v of region r is that of a valid frame, with or without a block.
 pub fn marks_ok(
     p: Params,
     chip: &[u8],

@@ -41,7 +41,7 @@ pub fn frame_of(p: Params, blk: &[u8], f: usize) -> &[u8]
     &blk[a..b]
 }
 
-// Is a frame as programming leaves it, with a cluster of region r?
+// True if a frame is as programming leaves it, with a cluster of region r.
 fn good_frame(p: Params, r: usize, fr: &[u8]) -> bool
     requires { ⌜ allowed p ≡ true ⌝ }
     requires { ⌜ length (now fr) ≡ frameBytes p ⌝ }
@@ -65,7 +65,7 @@ fn good_frame(p: Params, r: usize, fr: &[u8]) -> bool
     true
 }
 
-// Does a frame hold cluster c? Its number is looked at first: where many frames are asked, most hold another.
+// True if a frame holds cluster c. Its number is looked at first: where many frames are asked, most hold another.
 pub fn holds(p: Params, fr: &[u8], c: Cluster) -> bool
     requires { ⌜ allowed p ≡ true ⌝ }
     requires { ⌜ length (now fr) ≡ frameBytes p ⌝ }
@@ -114,7 +114,7 @@ pub fn next_free(p: Params, blk: &[u8], from: usize) -> usize
     f
 }
 
-// Is the last frame of the block programmed? If the first k frames are and no others, the block is full exactly then.
+// True if the last frame of the block is programmed. If the first k frames are and no others, the block is full exactly then.
 pub fn is_full(p: Params, blk: &[u8]) -> bool
     requires { ⌜ allowed p ≡ true ⌝ }
     requires { ⌜ length (now blk) ≡ blockBytes p ⌝ }
@@ -143,7 +143,7 @@ fn good_frames(p: Params, r: usize, blk: &[u8]) -> usize
     f
 }
 
-// Are the frames from frame k on erased?
+// True if the frames from frame k on are erased.
 fn rest_erased(p: Params, blk: &[u8], k: usize) -> bool
     requires { ⌜ allowed p ≡ true ⌝ }
     requires { ⌜ length (now blk) ≡ blockBytes p ⌝ }
@@ -174,7 +174,7 @@ pub fn used_frames(p: Params, r: usize, blk: &[u8]) -> usize
     k
 }
 
-// Is the block a used block of region r?
+// True if the block is a used block of region r.
 pub fn block_ok(p: Params, r: usize, blk: &[u8]) -> bool
     requires { ⌜ allowed p ≡ true ⌝ }
     requires { ⌜ length (now blk) ≡ blockBytes p ⌝ }
@@ -229,7 +229,7 @@ pub fn last_in(p: Params, blk: &[u8], k: usize, c: Cluster) -> Search
     }
 }
 
-// Is the whole block erased?
+// True if the whole block is erased.
 pub fn block_erased(p: Params, blk: &[u8]) -> bool
     requires { ⌜ allowed p ≡ true ⌝ }
     requires { ⌜ length (now blk) ≡ blockBytes p ⌝ }

@@ -1,11 +1,11 @@
-// Is a lent part of the chip erased, that is 255 throughout?
+// Whether a lent part of the chip is erased, that is 255 throughout.
 ghost use mathlib.Core.Path.{_≡_};
 ghost use mathlib.Core.Bool.{_&&_};
 ghost use Prim.Native.Nat.{_*_};
 ghost use lib.ListN.{length};
 ghost use Rattle.lists.specs.Parts.{allAre};
 
-// Is every byte 255? No early exit: the loop gathers the bits that all bytes have, which vectorises.
+// True if every byte is 255. No early exit: the loop gathers the bits that all bytes have, which vectorises.
 pub fn is_erased(part: &[u8]) -> bool
     ensures { λ ok. ⌜ ok ≡ allAre 255 (now (part .entry)) ⌝ }
 {
@@ -32,7 +32,7 @@ fn both_erased(a: &[u8], b: &[u8]) -> bool
     all == 255
 }
 
-// Is every byte of k pages of w bytes 255? Page i of each half together, left after the first two that are not.
+// True if every byte of k pages of w bytes is 255. Page i of each half together, left after the first two that are not.
 pub fn are_erased(pages: &[u8], w: usize, k: usize) -> bool
     requires { ⌜ length (now pages) ≡ k * w ⌝ }
     ensures { λ ok. ⌜ ok ≡ allAre 255 (now (pages .entry)) ⌝ }

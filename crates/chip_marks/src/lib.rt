@@ -52,7 +52,7 @@ pub fn clear_mark(p: Params, marks: &mut [u64], r: usize, v: VBlock, f: usize)
     marks[i] = bits::without_bit(marks[i], f % 64);
 }
 
-// Has frame f of virtual block v of region r its mark?
+// True if frame f of virtual block v of region r has its mark.
 // One word is looked at.
 pub fn is_marked(p: Params, marks: &[u64], r: usize, v: VBlock, f: usize) -> bool
     requires { ⌜ MarkAsked p (now marks) r (v .0) f ⌝ }

@@ -119,7 +119,7 @@ fn are_tied(p: Params) -> bool
     (p.C + (p.mu - 1)) / p.mu <= p.gamma * f - 1
 }
 
-// Are the parameters allowed? Reply 1 if not.
+// True if the parameters are allowed; reply 1 if not.
 pub fn parameters_allowed(p: Params) -> bool
     ensures { λ ok. ⌜ ok ≡ allowed p ⌝ }
 {
@@ -129,7 +129,7 @@ pub fn parameters_allowed(p: Params) -> bool
     false
 }
 
-// Have the chip, in bytes, and each table, in entries, the right length? Reply 2 if not.
+// True if the chip, in bytes, and each table, in entries, has the right length; reply 2 if not.
 pub fn lengths_fit(
     p: Params,
     chip: usize,

@@ -62,7 +62,7 @@ fn word(part: &[u8]) -> usize
     half(part, 0) + 4294967296 * half(part, 4)
 }
 
-// Are these 16 bytes and those the same? Two words each.
+// True if these 16 bytes and those are the same: two words each.
 fn same(a: &[u8], b: &[u8]) -> bool
     requires { ⌜ length (now a) ≡ 16 ⌝ }
     requires { ⌜ length (now b) ≡ 16 ⌝ }
@@ -82,7 +82,7 @@ pub fn cluster_in(p: Params, frame: &[u8]) -> Cluster
     Cluster(n)
 }
 
-// Is a frame programmed?
+// True if a frame is programmed.
 pub fn is_programmed(p: Params, frame: &[u8]) -> bool
     requires { ⌜ allowed p ≡ true ⌝ }
     requires { ⌜ length (now frame) ≡ frameBytes p ⌝ }
@@ -92,7 +92,7 @@ pub fn is_programmed(p: Params, frame: &[u8]) -> bool
     frame[a] == 0
 }
 
-// Has page j of a frame the spare bytes of cluster c?
+// True if page j of a frame has the spare bytes of cluster c.
 pub fn is_marked(p: Params, frame: &[u8], c: Cluster, j: usize) -> bool
     requires { ⌜ allowed p ≡ true ⌝ }
     requires { ⌜ length (now frame) ≡ frameBytes p ⌝ }

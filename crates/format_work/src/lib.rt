@@ -10,7 +10,7 @@ ghost use Rattle.format_work.specs.Blocks.{BlockAsked, BlockDone, Blocks
 use rules::PBlock;
 use rules::Params;
 
-// Has page j of block n the maker's mark: is byte 5 of its spare area not 255?
+// True if page j of block n has the factory's bad mark: byte 5 of its spare area is not 255.
 fn has_bad_mark(p: Params, chip: &[u8], n: PBlock, j: usize) -> bool
     requires { ⌜ allowed p ≡ true ⌝ }
     requires { ⌜ length (now chip) ≡ p .N * blockBytes p ⌝ }
@@ -24,7 +24,7 @@ fn has_bad_mark(p: Params, chip: &[u8], n: PBlock, j: usize) -> bool
     chip[i] != 255
 }
 
-// Is block n bad: is page 0 marked, or page 1 where the block has one?
+// True if block n is bad: page 0 has that mark, or page 1 where the block has one.
 pub fn is_bad(p: Params, chip: &[u8], n: PBlock) -> bool
     requires { ⌜ allowed p ≡ true ⌝ }
     requires { ⌜ length (now chip) ≡ p .N * blockBytes p ⌝ }

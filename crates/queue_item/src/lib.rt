@@ -13,7 +13,7 @@ ghost use Rattle.queue_item.specs.Items.{ItemIs};
 use rules::Answer;
 use rules::Params;
 
-// Do the bytes of an item lie in the data part, of which `len` are lent? The sum cannot wrap: both numbers are of 32 bits, and s is at most 512.
+// True if the bytes of an item lie in the data part, of which `len` are lent. The sum cannot wrap: both numbers are of 32 bits, and s is at most 512.
 fn has_bytes(p: Params, len: usize, count: u32, first: u32) -> bool
     requires { ⌜ allowed p ≡ true ⌝ }
     ensures { λ ok. ⌜ ((bytes : List ℕ) (lba : ℕ) → length bytes ≡ len → ok ≡ lies p bytes (itemOf lba count first)) ⌝ }

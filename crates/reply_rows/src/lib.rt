@@ -13,7 +13,7 @@ use rules::Answer;
 use rules::Params;
 use rules::Reply;
 
-// Is count 0, or does LBA mod α + count exceed α? Reply 3 if so.
+// True if count is 0, or LBA mod α + count exceeds α; reply 3 if so.
 fn bad_count(p: Params, lba: u32, count: u32) -> bool
     requires { ⌜ allowed p ≡ true ⌝ }
     ensures { λ bad. ⌜ ((q : Request) → q .lba ≡ lba → q .count ≡ count → bad ≡ badCount p q) ⌝ }
@@ -24,7 +24,7 @@ fn bad_count(p: Params, lba: u32, count: u32) -> bool
     p.alpha < rules::sector_of(p, lba as usize) + count as usize
 }
 
-// Is LBA C·α or more? Reply 4 if so.
+// True if LBA is C·α or more; reply 4 if so.
 pub fn bad_address(p: Params, lba: u32) -> bool
     requires { ⌜ allowed p ≡ true ⌝ }
     ensures { λ bad. ⌜ bad ≡ badAddress p lba ⌝ }
@@ -32,7 +32,7 @@ pub fn bad_address(p: Params, lba: u32) -> bool
     p.C * p.alpha <= lba as usize
 }
 
-// Is the data length not count × s? Reply 5 if so.
+// True if the data length is not count × s; reply 5 if so.
 pub fn wrong_data(p: Params, count: u32, len: usize) -> bool
     requires { ⌜ allowed p ≡ true ⌝ }
     ensures { λ bad. ⌜ ((q : Request) → q .count ≡ count → length (q .bytes) ≡ len → bad ≡ wrongData p q) ⌝ }
@@ -57,7 +57,7 @@ pub fn request_reply(p: Params, lba: u32, count: u32, wrong: bool) -> Reply
     Reply::Accepted
 }
 
-// Is a cluster not below C? Reply 4 of a release if so.
+// True if a cluster is not below C; reply 4 of a release if so.
 pub fn bad_cluster(p: Params, c: u32) -> bool
     ensures { λ bad. ⌜ bad ≡ badCluster p c ⌝ }
 {
