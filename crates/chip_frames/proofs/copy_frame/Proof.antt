@@ -1,8 +1,9 @@
+-- `chip_frames::copy_frame`. The invariant: the chip is the one at entry with the first k pages of frame `from` put at frame `to`, which are apart. The measure is
+-- what is left.
+-- Assumes nothing.
 use Rattle.chip_frames.proofs.copy_frame.Statement.{statement}
 use Rattle.chip_frames.proofs.copy_frame.Tie as tie
 use Rattle.chip_frames.proofs.copy_frame.Reads as reads
-use Rattle.chip_frames.proofs.copy_frame.Lts as lts
-use Rattle.chip_pages.proofs.copy_at.Reads as copy-at-reads
 use Prim.Native.Nat.{ℕ, _≤_, _<_, _-_, _+_, _*_}
 use mathlib.Core.Path.{_≡_, ap, refl, sym, _∙_}
 use lib.ListN.{length}
@@ -17,54 +18,43 @@ Inv-loop chip₀ w n from to x y k₀ chip k = (k ≤ n) × (chip ≡ run w n to
 abbrev μ-loop : tie.MeasureT-loop
 μ-loop chip₀ w n from to x y k₀ chip k = n - k
 
--- src/lib.rt:14:13
 mul-x : tie.Need-mul-x Inv-loop μ-loop
 mul-x c = let a = c .before in omega (arith, low _ _ _ _ _ (a .pre) (a .args .from) (a .pre .source))
 
--- src/lib.rt:15:13
 mul-y : tie.Need-mul-y Inv-loop μ-loop
 mul-y c = let a = c .before in omega (arith, low _ _ _ _ _ (a .pre) (a .args .to) (a .pre .fits))
 
--- src/lib.rt:17:5
 loop-holds : tie.Need-loop-holds Inv-loop μ-loop
 unfolding run
 loop-holds c = (search needs, refl)
 
--- src/lib.rt:18:32
 add-copy-at : tie.Need-add-copy-at Inv-loop μ-loop
 add-copy-at c = let a = c .before .before .before .before in omega (arith, low-page _ _ _ _ _ (a .pre) (a .args .from) (c .before .before .loop .k) (a .pre .source) (c .before .loop-test .taken))
 
--- src/lib.rt:18:39
 add-copy-at-2 : tie.Need-add-copy-at-2 Inv-loop μ-loop
 add-copy-at-2 c = let a = c .before .before .before .before in omega (arith, low-page _ _ _ _ _ (a .pre) (a .args .to) (c .before .before .loop .k) (a .pre .fits) (c .before .loop-test .taken))
 
--- src/lib.rt:18:9
 copy-at-requires : tie.Need-copy-at-requires Inv-loop μ-loop
 copy-at-requires c κs =
     let l = c .before .before in
     copy-asked _ _ _ _ _ (l .before .before .pre) _ _ (c .before .loop-test .taken) (l .loop .inv .1)
 
--- src/lib.rt:19:9
 add-k : tie.Need-add-k Inv-loop μ-loop
 add-k c = omega arith
 
--- src/lib.rt:17:5
 loop-less : tie.Need-loop-less Inv-loop μ-loop
 loop-less c = omega arith
 
--- src/lib.rt:17:5
 loop-again : tie.Need-loop-again Inv-loop μ-loop
 loop-again c =
     let l = c .before .before .before .before .before in
     (omega arith, copy-done _ _ _ _ _ (l .before .before .pre) _ _ _ (c .before .before .before .before .loop-test .taken) (l .loop .inv .1) (c .before .before .copy-at .ensures))
 
--- src/lib.rt:10:1
 same-length : tie.Need-same-length Inv-loop μ-loop
 same-length c =
     let l = c .before in
     ap length (l .loop .inv .1) ∙ copied-length _ _ _ _ _ (l .before .before .pre) _ (l .loop .inv .0)
 
--- src/lib.rt:10:1
 returns : tie.Need-returns Inv-loop μ-loop
 returns c =
     let l = c .before in

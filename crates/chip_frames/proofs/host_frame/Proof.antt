@@ -1,8 +1,9 @@
+-- `chip_frames::host_frame`. The invariant: the chip is the one at entry with the first k pages of the host's frame put at frame `to`; a page that is still to be
+-- read is not one of those, so that it is read as it was. The measure is what is left.
+-- Assumes nothing.
 use Rattle.chip_frames.proofs.host_frame.Statement.{statement}
 use Rattle.chip_frames.proofs.host_frame.Tie as tie
 use Rattle.chip_frames.proofs.host_frame.Reads as reads
-use Rattle.chip_frames.proofs.host_frame.Lts as lts
-use Rattle.chip_frames.proofs.host_page.Reads as host-page-reads
 use Prim.Native.Nat.{ℕ, _≤_, _<_, _-_, _+_, _*_}
 use mathlib.Core.Path.{_≡_, ap, refl, sym, _∙_}
 use lib.ListN.{length}
@@ -19,54 +20,43 @@ Inv-loop chip₀ s n to kept old off count bytes cluster x y k₀ chip k =
 abbrev μ-loop : tie.MeasureT-loop
 μ-loop chip₀ s n to kept old off count bytes cluster x y k₀ chip k = n - k
 
--- src/lib.rt:48:13
 mul-x : tie.Need-mul-x Inv-loop μ-loop
 mul-x c = let a = c .before .before in omega (arith, low _ _ _ _ _ _ _ _ _ _ (a .pre) (a .args .old) (a .pre .source))
 
--- src/lib.rt:49:13
 mul-y : tie.Need-mul-y Inv-loop μ-loop
 mul-y c = let a = c .before .before in omega (arith, low _ _ _ _ _ _ _ _ _ _ (a .pre) (a .args .to) (a .pre .fits))
 
--- src/lib.rt:51:5
 loop-holds : tie.Need-loop-holds Inv-loop μ-loop
 unfolding run
 loop-holds c = (search needs, refl)
 
--- src/lib.rt:52:28
 add-host-page : tie.Need-add-host-page Inv-loop μ-loop
 add-host-page c = let a = c .before .before .before .before .before in omega (arith, low-page _ _ _ _ _ _ _ _ _ _ (a .pre) (a .args .to) (c .before .before .loop .k) (a .pre .fits) (c .before .loop-test .taken))
 
--- src/lib.rt:52:41
 add-host-page-2 : tie.Need-add-host-page-2 Inv-loop μ-loop
 add-host-page-2 c = let a = c .before .before .before .before .before in omega (arith, low-page _ _ _ _ _ _ _ _ _ _ (a .pre) (a .args .old) (c .before .before .loop .k) (a .pre .source) (c .before .loop-test .taken))
 
--- src/lib.rt:52:9
 host-page-requires : tie.Need-host-page-requires Inv-loop μ-loop
 host-page-requires c κs =
     let l = c .before .before in
     page-asked _ _ _ _ _ _ _ _ _ _ (l .before .before .before .pre) _ _ (c .before .loop-test .taken) (l .loop .inv .1)
 
--- src/lib.rt:53:9
 add-k : tie.Need-add-k Inv-loop μ-loop
 add-k c = omega arith
 
--- src/lib.rt:51:5
 loop-less : tie.Need-loop-less Inv-loop μ-loop
 loop-less c = omega arith
 
--- src/lib.rt:51:5
 loop-again : tie.Need-loop-again Inv-loop μ-loop
 loop-again c =
     let l = c .before .before .before .before .before in
     (omega arith, page-done _ _ _ _ _ _ _ _ _ _ (l .before .before .before .pre) _ _ _ (c .before .before .before .before .loop-test .taken) (l .loop .inv .1) (c .before .before .host-page .ensures))
 
--- src/lib.rt:44:1
 same-length : tie.Need-same-length Inv-loop μ-loop
 same-length c =
     let l = c .before in
     ap length (l .loop .inv .1) ∙ written-length _ _ _ _ _ _ _ _ _ _ (l .before .before .before .pre) _ (l .loop .inv .0)
 
--- src/lib.rt:44:1
 returns : tie.Need-returns Inv-loop μ-loop
 returns c =
     let l = c .before in

@@ -1,89 +1,68 @@
+-- `chip_frames::host_page`: one of three leaves, by whether the sector is given and whether an old one is kept; each leaves the page that the host's frame has there (Host.antt).
+-- Assumes nothing.
 use borrow.Author.Needs.{needs}
 use Rattle.chip_frames.proofs.host_page.Statement.{statement}
 use Rattle.chip_frames.proofs.host_page.Tie as tie
 use Rattle.chip_frames.proofs.host_page.Reads as reads
-use Rattle.chip_frames.proofs.host_page.Lts as lts
-use Rattle.chip_pages.proofs.copy_at.Reads as copy-at-reads
-use Rattle.chip_pages.proofs.program_at.Reads as program-at-reads
-use Rattle.chip_pages.proofs.program_blank_at.Reads as program-blank-at-reads
 use native.Mathlib.Omega.{arith}
 use Prim.Native.Nat.{ℕ}
 use Rattle.chip_frames.proofs.Host.{given-in, given-fits, given-asked, given-done, kept-done, blank-done}
 
--- src/lib.rt:28:15
 add-end : tie.Need-add-end
 add-end c = search needs
 
--- src/lib.rt:31:18
 sub-a : tie.Need-sub-a
 sub-a c = let a = c .before .before .before in (given-in _ _ (a .args .count) (c .if1 .taken)) .0
 
--- src/lib.rt:31:17
 mul-a : tie.Need-mul-a
 mul-a c = let a = c .before .before .before in omega (arith, given-fits (a .args .s) (a .args .off) (a .args .j) (a .args .count) (a .args .bytes .now) (c .if1 .taken) (a .pre .given))
 
--- src/lib.rt:32:17
 add-b : tie.Need-add-b
 add-b c = let a = c .before .before .before in omega (arith, given-fits (a .args .s) (a .args .off) (a .args .j) (a .args .count) (a .args .bytes .now) (c .if1 .taken) (a .pre .given))
 
--- src/lib.rt:33:35
 sub-program-at : tie.Need-sub-program-at
 sub-program-at c = search needs
 
--- src/lib.rt:33:35
 part-program-at-start : tie.Need-part-program-at-start
 part-program-at-start c = search needs
 
--- src/lib.rt:33:35
 part-program-at-end : tie.Need-part-program-at-end
 part-program-at-end c = let a = c .before .before .before .before in given-fits (a .args .s) (a .args .off) (a .args .j) (a .args .count) (a .args .bytes .now) (c .before .if1 .taken) (a .pre .given)
 
--- src/lib.rt:33:58
 cast-program-at : tie.Need-cast-program-at
 cast-program-at c = search needs
 
--- src/lib.rt:33:9
 program-at-requires : tie.Need-program-at-requires
 program-at-requires c κs = given-asked _ _ _ _ _ _ _ _ _ _ (c .before .before .before .before .before .pre) (c .before .before .if1 .taken)
 
--- src/lib.rt:34:9
 same-length : tie.Need-same-length
 same-length c = search needs
 
--- src/lib.rt:34:9
 returns : tie.Need-returns
 returns c = given-done _ _ _ _ _ _ _ _ _ _ (c .before .before .before .before .before .before .before .before .pre) _ (c .before .before .before .before .before .if1 .taken) (c .before .before .program-at .ensures)
 
--- src/lib.rt:37:29
 add-copy-at : tie.Need-add-copy-at
 add-copy-at c = search needs
 
--- src/lib.rt:37:9
 copy-at-requires : tie.Need-copy-at-requires
 copy-at-requires c κs = search needs
 
--- src/lib.rt:38:9
 same-length-2 : tie.Need-same-length-2
 same-length-2 c = search needs
 
--- src/lib.rt:38:9
 returns-2 : tie.Need-returns-2
 returns-2 c =
     kept-done _ _ _ _ _ _ _ _ _ _ (c .before .before .before .before .before .before .before .before .pre) _ (c .before .before .before .before .before .if1 .left) (c .before .before .before .before .if2 .taken) (c .before .before .copy-at .ensures)
 
--- src/lib.rt:40:49
 cast-program-blank-at : tie.Need-cast-program-blank-at
 cast-program-blank-at c = search needs
 
--- src/lib.rt:40:5
 program-blank-at-requires : tie.Need-program-blank-at-requires
 program-blank-at-requires c κs = search needs
 
--- src/lib.rt:24:1
 same-length-3 : tie.Need-same-length-3
 same-length-3 c = search needs
 
--- src/lib.rt:24:1
 returns-3 : tie.Need-returns-3
 returns-3 c =
     blank-done _ _ _ _ _ _ _ _ _ _ (c .before .before .before .before .before .before .before .before .pre) _ (c .before .before .before .before .before .if1 .left) (c .before .before .before .before .if2 .left) (c .before .before .program-blank-at .ensures)
