@@ -12,6 +12,13 @@
  * and a refusal changes no lent byte; only the list of a cnftl_why is filled
  * with reply 7 too.
  *
+ * Which sectors belong to a region: sector lba is in cluster lba / alpha, and
+ * cluster k is in region k mod mu.  So the sectors of a region, which are those
+ * of one ledger, are not contiguous: they come in runs of alpha, and the runs
+ * begin mu*alpha sectors apart.  With alpha 2 and mu 2, region 0 has sectors
+ * 0, 1, 4, 5, 8, 9 and so on, and region 1 has 2, 3, 6, 7, 10, 11 and so on.
+ * cnftl_region_of, cnftl_region_sectors and cnftl_region_lba work it out.
+ *
  * A slice passes as a pointer and then a length in ELEMENTS (bytes for chip,
  * bst and data; 16-bit entries for ct, bt and fst; 32-bit entries for wear,
  * list and requests; 64-bit entries for marks and answers).
@@ -348,7 +355,8 @@ static inline int cnftl_params_allowed(const struct cnftl_params *p)
 
 /*
  * Sizes of a board, for allowed parameters: P, the bytes of a page and of the
- * chip, the entries of each table, and the sectors that the board offers.
+ * chip, the entries of each table, the bytes of all six tables together, and
+ * the sectors that the board offers.
  * The largest chip has over 8 GiB, more than a 32-bit size_t can say.
  */
 static inline size_t cnftl_pages_per_block(const struct cnftl_params *p)
@@ -396,9 +404,49 @@ static inline size_t cnftl_marks_entries(const struct cnftl_params *p)
     return (size_t)CNFTL_MARK_WORDS * p->mu * p->gamma;
 }
 
+static inline size_t cnftl_table_bytes(const struct cnftl_params *p)
+{
+    return sizeof(uint16_t) * (cnftl_ct_entries(p) + cnftl_bt_entries(p)
+                               + cnftl_fst_entries(p))
+         + sizeof(uint8_t) * cnftl_bst_entries(p)
+         + sizeof(uint32_t) * cnftl_wear_entries(p)
+         + sizeof(uint64_t) * cnftl_marks_entries(p);
+}
+
 static inline uint32_t cnftl_sectors(const struct cnftl_params *p)
 {
     return p->c * p->alpha;
+}
+
+/*
+ * The sectors of a region, for allowed parameters, an lba below cnftl_sectors
+ * and a region below mu: the region of a sector, how many clusters and how many
+ * sectors a region has (none from region c on, where c is less than mu), and
+ * its i-th sector, from 0 on and in rising order, for i below
+ * cnftl_region_sectors.
+ */
+static inline uint32_t cnftl_region_of(const struct cnftl_params *p,
+                                       uint32_t lba)
+{
+    return lba / p->alpha % p->mu;
+}
+
+static inline uint32_t cnftl_region_clusters(const struct cnftl_params *p,
+                                             uint32_t region)
+{
+    return p->c / p->mu + (region < p->c % p->mu);
+}
+
+static inline uint32_t cnftl_region_sectors(const struct cnftl_params *p,
+                                            uint32_t region)
+{
+    return cnftl_region_clusters(p, region) * p->alpha;
+}
+
+static inline uint32_t cnftl_region_lba(const struct cnftl_params *p,
+                                        uint32_t region, uint32_t i)
+{
+    return (i / p->alpha * p->mu + region) * p->alpha + i % p->alpha;
 }
 
 /*
@@ -414,8 +462,8 @@ static inline uint32_t cnftl_sectors(const struct cnftl_params *p)
 static inline uint32_t cnftl_writes_per_erase(const struct cnftl_params *p,
                                               uint32_t region)
 {
-    uint32_t clusters = p->c / p->mu + (region < p->c % p->mu);
-    uint32_t spare = p->gamma * p->beta * p->d - clusters;
+    uint32_t frames = p->gamma * p->beta * p->d;
+    uint32_t spare = frames - cnftl_region_clusters(p, region);
 
     return (spare + p->gamma - 1) / p->gamma;
 }

@@ -1,7 +1,8 @@
 /*
  * header.c - Board T of document 01 through cnftl.h, as C99 and as C++ (see
  * header.cc): the printed session and the marked cases that a call can show;
- * and the writes per erase of some boards, those of the README among them.
+ * and what follows from the parameters alone: sizes, the sectors of each
+ * region, and the writes per erase, with the figures of the README.
  */
 #undef NDEBUG
 #include "cnftl.h"
@@ -356,10 +357,57 @@ static void check_sizes(void)
     assert(cnftl_bst_entries(&board.params) == 5);
     assert(cnftl_wear_entries(&board.params) == 5);
     assert(cnftl_marks_entries(&board.params) == 16);
+    assert(cnftl_table_bytes(&board.params) == sizeof ct - sizeof ct[6]
+           + sizeof bt + sizeof fst + sizeof bst + sizeof wear + sizeof marks);
     assert(cnftl_sectors(&board.params) == 12);
 }
 
-/* The README's sizing table: its small board with fewer and fewer clusters. */
+/* The sectors of all regions together: each sector of the board once, rising
+   in its region, which is the one that it is said to be in. */
+static void check_regions_of(const struct cnftl_params *p)
+{
+    static uint8_t seen[1048576];
+
+    assert(cnftl_params_allowed(p) && cnftl_sectors(p) <= sizeof seen);
+    memset(seen, 0, sizeof seen);
+    for (uint32_t region = 0; region < p->mu; region++)
+        for (uint32_t i = 0; i < cnftl_region_sectors(p, region); i++) {
+            uint32_t lba = cnftl_region_lba(p, region, i);
+
+            assert(lba < cnftl_sectors(p) && seen[lba] == 0);
+            seen[lba] = 1;
+            assert(i == 0 || cnftl_region_lba(p, region, i - 1) < lba);
+            assert(cnftl_region_of(p, lba) == region);
+        }
+    for (uint32_t lba = 0; lba < cnftl_sectors(p); lba++)
+        assert(seen[lba] == 1);
+}
+
+/* The sectors of the regions: on Board T, where one region has it all, where
+   regions differ by a cluster, where some have none, on the README's small
+   board, in document 01's case (j), and on a board of 1,048,576 sectors. */
+static void check_regions(void)
+{
+    static const struct cnftl_params boards[] = {
+        { 16, 2, 1, 2, 2, 2, 6, 5 }, { 16, 3, 2, 2, 1, 3, 11, 4 },
+        { 16, 3, 1, 4, 3, 2, 10, 7 }, { 16, 2, 1, 4, 5, 1, 3, 6 },
+        { 512, 4, 4, 4, 4, 4, 252, 20 }, { 16, 4, 1, 2, 512, 4, 1000, 2049 },
+        { 16, 1, 16, 16, 1024, 16, 1048576, 16385 }
+    };
+
+    for (size_t i = 0; i < sizeof boards / sizeof boards[0]; i++)
+        check_regions_of(&boards[i]);
+    assert(cnftl_region_lba(&boards[0], 0, 2) == 4);
+    assert(cnftl_region_lba(&boards[0], 1, 5) == 11);
+    assert(cnftl_region_sectors(&boards[2], 0) == 12);
+    assert(cnftl_region_sectors(&boards[2], 1) == 9);
+    assert(cnftl_region_sectors(&boards[3], 2) == 2);
+    assert(cnftl_region_sectors(&boards[3], 3) == 0);
+    assert(cnftl_region_of(&boards[5], 2093) == 11);
+}
+
+/* The README's small board: the bytes of its tables, and its sizing table, with
+   fewer and fewer clusters. */
 static void check_figures(void)
 {
     static const struct {
@@ -368,8 +416,9 @@ static void check_figures(void)
         { 252, 516096, 1, 1 }, { 240, 491520, 4, 1 }, { 224, 458752, 8, 2 },
         { 192, 393216, 16, 4 }, { 160, 327680, 24, 6 }, { 128, 262144, 32, 8 }
     };
-    struct cnftl_params p = { 512, 4, 4, 4, 4, 4, 0, 20 };
+    struct cnftl_params p = { 512, 4, 4, 4, 4, 4, 252, 20 };
 
+    assert(cnftl_table_bytes(&p) == 1156);
     for (size_t i = 0; i < sizeof rows / sizeof rows[0]; i++) {
         p.c = rows[i].c;
         assert(cnftl_params_allowed(&p));
@@ -407,6 +456,7 @@ static void check_uneven_figures(void)
 int main(void)
 {
     check_sizes();
+    check_regions();
     check_figures();
     check_uneven_figures();
     check_session();
