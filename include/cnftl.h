@@ -335,6 +335,56 @@ static inline uint32_t cnftl_erases_of(uint64_t answer)
     return (uint32_t)(answer >> 32);
 }
 
+/* A reply in words. */
+static inline const char *cnftl_reply_text(uint32_t reply)
+{
+    switch (reply) {
+    case CNFTL_ACCEPTED:        return "accepted";
+    case CNFTL_BAD_PARAMETER:   return "a parameter is not allowed";
+    case CNFTL_WRONG_LENGTH:    return "chip, table or list of wrong length";
+    case CNFTL_BAD_COUNT:       return "the count is 0 or leaves the cluster";
+    case CNFTL_BAD_ADDRESS:     return "the address is past the end";
+    case CNFTL_WRONG_DATA:      return "the data does not fit the count";
+    case CNFTL_TOO_FEW_BLOCKS:  return "too few good blocks";
+    case CNFTL_NOT_ORDERLY:     return "the board is not orderly";
+    case CNFTL_TOO_FEW_ANSWERS: return "fewer places for answers than requests";
+    default:                    return "unknown reply";
+    }
+}
+
+/* A broken rule of an orderly state in words: what is wrong. */
+static inline const char *cnftl_rule_text(uint32_t rule)
+{
+    switch (rule) {
+    case CNFTL_RULE_NONE:
+        return "no rule is broken";
+    case CNFTL_RULE_BST:
+        return "a BST entry is not 0, 1 or 2";
+    case CNFTL_RULE_BT:
+        return "a BT entry is neither none nor a block of the chip";
+    case CNFTL_RULE_TWICE:
+        return "BT names a block twice";
+    case CNFTL_RULE_USED:
+        return "a block is used and not named by BT, or named and not used";
+    case CNFTL_RULE_ENOUGH:
+        return "too few blocks are not reserved";
+    case CNFTL_RULE_FREE:
+        return "a free block is not erased throughout";
+    case CNFTL_RULE_USED_BLOCK:
+        return "a used block does not begin with frames of its region "
+               "and go on erased";
+    case CNFTL_RULE_FST:
+        return "FST does not name the open block's last segment, or two "
+               "blocks are not full";
+    case CNFTL_RULE_CT:
+        return "a CT entry names a segment that does not hold its cluster";
+    case CNFTL_RULE_MARKS:
+        return "a mark is 1 where no frame is valid, or 0 where one is";
+    default:
+        return "unknown rule";
+    }
+}
+
 /*
  * 1 if the parameters are allowed, else 0: the calls answer reply 1 exactly
  * when this is 0.

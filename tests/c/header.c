@@ -343,6 +343,29 @@ static void check_replies(void)
               CNFTL_NOT_ORDERLY, 0, 0));
 }
 
+/* The texts: one for each reply and each rule, no two alike, and one for all
+   other numbers. */
+static void check_texts(void)
+{
+    for (uint32_t i = 0; i <= CNFTL_TOO_FEW_ANSWERS; i++)
+        for (uint32_t j = 0; j <= i; j++)
+            assert((strcmp(cnftl_reply_text(i), cnftl_reply_text(j)) == 0)
+                   == (i == j));
+    for (uint32_t i = 0; i <= CNFTL_RULE_MARKS; i++)
+        for (uint32_t j = 0; j <= i; j++)
+            assert((strcmp(cnftl_rule_text(i), cnftl_rule_text(j)) == 0)
+                   == (i == j));
+    assert(strcmp(cnftl_reply_text(CNFTL_ACCEPTED), "accepted") == 0);
+    assert(strcmp(cnftl_reply_text(CNFTL_NOT_ORDERLY),
+                  "the board is not orderly") == 0);
+    assert(strcmp(cnftl_reply_text(9), "unknown reply") == 0);
+    assert(strcmp(cnftl_reply_text(UINT32_MAX), "unknown reply") == 0);
+    assert(strcmp(cnftl_rule_text(CNFTL_RULE_TWICE),
+                  "BT names a block twice") == 0);
+    assert(strcmp(cnftl_rule_text(11), "unknown rule") == 0);
+    assert(strcmp(cnftl_rule_text(UINT32_MAX), "unknown rule") == 0);
+}
+
 /* The sizes of Board T. */
 static void check_sizes(void)
 {
@@ -456,6 +479,7 @@ static void check_uneven_figures(void)
 int main(void)
 {
     check_sizes();
+    check_texts();
     check_regions();
     check_figures();
     check_uneven_figures();
