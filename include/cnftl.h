@@ -47,7 +47,7 @@
  *     boards may run at the same time.
  *   - A board is used with the same parameters in every call.
  *
- * Example (link with libcnftl.a):
+ * Example (C99; include stdio.h and string.h, and link with libcnftl.a):
  *
  *   static uint8_t  chip[640];           // cnftl_chip_bytes
  *   static uint16_t ct[6], bt[4], fst[2];
@@ -55,7 +55,10 @@
  *   static uint32_t wear[5];             // 0: no block was erased yet
  *   static uint64_t marks[16];           // cnftl_marks_entries
  *   static const struct cnftl_board board = {
- *       { 16, 2, 1, 2, 2, 2, 6, 5 }, chip, ct, bt, fst, bst, wear, marks
+ *       .params = { .s = 16, .alpha = 2, .beta = 1, .d = 2,
+ *                   .mu = 2, .gamma = 2, .c = 6, .n = 5 },
+ *       .chip = chip, .ct = ct, .bt = bt, .fst = fst,
+ *       .bst = bst, .wear = wear, .marks = marks
  *   };
  *   uint8_t  sector[16];
  *   uint64_t a;
@@ -66,8 +69,9 @@
  *       return 1;
  *   memset(sector, 17, sizeof sector);
  *   a = cnftl_board_write(&board, 3, 1, sector, sizeof sector);
- *   a = cnftl_board_read(&board, 3, 1, sector, sizeof sector);
- *   printf("%u\n", (unsigned)cnftl_reply_of(a));
+ *   if (cnftl_reply_of(a) == CNFTL_ACCEPTED)
+ *       a = cnftl_board_read(&board, 3, 1, sector, sizeof sector);
+ *   printf("%s\n", cnftl_reply_text(cnftl_reply_of(a)));
  */
 #ifndef CNFTL_H
 #define CNFTL_H
