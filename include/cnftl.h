@@ -9,35 +9,40 @@
  * There are six calls: cnftl_format, cnftl_read, cnftl_write, cnftl_queue,
  * cnftl_release and cnftl_why.  Each one returns for every request and for
  * every content of the lent memory.  What cannot be done is refused by number,
- * and a refusal changes no lent byte; only the list of a cnftl_why is filled
- * with reply 7 too.
+ * and a refusal changes no lent byte, but for two lists: that of a cnftl_why is
+ * filled with reply 7 too, and a queue writes the answer of a refused item.
  *
  * Which sectors belong to a region: sector lba is in cluster lba / alpha, and
  * cluster k is in region k mod mu.  So the sectors of a region, which are those
- * of one ledger, are not contiguous: they come in runs of alpha, and the runs
- * begin mu*alpha sectors apart.  With alpha 2 and mu 2, region 0 has sectors
- * 0, 1, 4, 5, 8, 9 and so on, and region 1 has 2, 3, 6, 7, 10, 11 and so on.
- * cnftl_region_of, cnftl_region_sectors and cnftl_region_lba work it out.
+ * of one ledger, are not contiguous unless mu is 1: they come in runs of alpha,
+ * and the runs begin mu*alpha sectors apart.  With alpha 2 and mu 2, region 0
+ * has sectors 0, 1, 4, 5, 8, 9 and so on, and region 1 has 2, 3, 6, 7, 10, 11
+ * and so on.  cnftl_region_of, cnftl_region_sectors and cnftl_region_lba work
+ * it out.
  *
  * A slice passes as a pointer and then a length in ELEMENTS (bytes for chip,
  * bst and data; 16-bit entries for ct, bt and fst; 32-bit entries for wear,
  * list and requests; 64-bit entries for marks and answers).
  *
- * What the tables say (regions, virtual blocks and frames count from 0):
+ * What the tables say (regions, virtual blocks and frames count from 0; so do
+ * segments, within their region: segment g is in virtual block g / d, and its
+ * beta frames begin there with frame (g mod d)*beta):
  *   - ct: for each cluster its segment.  bt: for each region and virtual block,
  *     region first, its physical block.  fst: for each region the segment last
  *     written.  CNFTL_NONE is none in all three.
  *   - bst: for each physical block a cnftl_block_state.  wear: for each
- *     physical block the erases so far.
- *   - marks: one bit for each frame, 1 exactly if the frame is valid, that is,
- *     if it holds what its cluster reads as.  Each region and virtual block has
- *     CNFTL_MARK_WORDS words, region first: frame f of virtual block v of
- *     region r is bit f % 64, UINT64_C(1) << f % 64, of entry
+ *     physical block the number of its erases, which stays at 4,294,967,295
+ *     once there.
+ *   - marks: one bit for each frame, 1 exactly if the frame is valid: it is
+ *     programmed, the CT entry of its cluster names its segment, and no later
+ *     frame of that segment holds the same cluster.  Each region and virtual
+ *     block has CNFTL_MARK_WORDS words, region first: frame f of virtual block
+ *     v of region r is bit f % 64, UINT64_C(1) << f % 64, of entry
  *     CNFTL_MARK_WORDS*(r*gamma + v) + f/64.  All other bits are 0.
  *
  * What the caller answers for:
  *   - Every pointer is non-null and aligned for its element type, even when
- *     its length is 0.
+ *     its length is 0; that of an empty list of requests too.
  *   - Each slice is really as long as its length says.
  *   - No two slices of one call overlap: not two tables, not a table and the
  *     chip, and not the data, the list, the requests or the answers and any
@@ -64,7 +69,7 @@
  *   uint64_t a;
  *
  *   memset(chip, 255, sizeof chip);      // a new chip is all ones
- *   a = cnftl_board_format(&board);      // once in the life of a ledger
+ *   a = cnftl_board_format(&board);      // once, before the first write
  *   if (cnftl_reply_of(a) != CNFTL_ACCEPTED)
  *       return 1;
  *   memset(sector, 17, sizeof sector);
@@ -83,7 +88,12 @@
 extern "C" {
 #endif
 
-/* Spare bytes that follow the s data bytes of each page. */
+/*
+ * Spare bytes that follow the s data bytes of each page.  On a programmed page
+ * 0 to 3 are the cluster's number, low byte first, 4 is the sector's place in
+ * its cluster, 5 is 255, 6 is 0, and 7 to 15 are 255.  An erased page is 255
+ * throughout.
+ */
 #define CNFTL_SPARE_BYTES 16u
 
 /* "None" in CT, BT and FST. */
@@ -95,7 +105,7 @@ extern "C" {
 /*
  * The eight parameters of a board.  With F = beta*d frames in a block and
  * P = alpha*F pages in a block, P is at most 256 and c/mu rounded up is at
- * most gamma*F - 1.
+ * most gamma*F - 1.  The alpha pages of a frame hold one cluster in order.
  */
 struct cnftl_params {
     uint32_t s;     /* bytes of a sector,             16 to 512       */
@@ -119,9 +129,11 @@ enum cnftl_reply {
     CNFTL_WRONG_LENGTH = 2,   /* chip, table or list of the wrong length    */
     CNFTL_BAD_COUNT = 3,      /* count 0, or past the end of the cluster    */
     CNFTL_BAD_ADDRESS = 4,    /* lba is c*alpha or more, a cluster c or more*/
-    CNFTL_WRONG_DATA = 5,     /* data length is not count*s                 */
+    CNFTL_WRONG_DATA = 5,     /* data length is not count*s; of an item of a
+                                 queue: its count*s bytes, from first on, do
+                                 not lie in data                            */
     CNFTL_TOO_FEW_BLOCKS = 6, /* fewer than mu*gamma+1 blocks are not bad   */
-    CNFTL_NOT_ORDERLY = 7,    /* chip and tables do not fit together        */
+    CNFTL_NOT_ORDERLY = 7,    /* chip and tables break a cnftl_rule         */
     CNFTL_TOO_FEW_ANSWERS = 8 /* fewer places for answers than requests     */
 };
 
@@ -136,7 +148,7 @@ enum cnftl_block_state {
 enum cnftl_why_entry {
     CNFTL_WHY_REPLY = 0,    /* the reply, 0 or 7                            */
     CNFTL_WHY_RULE = 1,     /* with reply 7 the first rule broken, else 0   */
-    CNFTL_WHY_HELD = 2,     /* 1 if a frame holds the cluster, else 0       */
+    CNFTL_WHY_HELD = 2,     /* 1 if a valid frame has the cluster, else 0   */
     CNFTL_WHY_REGION = 3,   /* where it is held: region,                    */
     CNFTL_WHY_SEGMENT = 4,  /*   segment, counted within the region,        */
     CNFTL_WHY_VIRTUAL = 5,  /*   virtual block,                             */
@@ -153,7 +165,8 @@ enum cnftl_why_entry {
 
 /*
  * The rules of an orderly state, in the order in which they are looked at.
- * Each of them relies on those before it.
+ * Each of them relies on those before it.  The blocks of a region are those
+ * that BT names for it, and a block is full if all its F frames are programmed.
  */
 enum cnftl_rule {
     CNFTL_RULE_NONE = 0,       /* no rule is broken                         */
@@ -163,14 +176,20 @@ enum cnftl_rule {
     CNFTL_RULE_USED = 4,       /* a block is used exactly if BT names it    */
     CNFTL_RULE_ENOUGH = 5,     /* mu*gamma+1 blocks or more not reserved    */
     CNFTL_RULE_FREE = 6,       /* free blocks are erased throughout         */
-    CNFTL_RULE_USED_BLOCK = 7, /* a used block: the first frames programmed
-                                  as they should be, the rest erased        */
-    CNFTL_RULE_FST = 8,        /* FST names the open block's last segment,
-                                  and the region's others are full          */
-    CNFTL_RULE_CT = 9,         /* CT is none or names a segment that holds
-                                  the cluster                               */
+    CNFTL_RULE_USED_BLOCK = 7, /* in a used block of a region the first k
+                                  frames, k from 1 to F, are programmed with
+                                  clusters below c of that region and with
+                                  their spare bytes; the rest is erased     */
+    CNFTL_RULE_FST = 8,        /* FST is none exactly if the region has no
+                                  block; else it is the segment of the last
+                                  programmed frame of one of its blocks, the
+                                  open block, and every other block of the
+                                  region is full                            */
+    CNFTL_RULE_CT = 9,         /* a CT entry is none or names a segment of its
+                                  region that holds a programmed frame of the
+                                  cluster                                   */
     CNFTL_RULE_MARKS = 10      /* a frame's mark is 1 exactly if the frame is
-                                  valid, and all other marks are 0          */
+                                  valid, and all other bits are 0           */
 };
 
 /* What a write would do for its frame. */
@@ -183,9 +202,9 @@ enum cnftl_why_write {
 /*
  * Format.  A block is bad if spare byte 5 of its first page, or of its second
  * page where a block has two, is not 255: it becomes reserved and is not
- * touched.  All others are erased and become
- * free, and their wear goes up by one.  CT, BT and FST become none, and all
- * marks 0.  The wear lent must be the board's wear so far (0 for a new chip).
+ * touched.  All others are erased and become free, and the wear of each goes up
+ * by one unless it is 4,294,967,295.  CT, BT and FST become none, and all marks
+ * 0.  The wear lent must be the board's wear so far (0 for a new chip).
  * Replies 1, 2, 6, 0.  Counts: 0 programs, one erase for each block not bad.
  */
 uint64_t cnftl_format(uint32_t s, uint32_t alpha, uint32_t beta, uint32_t d,
@@ -201,7 +220,8 @@ uint64_t cnftl_format(uint32_t s, uint32_t alpha, uint32_t beta, uint32_t d,
 /*
  * Read count sectors from sector lba on into data.  They must lie in one
  * cluster (lba mod alpha + count is at most alpha) and data_len must be
- * count*s.  A sector that was never written reads as 255 throughout.
+ * count*s.  A sector that was not written since the format, or since the last
+ * release of its cluster, reads as 255 throughout.
  * Replies 1, 2, 3, 4, 5, 7, 0.  Counts: 0 and 0.  Writes data only, and that
  * only with reply 0.
  */
@@ -250,12 +270,15 @@ struct cnftl_request {
  * goes into the place of its request, and it is the one that a cnftl_write of
  * the request's count*s bytes of data, from its first on, would give at its
  * turn; chip and tables become what those writes would make of them.  A
- * request that is refused (3, 4, 5 or 7) changes nothing and the next goes on;
- * 5 is for bytes that do not lie in data.  Answers past the last request stay
- * as they are.
+ * request that is refused (3, 4, 5 or 7) gets its answer too, changes nothing
+ * else, and the next goes on.  5 is for bytes that do not lie in data, which
+ * may be longer than the requests need.  Answers past the last request stay as
+ * they are.
  * Replies of the call itself: 1, 2 (also where requests_len is no multiple of
  * three), 8 (answers_len is less than the number of requests), which leave the
- * answers as they are, and 0.  Its own counts: 0 and 0.
+ * answers as they are, and else 0.  Its own counts: 0 and 0.  On a board that
+ * is not orderly the call itself answers 0 too, and each request 3, 4, 5 or
+ * else 7.
  */
 uint64_t cnftl_queue(uint32_t s, uint32_t alpha, uint32_t beta, uint32_t d,
                      uint32_t mu, uint32_t gamma, uint32_t c, uint32_t n,
@@ -290,13 +313,13 @@ uint64_t cnftl_release(uint32_t s, uint32_t alpha, uint32_t beta, uint32_t d,
 
 /*
  * Why sector lba reads as it does, and what a write of it would do.  The list
- * must have CNFTL_WHY_ENTRIES entries; with reply 0 and 7 all of them are
- * filled, with the others the list stays as it was.  With reply 7 entry
- * CNFTL_WHY_RULE is the first rule of an orderly state that is broken, and
- * those after it are 0.  With reply 0 the entries say where the sector's
- * cluster is held, and give the forecast of a write: a cnftl_write of sectors
- * of this cluster that is accepted as the next call takes frame
- * CNFTL_WHY_TAKES of virtual block CNFTL_WHY_TARGET, programs
+ * must have CNFTL_WHY_ENTRIES entries; another list_len is reply 2, after 1.
+ * With reply 0 and 7 all entries are filled, with the others the list stays as
+ * it was.  With reply 7 entry CNFTL_WHY_RULE is the first rule of an orderly
+ * state that is broken, and those after it are 0.  With reply 0 the entries say
+ * where the sector's cluster is held, and give the forecast of a write: a
+ * cnftl_write of sectors of this cluster that is accepted as the next call
+ * takes frame CNFTL_WHY_TAKES of virtual block CNFTL_WHY_TARGET, programs
  * alpha*(CNFTL_WHY_COPIES + 1) pages, and erases 1 block exactly if
  * CNFTL_WHY_WRITE is CNFTL_WRITE_RECLAIMS.  CNFTL_WHY_LOOKS is the number of
  * spare areas that such a write, or a cnftl_read of this cluster as the next
@@ -568,7 +591,12 @@ static inline uint64_t cnftl_board_write(const struct cnftl_board *b,
     return cnftl_write(CNFTL_BOARD(b), lba, count, data, data_len);
 }
 
-/* The requests as structs; there is an answer for each of them. */
+/*
+ * The requests as structs; there is an answer for each of them.  With 0
+ * requests nothing is read or written through requests, data and answers, but
+ * none of them may be null: pass the address of any cnftl_request, uint8_t and
+ * uint64_t, and data_len 0.
+ */
 static inline uint64_t cnftl_board_queue(const struct cnftl_board *b,
                                          const struct cnftl_request *requests,
                                          size_t requests_count,

@@ -189,13 +189,16 @@ static void check_release(void)
     assert(is(cnftl_board_release(&board, 5), CNFTL_NOT_ORDERLY, 0, 0));
 }
 
-/* A queue: each item as a single write in its turn, and the replies that the
-   call itself has. */
+/* The items of the queues below, over 32 bytes of data: the first and the last
+   are good, and between them each is refused for a reason of its own. */
+static const struct cnftl_request requests[5] = {
+    { 0, 2, 0 }, { 1, 2, 0 }, { 12, 1, 0 }, { 4, 1, 17 }, { 4, 1, 16 }
+};
+
+/* A queue: each item as a single write in its turn, the replies that the call
+   itself has, and a queue of no items. */
 static void check_queue(void)
 {
-    static const struct cnftl_request requests[5] = {
-        { 0, 2, 0 }, { 1, 2, 0 }, { 12, 1, 0 }, { 4, 1, 17 }, { 4, 1, 16 }
-    };
     uint64_t answers[6] = { 9, 9, 9, 9, 9, 9 };
 
     new_board();
@@ -217,16 +220,32 @@ static void check_queue(void)
     assert(is(cnftl_queue(CNFTL_BOARD(&board), &requests->lba, 14, data, 32,
                           answers + 5, 1), CNFTL_WRONG_LENGTH, 0, 0));
     assert(answers[5] == 9);
-    fst[0] = CNFTL_NONE;
+    assert(is(cnftl_board_queue(&board, requests, 0, data, 0, answers + 5),
+              CNFTL_ACCEPTED, 0, 0));
+    assert(answers[5] == 9);
+}
+
+/* A queue on a board that is not orderly: the call itself answers 0, and each
+   item has an answer, 7 unless it is refused before that. */
+static void check_disordered_queue(void)
+{
+    static const uint32_t replies[5] = {
+        CNFTL_NOT_ORDERLY, CNFTL_BAD_COUNT, CNFTL_BAD_ADDRESS,
+        CNFTL_WRONG_DATA, CNFTL_NOT_ORDERLY
+    };
+    uint64_t answers[5] = { 9, 9, 9, 9, 9 };
+
+    new_board();
+    assert(is(cnftl_board_format(&board), CNFTL_ACCEPTED, 0, 5));
+    fst[0] = 0;
     assert(is(cnftl_board_queue(&board, requests, 5, data, 32, answers),
               CNFTL_ACCEPTED, 0, 0));
-    assert(is(answers[0], CNFTL_NOT_ORDERLY, 0, 0));
-    assert(is(answers[3], CNFTL_WRONG_DATA, 0, 0));
+    for (int i = 0; i < 5; i++)
+        assert(is(answers[i], replies[i], 0, 0));
 }
 
 /* Why, on the way of a region of Board T through all that a write can do: it
-   opens, continues and reclaims; then reply 4, 2 for other lists, and 7 with
-   its rule. */
+   opens, continues and reclaims; then reply 4, and 7 with its rule. */
 static void check_why(void)
 {
     static const uint32_t never[CNFTL_WHY_ENTRIES] = {
@@ -257,12 +276,29 @@ static void check_why(void)
     assert(is(cnftl_board_why(&board, 3, list), CNFTL_ACCEPTED, 0, 0));
     assert(memcmp(list, full, sizeof list) == 0);
     assert(is(cnftl_board_why(&board, 12, list), CNFTL_BAD_ADDRESS, 0, 0));
-    assert(is(cnftl_why(CNFTL_BOARD(&board), 12, list, CNFTL_WHY_ENTRIES - 1),
-              CNFTL_WRONG_LENGTH, 0, 0));
     assert(memcmp(list, full, sizeof list) == 0);
     fst[1] = CNFTL_NONE;
     assert(is(cnftl_board_why(&board, 3, list), CNFTL_NOT_ORDERLY, 0, 0));
     assert(memcmp(list, broken, sizeof list) == 0);
+}
+
+/* A list of another length is reply 2, after 1 and before 4, and stays as it
+   was. */
+static void check_list_length(void)
+{
+    uint32_t list[CNFTL_WHY_ENTRIES + 1] = { 9 }, before[CNFTL_WHY_ENTRIES + 1];
+
+    memcpy(before, list, sizeof list);
+    new_board();
+    assert(is(cnftl_board_format(&board), CNFTL_ACCEPTED, 0, 5));
+    for (size_t len = 0; len <= CNFTL_WHY_ENTRIES + 1; len++)
+        if (len != CNFTL_WHY_ENTRIES)
+            assert(is(cnftl_why(CNFTL_BOARD(&board), 12, list, len),
+                      CNFTL_WRONG_LENGTH, 0, 0));
+    board.params.c = 7;
+    assert(is(cnftl_why(CNFTL_BOARD(&board), 12, list, 0),
+              CNFTL_BAD_PARAMETER, 0, 0));
+    assert(memcmp(list, before, sizeof list) == 0);
 }
 
 /* The looks, on Board T with both frames of a block in one segment: none before
@@ -343,15 +379,25 @@ static void check_replies(void)
               CNFTL_NOT_ORDERLY, 0, 0));
 }
 
-/* The texts: one for each reply and each rule, no two alike, and one for all
-   other numbers. */
+/* The wear: a format counts it up, and it stays at its largest number. */
+static void check_wear(void)
+{
+    new_board();
+    wear[0] = 4294967294u;
+    wear[1] = 4294967295u;
+    assert(is(cnftl_board_format(&board), CNFTL_ACCEPTED, 0, 5));
+    assert(wear[0] == 4294967295u && wear[1] == 4294967295u && wear[2] == 1);
+}
+
+/* The texts: one for each reply and each rule, and one for all numbers from the
+   next on; no two alike. */
 static void check_texts(void)
 {
-    for (uint32_t i = 0; i <= CNFTL_TOO_FEW_ANSWERS; i++)
+    for (uint32_t i = 0; i <= CNFTL_TOO_FEW_ANSWERS + 1; i++)
         for (uint32_t j = 0; j <= i; j++)
             assert((strcmp(cnftl_reply_text(i), cnftl_reply_text(j)) == 0)
                    == (i == j));
-    for (uint32_t i = 0; i <= CNFTL_RULE_MARKS; i++)
+    for (uint32_t i = 0; i <= CNFTL_RULE_MARKS + 1; i++)
         for (uint32_t j = 0; j <= i; j++)
             assert((strcmp(cnftl_rule_text(i), cnftl_rule_text(j)) == 0)
                    == (i == j));
@@ -487,9 +533,12 @@ int main(void)
     check_cases();
     check_release();
     check_queue();
+    check_disordered_queue();
     check_why();
+    check_list_length();
     check_looks();
     check_marks();
+    check_wear();
     check_replies();
     printf("header: Board T answers as printed\n");
     return 0;
