@@ -23,8 +23,8 @@ enum { REFUSED = 1, NO_ANSWER = 2 };
 /* The frame that a drawing points at, where it points at none. */
 #define NO_FRAME UINT32_MAX
 
-/* Says what is wrong with the use or the image, and ends. */
-_Noreturn void fail(int fault, const char *format, ...)
+/* Says what is wrong and ends with a status. */
+static _Noreturn void fail(int status, const char *format, ...)
 {
     va_list args;
 
@@ -33,7 +33,7 @@ _Noreturn void fail(int fault, const char *format, ...)
     vfprintf(stderr, format, args);
     fprintf(stderr, "\n");
     va_end(args);
-    exit(fault == REFUSED ? REFUSED : NO_ANSWER);
+    exit(status);
 }
 
 /* A decimal number of 32 bits, or the end of the program. */
@@ -231,6 +231,17 @@ static void tell_write(const struct cnftl_board *b, uint32_t region,
            "meant\n");
 }
 
+/* The board in a file, or the end of the program. */
+static struct cnftl_board load(const char *path)
+{
+    struct cnftl_board b;
+    struct image_result r = image_load(&b, path);
+
+    if (r.fault != IMAGE_FINE)
+        fail(NO_ANSWER, "%s: %s", path, r.message);
+    return b;
+}
+
 /* Loads the board, asks, and tells the answer. */
 int main(int argc, char **argv)
 {
@@ -240,8 +251,7 @@ int main(int argc, char **argv)
     if (argc != 3)
         fail(NO_ANSWER, "use: cnftl-why IMAGE LBA");
     lba = number(argv[2]);
-    if (!image_load(&b, argv[1]))
-        fail(NO_ANSWER, "%s: no such file", argv[1]);
+    b = load(argv[1]);
     reply = cnftl_reply_of(cnftl_board_why(&b, lba, list));
     if (reply == CNFTL_BAD_ADDRESS)
         fail(REFUSED, "sector %lu is refused with reply %lu: the board ends "

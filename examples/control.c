@@ -8,9 +8,10 @@
  * board holds, enters a few new ones, each in a sector of its own, reads them
  * back, and writes the image.
  *
- * Exit status: 0 done, 1 wrong use, 2 the file cannot be read or written,
- * 3 the file is no board image of this version, 4 the image is too short or
- * too long, 5 the layer refused a call, 6 a serial did not read back.
+ * Exit status: 0 done, 1 wrong use, 2 the file cannot be read or written, or
+ * there is no memory for it, 3 the file is no board image of this version,
+ * 4 the image is too short or too long, 5 the layer refused a call, 6 a serial
+ * did not read back.
  */
 #include "image.h"
 
@@ -19,8 +20,11 @@
 #include <stdlib.h>
 #include <string.h>
 
-/* The statuses beside those of image.h, 2 to 4. */
-enum { WRONG_USE = 1, REFUSED = 5, NOT_READ_BACK = 6 };
+/* The exit statuses. */
+enum {
+    DONE = 0, WRONG_USE = 1, NO_ACCESS = 2, NO_BOARD = 3, WRONG_SIZE = 4,
+    REFUSED = 5, NOT_READ_BACK = 6
+};
 enum { NEW_SERIALS = 4, RECORD_BYTES = 15 };
 
 static const struct cnftl_params bench = { 32, 2, 2, 2, 2, 3, 20, 10 };
@@ -31,7 +35,7 @@ struct counts {
 };
 
 /* Says what is wrong and ends with a status. */
-_Noreturn void fail(int status, const char *format, ...)
+static _Noreturn void fail(int status, const char *format, ...)
 {
     va_list args;
 
@@ -70,15 +74,39 @@ static void check(const char *call, uint64_t answer, struct counts *counts)
 
 /* ==== The board ======================================================== */
 
+/* Ends the program, with the status of its fault, unless an image is fine. */
+static void check_image(const char *path, const struct image_result *r)
+{
+    int status = NO_ACCESS;
+
+    if (r->fault == IMAGE_FINE)
+        return;
+    if (r->fault == IMAGE_NO_BOARD)
+        status = NO_BOARD;
+    if (r->fault == IMAGE_WRONG_SIZE)
+        status = WRONG_SIZE;
+    fail(status, "%s: %s", path, r->message);
+}
+
+/* Writes the board to its file. */
+static void save(const char *path, const struct cnftl_board *b)
+{
+    struct image_result r = image_save(b, path);
+
+    check_image(path, &r);
+}
+
 /* A new board of the bench, formatted and saved. */
 static struct cnftl_board format_new(const char *path, struct counts *counts)
 {
-    struct cnftl_board b = image_new_board(&bench);
+    struct cnftl_board b;
+    struct image_result r = image_new_board(&b, &bench);
 
+    check_image(path, &r);
     memset(b.chip, 255, cnftl_chip_bytes(&bench));
     memset(b.wear, 0, cnftl_wear_entries(&bench) * sizeof *b.wear);
     check("format", cnftl_board_format(&b), counts);
-    image_save(&b, path);
+    save(path, &b);
     printf("%s: a new board, %lu blocks erased\n", path, counts->erases);
     return b;
 }
@@ -87,9 +115,11 @@ static struct cnftl_board format_new(const char *path, struct counts *counts)
 static struct cnftl_board open_board(const char *path, struct counts *counts)
 {
     struct cnftl_board b;
+    struct image_result r = image_load(&b, path);
 
-    if (!image_load(&b, path))
+    if (r.fault == IMAGE_NO_FILE)
         return format_new(path, counts);
+    check_image(path, &r);
     return b;
 }
 
@@ -195,11 +225,11 @@ int main(int argc, char **argv)
     if (entered < NEW_SERIALS)
         printf("the board is full\n");
     after = walk(&b, 0, &counts);
-    image_save(&b, argv[1]);
+    save(argv[1], &b);
     printf("%lu serials found, %lu entered, %lu now; "
            "%lu pages programmed, %lu blocks erased\n",
            (unsigned long)before.records, (unsigned long)entered,
            (unsigned long)after.records, counts.programs, counts.erases);
     image_free_board(&b);
-    return 0;
+    return DONE;
 }

@@ -4,11 +4,30 @@
 #include "image.h"
 
 #include <errno.h>
+#include <stdarg.h>
 #include <stdio.h>
 #include <stdlib.h>
 #include <string.h>
 
 enum { VERSION = 2, HEADER_BYTES = 44 };
+
+/* The result where nothing is wrong. */
+static const struct image_result fine = { IMAGE_FINE, "" };
+
+/* The result where something is: the fault and what there is to say of it. */
+static struct image_result wrong(enum image_fault fault, const char *format,
+                                 ...)
+{
+    struct image_result r = { fault, "" };
+    va_list args;
+
+    va_start(args, format);
+    vsnprintf(r.message, sizeof r.message, format, args);
+    va_end(args);
+    return r;
+}
+
+/* ==== Numbers and sizes ================================================ */
 
 /* A little-endian number of a few bytes. */
 static uint64_t get_long(const uint8_t *from, int bytes)
@@ -49,39 +68,32 @@ static void list_params(struct cnftl_params *p, uint32_t *list[8])
 /* Bytes of the whole image. */
 static uint64_t image_bytes(const struct cnftl_params *p)
 {
-    return (uint64_t)HEADER_BYTES + cnftl_chip_bytes(p)
-         + 2 * ((uint64_t)cnftl_ct_entries(p) + cnftl_bt_entries(p)
-                + cnftl_fst_entries(p))
-         + cnftl_bst_entries(p) + 4 * (uint64_t)cnftl_wear_entries(p)
-         + 8 * (uint64_t)cnftl_marks_entries(p);
+    return (uint64_t)HEADER_BYTES + cnftl_chip_bytes(p) + cnftl_table_bytes(p);
 }
 
-/* Memory, or the end of the program. */
-static void *get_memory(size_t bytes)
+/* ==== The memory ======================================================= */
+
+/* The memory of a board of these parameters, all of it or none. */
+struct image_result image_new_board(struct cnftl_board *b,
+                                    const struct cnftl_params *p)
 {
-    void *p = malloc(bytes);
-
-    if (p == NULL)
-        fail(IMAGE_NO_FILE, "no memory for %lu bytes", (unsigned long)bytes);
-    return p;
+    b->params = *p;
+    b->chip = malloc(cnftl_chip_bytes(p));
+    b->ct = malloc(cnftl_ct_entries(p) * sizeof *b->ct);
+    b->bt = malloc(cnftl_bt_entries(p) * sizeof *b->bt);
+    b->fst = malloc(cnftl_fst_entries(p) * sizeof *b->fst);
+    b->bst = malloc(cnftl_bst_entries(p));
+    b->wear = malloc(cnftl_wear_entries(p) * sizeof *b->wear);
+    b->marks = malloc(cnftl_marks_entries(p) * sizeof *b->marks);
+    if (b->chip && b->ct && b->bt && b->fst && b->bst && b->wear && b->marks)
+        return fine;
+    image_free_board(b);
+    return wrong(IMAGE_NO_MEMORY, "no memory for a board of %llu bytes",
+                 (unsigned long long)cnftl_chip_bytes(p)
+                 + cnftl_table_bytes(p));
 }
 
-/* The memory of a board of these parameters. */
-struct cnftl_board image_new_board(const struct cnftl_params *p)
-{
-    struct cnftl_board b = { *p, NULL, NULL, NULL, NULL, NULL, NULL, NULL };
-
-    b.chip = get_memory(cnftl_chip_bytes(p));
-    b.ct = get_memory(cnftl_ct_entries(p) * sizeof *b.ct);
-    b.bt = get_memory(cnftl_bt_entries(p) * sizeof *b.bt);
-    b.fst = get_memory(cnftl_fst_entries(p) * sizeof *b.fst);
-    b.bst = get_memory(cnftl_bst_entries(p));
-    b.wear = get_memory(cnftl_wear_entries(p) * sizeof *b.wear);
-    b.marks = get_memory(cnftl_marks_entries(p) * sizeof *b.marks);
-    return b;
-}
-
-/* Gives it back. */
+/* Gives the memory of a board back. */
 void image_free_board(struct cnftl_board *b)
 {
     free(b->chip);
@@ -93,111 +105,145 @@ void image_free_board(struct cnftl_board *b)
     free(b->marks);
 }
 
-/* Takes bytes from the image; its length was checked before. */
-static void take(FILE *f, const char *path, uint8_t *to, size_t bytes)
+/* ==== Reading ========================================================== */
+
+/* Takes bytes from the image; 0 if it does not give them. */
+static int take(FILE *f, uint8_t *to, size_t bytes)
 {
-    if (fread(to, 1, bytes, f) != bytes)
-        fail(IMAGE_NO_FILE, "%s: cannot be read", path);
+    return fread(to, 1, bytes, f) == bytes;
 }
 
-/* Takes 16-bit entries. */
-static void take_words(FILE *f, const char *path, uint16_t *to, size_t entries)
+/* Takes 16-bit entries, in the same way. */
+static int take_words(FILE *f, uint16_t *to, size_t entries)
 {
     uint8_t two[2];
 
     for (size_t i = 0; i < entries; i++) {
-        take(f, path, two, sizeof two);
+        if (!take(f, two, sizeof two))
+            return 0;
         to[i] = (uint16_t)get_number(two, 2);
     }
+    return 1;
 }
 
-/* Ends the program unless the image is of the version that is read here. */
-static void check_version(const char *path, uint32_t version)
+/* Takes the wear, and then the marks. */
+static int take_wear_and_marks(FILE *f, struct cnftl_board *b)
+{
+    uint8_t four[4], eight[8];
+
+    for (size_t i = 0; i < cnftl_wear_entries(&b->params); i++) {
+        if (!take(f, four, sizeof four))
+            return 0;
+        b->wear[i] = get_number(four, 4);
+    }
+    for (size_t i = 0; i < cnftl_marks_entries(&b->params); i++) {
+        if (!take(f, eight, sizeof eight))
+            return 0;
+        b->marks[i] = get_long(eight, 8);
+    }
+    return 1;
+}
+
+/* Takes the chip and the tables, all that follows the header. */
+static int take_board(FILE *f, struct cnftl_board *b)
+{
+    const struct cnftl_params *p = &b->params;
+
+    return take(f, b->chip, cnftl_chip_bytes(p))
+        && take_words(f, b->ct, cnftl_ct_entries(p))
+        && take_words(f, b->bt, cnftl_bt_entries(p))
+        && take_words(f, b->fst, cnftl_fst_entries(p))
+        && take(f, b->bst, cnftl_bst_entries(p))
+        && take_wear_and_marks(f, b);
+}
+
+/* Looks whether the image is of the version that is read here. */
+static struct image_result check_version(uint32_t version)
 {
     if (version == 1)
-        fail(IMAGE_NO_BOARD, "%s: board image of version 1, which has no table "
-             "of marks; only version %d is read", path, VERSION);
+        return wrong(IMAGE_NO_BOARD, "board image of version 1, which has no "
+                     "table of marks; only version %d is read", VERSION);
     if (version != VERSION)
-        fail(IMAGE_NO_BOARD, "%s: board image of version %lu, not %d", path,
-             (unsigned long)version, VERSION);
+        return wrong(IMAGE_NO_BOARD, "board image of version %lu, not %d",
+                     (unsigned long)version, VERSION);
+    return fine;
 }
 
 /* Takes the header and checks it. */
-static struct cnftl_params take_header(FILE *f, const char *path)
+static struct image_result take_header(FILE *f, struct cnftl_params *p)
 {
     uint8_t header[HEADER_BYTES];
-    struct cnftl_params p;
+    struct image_result r;
     uint32_t *list[8];
     size_t got = fread(header, 1, sizeof header, f);
 
     if (ferror(f))
-        fail(IMAGE_NO_FILE, "%s: cannot be read", path);
+        return wrong(IMAGE_NO_ACCESS, "cannot be read");
     if (got < sizeof header)
-        fail(IMAGE_WRONG_SIZE, "%s: too short for a board image: %lu bytes",
-             path, (unsigned long)got);
+        return wrong(IMAGE_WRONG_SIZE, "too short for a board image: %lu bytes",
+                     (unsigned long)got);
     if (memcmp(header, "CNFTLIMG", 8) != 0)
-        fail(IMAGE_NO_BOARD, "%s: not a board image", path);
-    check_version(path, get_number(header + 8, 4));
-    list_params(&p, list);
+        return wrong(IMAGE_NO_BOARD, "not a board image");
+    r = check_version(get_number(header + 8, 4));
+    if (r.fault != IMAGE_FINE)
+        return r;
+    list_params(p, list);
     for (int i = 0; i < 8; i++)
         *list[i] = get_number(header + 12 + 4 * i, 4);
-    if (!cnftl_params_allowed(&p))
-        fail(IMAGE_NO_BOARD, "%s: its parameters are not allowed", path);
-    return p;
+    if (!cnftl_params_allowed(p))
+        return wrong(IMAGE_NO_BOARD, "its parameters are not allowed");
+    return fine;
 }
 
-/* Checks that the file has the length that its parameters ask for. */
-static void check_size(FILE *f, const char *path, const struct cnftl_params *p)
+/* Looks whether the file has the length that its parameters ask for, and goes
+   on after the header. */
+static struct image_result check_size(FILE *f, const struct cnftl_params *p)
 {
     long size;
 
     if (fseek(f, 0, SEEK_END) != 0 || (size = ftell(f)) < 0
         || fseek(f, HEADER_BYTES, SEEK_SET) != 0)
-        fail(IMAGE_NO_FILE, "%s: cannot be read", path);
+        return wrong(IMAGE_NO_ACCESS, "cannot be read");
     if ((uint64_t)size != image_bytes(p))
-        fail(IMAGE_WRONG_SIZE, "%s: too %s: %ld bytes, not %lu", path,
-             (uint64_t)size < image_bytes(p) ? "short" : "long", size,
-             (unsigned long)image_bytes(p));
+        return wrong(IMAGE_WRONG_SIZE, "too %s: %ld bytes, not %llu",
+                     (uint64_t)size < image_bytes(p) ? "short" : "long", size,
+                     (unsigned long long)image_bytes(p));
+    return fine;
 }
 
 /* Reads a board from an open image. */
-static struct cnftl_board load(FILE *f, const char *path)
+static struct image_result load(struct cnftl_board *b, FILE *f)
 {
-    struct cnftl_params p = take_header(f, path);
-    struct cnftl_board b;
-    uint8_t four[4], eight[8];
+    struct cnftl_params p;
+    struct image_result r = take_header(f, &p);
 
-    check_size(f, path, &p);
-    b = image_new_board(&p);
-    take(f, path, b.chip, cnftl_chip_bytes(&p));
-    take_words(f, path, b.ct, cnftl_ct_entries(&p));
-    take_words(f, path, b.bt, cnftl_bt_entries(&p));
-    take_words(f, path, b.fst, cnftl_fst_entries(&p));
-    take(f, path, b.bst, cnftl_bst_entries(&p));
-    for (size_t i = 0; i < cnftl_wear_entries(&p); i++) {
-        take(f, path, four, sizeof four);
-        b.wear[i] = get_number(four, 4);
+    if (r.fault == IMAGE_FINE)
+        r = check_size(f, &p);
+    if (r.fault == IMAGE_FINE)
+        r = image_new_board(b, &p);
+    if (r.fault == IMAGE_FINE && !take_board(f, b)) {
+        image_free_board(b);
+        r = wrong(IMAGE_NO_ACCESS, "cannot be read");
     }
-    for (size_t i = 0; i < cnftl_marks_entries(&p); i++) {
-        take(f, path, eight, sizeof eight);
-        b.marks[i] = get_long(eight, 8);
-    }
-    return b;
+    return r;
 }
 
 /* Reads the board in the file. */
-int image_load(struct cnftl_board *b, const char *path)
+struct image_result image_load(struct cnftl_board *b, const char *path)
 {
     FILE *f = fopen(path, "rb");
+    struct image_result r;
 
     if (f == NULL && errno == ENOENT)
-        return 0;
+        return wrong(IMAGE_NO_FILE, "no such file");
     if (f == NULL)
-        fail(IMAGE_NO_FILE, "%s: %s", path, strerror(errno));
-    *b = load(f, path);
+        return wrong(IMAGE_NO_ACCESS, "cannot be read: %s", strerror(errno));
+    r = load(b, f);
     fclose(f);
-    return 1;
+    return r;
 }
+
+/* ==== Writing ========================================================== */
 
 /* Puts 16-bit entries down. */
 static void put_words(FILE *f, const uint16_t *from, size_t entries)
@@ -246,24 +292,40 @@ static void put_board(FILE *f, const struct cnftl_board *b)
     }
 }
 
-/* Writes the image beside the old one and puts it in its place. */
-void image_save(const struct cnftl_board *b, const char *path)
+/* Writes the image to a file, and removes what could not be written whole. */
+static struct image_result write_file(const struct cnftl_board *b,
+                                      const char *path)
 {
-    char *beside = get_memory(strlen(path) + sizeof ".new");
-    FILE *f;
+    FILE *f = fopen(path, "wb");
     int bad;
 
-    strcpy(beside, path);
-    strcat(beside, ".new");
-    f = fopen(beside, "wb");
     if (f == NULL)
-        fail(IMAGE_NO_FILE, "%s: %s", beside, strerror(errno));
+        return wrong(IMAGE_NO_ACCESS, "cannot be written: %s",
+                     strerror(errno));
     put_board(f, b);
     bad = ferror(f);
     bad |= fclose(f) != 0;
-    if (bad || rename(beside, path) != 0) {
+    if (!bad)
+        return fine;
+    remove(path);
+    return wrong(IMAGE_NO_ACCESS, "cannot be written whole");
+}
+
+/* Writes the image beside the old one and puts it in its place. */
+struct image_result image_save(const struct cnftl_board *b, const char *path)
+{
+    char *beside = malloc(strlen(path) + sizeof ".new");
+    struct image_result r;
+
+    if (beside == NULL)
+        return wrong(IMAGE_NO_MEMORY, "no memory for the name of its file");
+    strcpy(beside, path);
+    strcat(beside, ".new");
+    r = write_file(b, beside);
+    if (r.fault == IMAGE_FINE && rename(beside, path) != 0) {
+        r = wrong(IMAGE_NO_ACCESS, "cannot be written: %s", strerror(errno));
         remove(beside);
-        fail(IMAGE_NO_FILE, "%s: cannot be written", path);
     }
     free(beside);
+    return r;
 }

@@ -8,25 +8,31 @@
 
 /* What can be wrong with an image. */
 enum image_fault {
-    IMAGE_NO_FILE = 2,   /* the file cannot be read or written, or no memory */
-    IMAGE_NO_BOARD = 3,  /* the file is no board image, or an older one      */
-    IMAGE_WRONG_SIZE = 4 /* the image is too short or too long               */
+    IMAGE_FINE = 0,      /* nothing                                           */
+    IMAGE_NO_FILE = 1,   /* there is no such file                             */
+    IMAGE_NO_ACCESS = 2, /* the file cannot be read or written                */
+    IMAGE_NO_MEMORY = 3, /* there is no memory for the board                  */
+    IMAGE_NO_BOARD = 4,  /* the file is no board image, or of another version */
+    IMAGE_WRONG_SIZE = 5 /* the image is too short or too long                */
 };
 
-/*
- * Says what is wrong and ends the program.  Each program defines it; the
- * functions below call it with one of the faults above.
- */
-_Noreturn void fail(int fault, const char *format, ...);
+/* What the functions below return: the fault, and a line that says more of it
+   and does not name the file.  What to do about it is for the program. */
+struct image_result {
+    enum image_fault fault;
+    char message[120];
+};
 
 /* The memory of a board of these parameters, and its return. */
-struct cnftl_board image_new_board(const struct cnftl_params *p);
+struct image_result image_new_board(struct cnftl_board *b,
+                                    const struct cnftl_params *p);
 void image_free_board(struct cnftl_board *b);
 
-/* Reads the board in a file into new memory; 0 if there is no such file. */
-int image_load(struct cnftl_board *b, const char *path);
+/* Reads the board in a file into new memory; with a fault there is none. */
+struct image_result image_load(struct cnftl_board *b, const char *path);
 
-/* Writes the image beside the old one and puts it in its place. */
-void image_save(const struct cnftl_board *b, const char *path);
+/* Writes the image beside the old one and puts it in its place; with a fault
+   the old one stays. */
+struct image_result image_save(const struct cnftl_board *b, const char *path);
 
 #endif
