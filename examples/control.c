@@ -2,16 +2,19 @@
  * control.c - the bench's control program in miniature.
  *
  *   control IMAGE
+ *   control --help
  *
  * IMAGE is a file with a whole board in it (docs/IMAGE.md).  If there is no
- * such file, a new board is formatted.  The program lists the serials that the
- * board holds, enters a few new ones, each in a sector of its own, reads them
- * back, and writes the image.
+ * such file, a new board is formatted.  Two stations share the board, and each
+ * keeps a ledger of its own serials: ledger 0 in the sectors of region 0 and
+ * ledger 1 in those of region 1.  What goes into one changes no answer about
+ * the other.  The program lists both, enters a few new serials in each, every
+ * one in a sector of its own, reads them back, and writes the image.
  *
  * Exit status: 0 done, 1 wrong use, 2 the file cannot be read or written, or
  * there is no memory for it, 3 the file is no board image of this version,
  * 4 the image is too short or too long, 5 the layer refused a call, 6 a serial
- * did not read back.
+ * did not read back, 7 the board has one region only.
  */
 #include "image.h"
 
@@ -23,11 +26,15 @@
 /* The exit statuses. */
 enum {
     DONE = 0, WRONG_USE = 1, NO_ACCESS = 2, NO_BOARD = 3, WRONG_SIZE = 4,
-    REFUSED = 5, NOT_READ_BACK = 6
+    REFUSED = 5, NOT_READ_BACK = 6, ONE_REGION = 7
 };
-enum { NEW_SERIALS = 4, RECORD_BYTES = 15 };
+enum { LEDGERS = 2, NEW_SERIALS = 3, RECORD_BYTES = 15 };
 
-static const struct cnftl_params bench = { 32, 2, 2, 2, 2, 3, 20, 10 };
+/* The board that is made where there is none. */
+static const struct cnftl_params bench = {
+    .s = 32, .alpha = 2, .beta = 2, .d = 2,
+    .mu = LEDGERS, .gamma = 3, .c = 20, .n = 10
+};
 
 /* What the calls of this run came to. */
 struct counts {
@@ -47,27 +54,14 @@ static _Noreturn void fail(int status, const char *format, ...)
     exit(status);
 }
 
-/* A reply in words. */
-static const char *reply_text(uint32_t reply)
-{
-    static const char *const text[] = {
-        "accepted", "a parameter is not allowed", "a length is wrong",
-        "the count is wrong", "the address is past the end",
-        "the data has the wrong length", "too few blocks are good",
-        "the board is not orderly"
-    };
-
-    return reply < sizeof text / sizeof text[0] ? text[reply] : "unknown reply";
-}
-
 /* Ends the program unless the call was accepted; adds up its counts. */
 static void check(const char *call, uint64_t answer, struct counts *counts)
 {
     uint32_t reply = cnftl_reply_of(answer);
 
     if (reply != CNFTL_ACCEPTED)
-        fail(REFUSED, "%s was refused with reply %u: %s", call,
-             (unsigned)reply, reply_text(reply));
+        fail(REFUSED, "%s was refused with reply %lu: %s", call,
+             (unsigned long)reply, cnftl_reply_text(reply));
     counts->programs += cnftl_programs_of(answer);
     counts->erases += cnftl_erases_of(answer);
 }
@@ -120,6 +114,9 @@ static struct cnftl_board open_board(const char *path, struct counts *counts)
     if (r.fault == IMAGE_NO_FILE)
         return format_new(path, counts);
     check_image(path, &r);
+    if (b.params.mu < LEDGERS)
+        fail(ONE_REGION, "%s: the board has one region, for %d ledgers", path,
+             LEDGERS);
     return b;
 }
 
@@ -146,7 +143,7 @@ static unsigned long serial_in(const uint8_t *sector)
     return strtoul(digits, NULL, 10);
 }
 
-/* Whether a sector was never written. */
+/* Whether a sector is empty: one that was not written reads as 255. */
 static int is_empty(const uint8_t *sector, uint32_t s)
 {
     for (uint32_t i = 0; i < s; i++)
@@ -155,28 +152,40 @@ static int is_empty(const uint8_t *sector, uint32_t s)
     return 1;
 }
 
-/* What a walk over all sectors found. */
+/* ==== The ledgers ====================================================== */
+
+/* What a walk over the sectors of a region found. */
 struct ledger {
+    uint32_t region;      /* the number of the region and of the ledger */
     uint32_t records;     /* sectors with a serial */
-    uint32_t next;        /* the sector after the last one written */
-    unsigned long newest; /* the largest serial */
+    uint32_t next;        /* the place after the last sector written */
+    unsigned long newest; /* the largest serial, or the number before any */
 };
 
-/* Reads every sector; prints the serials if asked. */
-static struct ledger walk(const struct cnftl_board *b, int print,
-                          struct counts *counts)
+/* Prints one line about a sector of a ledger and the serial in it. */
+static void tell(uint32_t region, uint32_t lba, unsigned long serial,
+                 const char *done)
 {
-    struct ledger l = { 0, 0, 1000 };
+    printf("ledger %lu, sector %lu: serial %lu%s\n", (unsigned long)region,
+           (unsigned long)lba, serial, done);
+}
+
+/* Reads every sector of a region; prints the serials if asked. */
+static struct ledger walk(const struct cnftl_board *b, uint32_t region,
+                          int print, struct counts *counts)
+{
+    struct ledger l = { region, 0, 0, 1000ul * (region + 1) };
     uint32_t s = b->params.s;
     uint8_t sector[512];
 
-    for (uint32_t lba = 0; lba < cnftl_sectors(&b->params); lba++) {
+    for (uint32_t i = 0; i < cnftl_region_sectors(&b->params, region); i++) {
+        uint32_t lba = cnftl_region_lba(&b->params, region, i);
         unsigned long serial;
 
         check("read", cnftl_board_read(b, lba, 1, sector, s), counts);
         if (is_empty(sector, s))
             continue;
-        l.next = lba + 1;
+        l.next = i + 1;
         serial = serial_in(sector);
         if (serial == 0)
             continue;
@@ -184,7 +193,7 @@ static struct ledger walk(const struct cnftl_board *b, int print,
         if (serial > l.newest)
             l.newest = serial;
         if (print)
-            printf("sector %lu: serial %lu\n", (unsigned long)lba, serial);
+            tell(region, lba, serial, "");
     }
     return l;
 }
@@ -202,34 +211,63 @@ static void enter(const struct cnftl_board *b, uint32_t lba,
     if (memcmp(record, back, s) != 0)
         fail(NOT_READ_BACK, "sector %lu does not read back",
              (unsigned long)lba);
-    printf("sector %lu: serial %lu entered\n", (unsigned long)lba, serial);
 }
 
-/* Opens the board, lists, enters and counts the serials, saves the board. */
+/* Enters the next serials of a ledger, as far as it has sectors for them, and
+   says how many they were. */
+static uint32_t enter_some(const struct cnftl_board *b, const struct ledger *l,
+                           struct counts *counts)
+{
+    uint32_t sectors = cnftl_region_sectors(&b->params, l->region), i = 0;
+
+    while (i < NEW_SERIALS && l->next + i < sectors) {
+        uint32_t lba = cnftl_region_lba(&b->params, l->region, l->next + i);
+
+        i++;
+        enter(b, lba, l->newest + i, counts);
+        tell(l->region, lba, l->newest + i, " entered");
+    }
+    if (i < NEW_SERIALS)
+        printf("ledger %lu is full\n", (unsigned long)l->region);
+    return i;
+}
+
+/* Lists both ledgers, enters serials in each, and counts what is there then. */
+static void run(const struct cnftl_board *b, struct counts *counts)
+{
+    struct ledger before[LEDGERS];
+    uint32_t entered[LEDGERS];
+
+    for (uint32_t region = 0; region < LEDGERS; region++)
+        before[region] = walk(b, region, 1, counts);
+    for (uint32_t region = 0; region < LEDGERS; region++)
+        entered[region] = enter_some(b, &before[region], counts);
+    for (uint32_t region = 0; region < LEDGERS; region++)
+        printf("ledger %lu: %lu serials found, %lu entered, %lu now\n",
+               (unsigned long)region, (unsigned long)before[region].records,
+               (unsigned long)entered[region],
+               (unsigned long)walk(b, region, 0, counts).records);
+}
+
+/* Opens the board, works on its ledgers, and saves it. */
 int main(int argc, char **argv)
 {
     struct counts counts = { 0, 0 };
     struct cnftl_board b;
-    struct ledger before, after;
-    uint32_t entered = 0;
 
     if (argc != 2)
         fail(WRONG_USE, "use: control IMAGE");
-    b = open_board(argv[1], &counts);
-    before = walk(&b, 1, &counts);
-    while (entered < NEW_SERIALS
-           && before.next + entered < cnftl_sectors(&b.params)) {
-        enter(&b, before.next + entered, before.newest + 1 + entered, &counts);
-        entered++;
+    if (strcmp(argv[1], "--help") == 0) {
+        printf("use: control IMAGE\n"
+               "Lists the two ledgers of serials on the board in the file, "
+               "and enters %d in each.\n", NEW_SERIALS);
+        return DONE;
     }
-    if (entered < NEW_SERIALS)
-        printf("the board is full\n");
-    after = walk(&b, 0, &counts);
+    b = open_board(argv[1], &counts);
+    run(&b, &counts);
     save(argv[1], &b);
-    printf("%lu serials found, %lu entered, %lu now; "
-           "%lu pages programmed, %lu blocks erased\n",
-           (unsigned long)before.records, (unsigned long)entered,
-           (unsigned long)after.records, counts.programs, counts.erases);
+    printf("%lu pages programmed, %lu blocks erased\n", counts.programs,
+           counts.erases);
     image_free_board(&b);
     return DONE;
 }

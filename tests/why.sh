@@ -4,8 +4,7 @@
 set -u
 cd "$(dirname "$0")/.."
 . tests/c/common.sh
-
-build() { "$cc" -std=c11 -O2 "${strict[@]}" ${link[@]+"${link[@]}"} -o "$room/$1" "examples/$1.c" examples/image.c "$archive"; }
+. tests/c/images.sh
 
 # Enters serials in the image until control has run this many times on it.
 runs=0
@@ -27,23 +26,6 @@ tells() {
     diff "$room/expected" "$room/out" && [ "$status" -eq "$1" ] && [ ! -s "$room/err" ] && cmp "$room/before" "$2"
 }
 
-# `complains STATUS TEXT ARGUMENTS` runs the tool; it should print nothing but one line on standard error, with this text in it.
-complains() {
-    local expected=$1 text=$2 status
-    shift 2
-    run "$room/cnftl-why" "$@" >"$room/out" 2>"$room/err"
-    status=$?
-    [ "$status" -eq "$expected" ] && [ ! -s "$room/out" ] && [ "$(wc -l <"$room/err")" -eq 1 ] && grep -q -F -e "$text" "$room/err"
-}
-
-# `put IMAGE OFFSET BYTES` puts bytes, as printf takes them, at an offset (docs/IMAGE.md).
-put() { printf "$3" | dd of="$1" bs=1 seek="$2" conv=notrunc 2>"$room/err"; }
-
-# `broken COPY OFFSET BYTES` copies the image and does so with the copy.
-broken() { cp "$room/board" "$1" && put "$1" "$2" "$3"; }
-ct=3884 fst=3936 bst=3940 marks=3990 # where these tables begin in control's images
-page=48 spare=32                     # bytes of a page, and where its spare area begins; the chip begins at 44
-
 check "control builds" build control
 check "cnftl-why builds" build cnftl-why
 
@@ -55,18 +37,32 @@ It reads from frame 1 of physical block 0,
     segment     0  SV
                     ^
 A read or a write of it looks at 1 spare area: that of frame 1.
-A write continues the open block: it takes frame 2 of virtual block 0,
+A write continues the open block: it takes frame 3 of virtual block 0,
   physical block 0, and programs 2 pages:
     segment     0  SV
-    segment     1  EE
+    segment     1  VE
+                    ^
+V valid, S stale, E erased, one letter a frame; ^ the frame meant
+END
+check "an erased frame is not looked at" tells 0 "$room/board" 6 <<'END'
+Sector 6 is at place 0 of cluster 3, in region 1.
+It reads from frame 2 of physical block 1,
+  which is virtual block 0 of region 1; segment 1 there:
+    segment     1  VE
                    ^
+A read or a write of it looks at 1 spare area: that of frame 2.
+A write continues the open block: it takes frame 3 of virtual block 0,
+  physical block 1, and programs 2 pages:
+    segment     0  SV
+    segment     1  VE
+                    ^
 V valid, S stale, E erased, one letter a frame; ^ the frame meant
 END
 
-# Frame 1 holds cluster 2 in place of cluster 0, so that the two clusters share segment 0.
+# Frame 1 holds cluster 4 in place of cluster 0, so that the two clusters share segment 0.
 shared() {
-    broken "$1" $((44 + 2 * page + spare)) '\002' && put "$1" $((44 + 3 * page + spare)) '\002' &&
-        put "$1" $((ct + 2 * 2)) '\000\000' && put "$1" "$marks" '\003'
+    broken "$1" $((44 + 2 * page + spare)) '\004' && put "$1" $((44 + 3 * page + spare)) '\004' &&
+        put "$1" $((ct + 2 * 4)) '\000\000' && put "$1" "$marks" '\007'
 }
 check "two clusters in one segment" shared "$room/shared"
 check "the frame below the last one" tells 0 "$room/shared" 0 <<'END'
@@ -76,37 +72,24 @@ It reads from frame 0 of physical block 0,
     segment     0  VV
                    ^
 A read or a write of it looks at 2 spare areas: those of frames 1 and 0.
-A write continues the open block: it takes frame 2 of virtual block 0,
+A write continues the open block: it takes frame 3 of virtual block 0,
   physical block 0, and programs 2 pages:
     segment     0  VV
-    segment     1  EE
-                   ^
+    segment     1  VE
+                    ^
 V valid, S stale, E erased, one letter a frame; ^ the frame meant
 END
 check "the last one needs one look" grep -q '^A read or a write of it looks at 1 spare area: that of frame 1.$' \
-    <(run "$room/cnftl-why" "$room/shared" 5)
+    <(run "$room/cnftl-why" "$room/shared" 9)
 
-# Frame 1 is erased, and cluster 0 reads from frame 0 again.
-halved() { broken "$1" $((44 + 2 * page)) "$(printf '\\377%.0s' $(seq $((2 * page))))" && put "$1" "$marks" '\001'; }
-check "a segment whose second frame is erased" halved "$room/halved"
-check "an erased frame is not looked at" tells 0 "$room/halved" 1 <<'END'
-Sector 1 is at place 1 of cluster 0, in region 0.
-It reads from frame 0 of physical block 0,
-  which is virtual block 0 of region 0; segment 0 there:
-    segment     0  VE
-                   ^
-A read or a write of it looks at 1 spare area: that of frame 0.
-A write continues the open block: it takes frame 1 of virtual block 0,
-  physical block 0, and programs 2 pages:
-    segment     0  VE
-                    ^
-    segment     1  EE
-V valid, S stale, E erased, one letter a frame; ^ the frame meant
-END
-
-check "two blocks full" control 2
-check "a sector that was not written, and the write opens a block" tells 0 "$room/board" 39 <<'END'
-Sector 39 is at place 1 of cluster 19, in region 1.
+# Frame 3 holds what frame 2 does, as after one more write of cluster 2; the block is full.
+full() {
+    cp "$room/board" "$1" && put "$1" "$marks" '\012' &&
+        dd if="$room/board" of="$1" bs=1 skip=$((44 + 4 * page)) seek=$((44 + 6 * page)) count=$((2 * page)) conv=notrunc 2>"$room/err"
+}
+check "a full block" full "$room/full"
+check "a sector that was not written, and the write opens a block" tells 0 "$room/full" 37 <<'END'
+Sector 37 is at place 1 of cluster 18, in region 0.
 It reads as 255 throughout: no frame holds its cluster.
 A read or a write of it looks at no spare area.
 A write opens virtual block 1: it takes frame 0 of a free block,
@@ -117,6 +100,7 @@ A write opens virtual block 1: it takes frame 0 of a free block,
 V valid, S stale, E erased, one letter a frame; ^ the frame meant
 END
 
+check "the first block full, the second begun" control 2
 check "a BST entry becomes 3" broken "$room/bst" "$bst" '\003'
 check "rule 1" tells 0 "$room/bst" 5 <<'END'
 Sector 5 is at place 1 of cluster 2, in region 0.
@@ -145,7 +129,7 @@ check "rule 10 for that too" grep -q '^Rule 10 is the first one broken' <(run "$
 check "the marks are those of frames 1 and 3" broken "$room/same" "$marks" '\012'
 check "nothing was changed by that" cmp "$room/board" "$room/same"
 
-check "all blocks full" control 6
+check "all blocks full" control 4
 check "a sector in the third block, and the write reclaims the first" tells 0 "$room/board" 22 <<'END'
 Sector 22 is at place 0 of cluster 11, in region 1.
 It reads from frame 3 of physical block 5,
@@ -160,21 +144,13 @@ A write reclaims virtual block 0: it copies 2 valid frames to a free block,
 V valid, S stale, E erased, one letter a frame; ^ the frame meant
 END
 
-check "a sector past the end" complains 1 "sector 40 is refused with reply 4" "$room/board" 40
-check "a sector far past the end" complains 1 "reply 4" "$room/board" 4294967295
-check "a missing file" complains 2 "$room/nothing: no such file" "$room/nothing" 0
-head -c 4181 "$room/board" >"$room/short"
-check "a short file" complains 2 "too short: 4181 bytes, not 4182" "$room/short" 0
-head -c 20 "$room/board" >"$room/stub"
-check "a file shorter than its header" complains 2 "too short for a board image: 20 bytes" "$room/stub" 0
-check "the first byte becomes an X" broken "$room/other" 0 'X'
-check "a file that is no image" complains 2 "not a board image" "$room/other" 0
-check "the version becomes 1" broken "$room/older" 8 '\001'
-head -c 3990 "$room/older" >"$room/old"
-check "an image from before the marks" complains 2 "board image of version 1, which has no table of marks" "$room/old" 0
-check "the version becomes 3" broken "$room/newer" 8 '\003'
-check "an image of a later version" complains 2 "board image of version 3, not 2" "$room/newer" 0
-check "no sector" complains 2 "use: cnftl-why IMAGE LBA" "$room/board"
-check "a sector that is no number" complains 2 "-1: not a sector number" "$room/board" -1
-check "a sector of more than 32 bits" complains 2 "4294967296: no sector number" "$room/board" 4294967296
+check "a sector past the end" complains 1 "sector 40 is refused with reply 4: the board ends with sector 39" cnftl-why "$room/board" 40
+check "a sector far past the end" complains 1 "sector 4294967295 is refused with reply 4: the board ends with sector 39" \
+    cnftl-why "$room/board" 4294967295
+check "a missing file" complains 2 "$room/nothing: no such file" cnftl-why "$room/nothing" 0
+fault() { check "$2" complains 2 "$2: $3" cnftl-why "$2" 0; }
+each_fault fault
+check "no sector" complains 2 "use: cnftl-why IMAGE LBA" cnftl-why "$room/board"
+check "a sector that is no number" complains 2 "-1: not a sector number" cnftl-why "$room/board" -1
+check "a sector of more than 32 bits" complains 2 "4294967296: no sector number of 32 bits" cnftl-why "$room/board" 4294967296
 counted
