@@ -2,14 +2,16 @@
  * cnftl-why.c - why a sector reads so, and what a write of it would do.
  *
  *   cnftl-why IMAGE LBA
+ *   cnftl-why --help
  *
  * IMAGE is a file with a whole board in it (docs/IMAGE.md), which is read and
  * not changed.  The answer of cnftl_why is printed in words, with a drawing of
  * the frames that it speaks of.
  *
- * Exit status: 0 a diagnosis was given, also of a board that is not orderly,
- * 1 the layer refused the question, 2 wrong use, or the file is missing, no
- * board image of this version, or cannot be read.
+ * Exit status: 0 the answer was given, 1 the layer refused the question, since
+ * the board has no such sector, 2 wrong use, or the file is missing, no board
+ * image of this version, or cannot be read, 3 the board is not orderly, and the
+ * answer is the first rule that it breaks.
  */
 #include "image.h"
 
@@ -18,7 +20,17 @@
 #include <stdlib.h>
 #include <string.h>
 
-enum { REFUSED = 1, NO_ANSWER = 2 };
+/* The exit statuses. */
+enum { ANSWERED = 0, REFUSED = 1, NO_ANSWER = 2, NOT_ORDERLY = 3 };
+
+/* What --help prints. */
+static const char help[] =
+    "use: cnftl-why IMAGE LBA\n"
+    "Says why a sector reads as it does, and what a write of it would do.\n"
+    "  IMAGE  a file with a whole board in it, which is not changed\n"
+    "  LBA    the number of the sector, from 0 on\n"
+    "Exit status: 0 answered, 1 the board has no such sector, 2 wrong use or\n"
+    "no board image, 3 the board is not orderly.\n";
 
 /* The frame that a drawing points at, where it points at none. */
 #define NO_FRAME UINT32_MAX
@@ -132,35 +144,14 @@ static void draw_block(const struct cnftl_board *b, uint32_t virtual_block,
 
 /* ==== The answer ======================================================= */
 
-/* A broken rule in words. */
-static const char *rule_text(uint32_t rule)
-{
-    static const char *const text[] = {
-        "none", "a BST entry is not 0, 1 or 2",
-        "a BT entry is neither none nor a block of the chip",
-        "BT names a block twice",
-        "a block is used and BT does not name it, or the other way round",
-        "too few blocks are not reserved",
-        "a free block is not erased throughout",
-        "a used block does not begin with programmed frames of its region\n"
-        "  and go on erased",
-        "an FST entry does not name the last programmed segment of the open\n"
-        "  block, or another block of the region is not full",
-        "a CT entry names a segment that does not hold its cluster",
-        "a mark is not that of its frame: 1 if the frame is valid, else 0"
-    };
-
-    return rule < sizeof text / sizeof text[0] ? text[rule] : "unknown rule";
-}
-
 /* Tells which rule a board breaks that is not orderly. */
 static void tell_rule(const uint32_t *list)
 {
-    printf("The board is not orderly: every read and write is refused with "
-           "reply %d.\n", CNFTL_NOT_ORDERLY);
+    printf("The board is not orderly: no read, write or release is accepted "
+           "(reply %d).\n", CNFTL_NOT_ORDERLY);
     printf("Rule %lu is the first one broken:\n  %s.\n",
            (unsigned long)list[CNFTL_WHY_RULE],
-           rule_text(list[CNFTL_WHY_RULE]));
+           cnftl_rule_text(list[CNFTL_WHY_RULE]));
 }
 
 /* Tells how many spare areas the search for the sector's frame looks at, and of
@@ -242,35 +233,48 @@ static struct cnftl_board load(const char *path)
     return b;
 }
 
+/* Asks about a sector, and ends the program where the layer refuses that. */
+static uint32_t ask(const struct cnftl_board *b, uint32_t lba, uint32_t *list)
+{
+    uint32_t reply = cnftl_reply_of(cnftl_board_why(b, lba, list));
+
+    if (reply == CNFTL_BAD_ADDRESS)
+        fail(REFUSED, "sector %lu is refused with reply %lu: the board ends "
+             "with sector %lu", (unsigned long)lba, (unsigned long)reply,
+             (unsigned long)cnftl_sectors(&b->params) - 1);
+    if (reply != CNFTL_ACCEPTED && reply != CNFTL_NOT_ORDERLY)
+        fail(REFUSED, "sector %lu is refused with reply %lu: %s",
+             (unsigned long)lba, (unsigned long)reply,
+             cnftl_reply_text(reply));
+    return reply;
+}
+
 /* Loads the board, asks, and tells the answer. */
 int main(int argc, char **argv)
 {
-    uint32_t list[CNFTL_WHY_ENTRIES], lba, reply, cluster;
+    uint32_t list[CNFTL_WHY_ENTRIES], lba, reply, region;
     struct cnftl_board b;
 
+    if (argc == 2 && strcmp(argv[1], "--help") == 0) {
+        fputs(help, stdout);
+        return ANSWERED;
+    }
     if (argc != 3)
         fail(NO_ANSWER, "use: cnftl-why IMAGE LBA");
     lba = number(argv[2]);
     b = load(argv[1]);
-    reply = cnftl_reply_of(cnftl_board_why(&b, lba, list));
-    if (reply == CNFTL_BAD_ADDRESS)
-        fail(REFUSED, "sector %lu is refused with reply %lu: the board ends "
-             "with sector %lu", (unsigned long)lba, (unsigned long)reply,
-             (unsigned long)cnftl_sectors(&b.params) - 1);
-    if (reply != CNFTL_ACCEPTED && reply != CNFTL_NOT_ORDERLY)
-        fail(REFUSED, "sector %lu is refused with reply %lu",
-             (unsigned long)lba, (unsigned long)reply);
-    cluster = lba / b.params.alpha;
+    reply = ask(&b, lba, list);
+    region = cnftl_region_of(&b.params, lba);
     printf("Sector %lu is at place %lu of cluster %lu, in region %lu.\n",
            (unsigned long)lba, (unsigned long)(lba % b.params.alpha),
-           (unsigned long)cluster, (unsigned long)(cluster % b.params.mu));
+           (unsigned long)(lba / b.params.alpha), (unsigned long)region);
     if (reply == CNFTL_NOT_ORDERLY) {
         tell_rule(list);
     } else {
         tell_read(&b, list);
         tell_looks(list);
-        tell_write(&b, cluster % b.params.mu, list);
+        tell_write(&b, region, list);
     }
     image_free_board(&b);
-    return 0;
+    return reply == CNFTL_NOT_ORDERLY ? NOT_ORDERLY : ANSWERED;
 }

@@ -102,27 +102,26 @@ END
 
 check "the first block full, the second begun" control 2
 check "a BST entry becomes 3" broken "$room/bst" "$bst" '\003'
-check "rule 1" tells 0 "$room/bst" 5 <<'END'
+check "rule 1" tells 3 "$room/bst" 5 <<'END'
 Sector 5 is at place 1 of cluster 2, in region 0.
-The board is not orderly: every read and write is refused with reply 7.
+The board is not orderly: no read, write or release is accepted (reply 7).
 Rule 1 is the first one broken:
   a BST entry is not 0, 1 or 2.
 END
 check "an FST entry becomes none" broken "$room/fst" "$fst" '\377\377'
-check "rule 8" tells 0 "$room/fst" 5 <<'END'
+check "rule 8" tells 3 "$room/fst" 5 <<'END'
 Sector 5 is at place 1 of cluster 2, in region 0.
-The board is not orderly: every read and write is refused with reply 7.
+The board is not orderly: no read, write or release is accepted (reply 7).
 Rule 8 is the first one broken:
-  an FST entry does not name the last programmed segment of the open
-  block, or another block of the region is not full.
+  FST does not name the open block's last segment, or two blocks are not full.
 END
 
 check "frame 0, which is stale, gets a mark beside frames 1 and 3" broken "$room/marked" "$marks" '\013'
-check "rule 10" tells 0 "$room/marked" 5 <<'END'
+check "rule 10" tells 3 "$room/marked" 5 <<'END'
 Sector 5 is at place 1 of cluster 2, in region 0.
-The board is not orderly: every read and write is refused with reply 7.
+The board is not orderly: no read, write or release is accepted (reply 7).
 Rule 10 is the first one broken:
-  a mark is not that of its frame: 1 if the frame is valid, else 0.
+  a mark is 1 where no frame is valid, or 0 where one is.
 END
 check "the mark of frame 1 is lost" broken "$room/unmarked" "$marks" '\010'
 check "rule 10 for that too" grep -q '^Rule 10 is the first one broken' <(run "$room/cnftl-why" "$room/unmarked" 5)
@@ -153,4 +152,10 @@ each_fault fault
 check "no sector" complains 2 "use: cnftl-why IMAGE LBA" cnftl-why "$room/board"
 check "a sector that is no number" complains 2 "-1: not a sector number" cnftl-why "$room/board" -1
 check "a sector of more than 32 bits" complains 2 "4294967296: no sector number of 32 bits" cnftl-why "$room/board" 4294967296
+
+helps() {
+    run "$room/cnftl-why" --help >"$room/out" 2>"$room/err" && grep -q -x -e 'use: cnftl-why IMAGE LBA' "$room/out" &&
+        grep -q -e '3 the board is not orderly' "$room/out" && [ ! -s "$room/err" ]
+}
+check "help" helps
 counted
