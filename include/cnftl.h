@@ -89,6 +89,20 @@ extern "C" {
 #endif
 
 /*
+ * The number of this interface.  It goes up where a call or a table changes,
+ * and it is in the name of a function of the archive: an object that was
+ * compiled with a header of another number does not link.  Where only the types
+ * and sizes of this header are wanted, without the archive, define
+ * CNFTL_UNLINKED before it is included.
+ */
+#define CNFTL_API 1
+uint32_t cnftl_api_1(void);
+#if defined(__GNUC__) && !defined(CNFTL_UNLINKED)
+__attribute__((used)) static uint32_t (*const cnftl_needs_api)(void)
+    = cnftl_api_1;
+#endif
+
+/*
  * Spare bytes that follow the s data bytes of each page.  On a programmed page
  * 0 to 3 are the cluster's number, low byte first, 4 is the sector's place in
  * its cluster, 5 is 255, 6 is 0, and 7 to 15 are 255.  An erased page is 255

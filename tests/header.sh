@@ -19,12 +19,21 @@ example() {
 }
 example >"$room/example.c"
 
+# An object that was compiled with the header of another number: it compiles, and does not link.
+other_number() {
+    mkdir -p "$room/other"
+    sed 's/cnftl_api_1/cnftl_api_0/' include/cnftl.h >"$room/other/cnftl.h"
+    "$cc" -std=c99 -I"$room/other" -c -o "$room/other.o" "$room/example.c" &&
+        ! "$cc" ${link[@]+"${link[@]}"} -o "$room/other.out" "$room/other.o" "$archive" 2>/dev/null
+}
+
 check "the header as C99" "$cc" -std=c99 -O2 "${strict[@]}" ${link[@]+"${link[@]}"} -o "$room/c99" tests/c/header.c "$archive"
 check "its cases" run "$room/c99"
 check "the header as C++" "$cxx" -std=c++17 -O2 "${strict[@]}" ${link[@]+"${link[@]}"} -o "$room/cxx" tests/c/header.cc "$archive"
 check "its cases" run "$room/cxx"
 check "the example of its comment" "$cc" -std=c99 -O2 "${strict[@]}" ${link[@]+"${link[@]}"} -o "$room/example" "$room/example.c" "$archive"
 check "its answer" [ "$(run "$room/example")" = accepted ]
+check "an object of another number links" other_number
 check "the archive's functions: $(offers)" [ "$(offers)" = "$exported " ]
 check "what the archive asks for: $(asks)" [ -z "$(asks)" ]
 counted

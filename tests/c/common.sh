@@ -22,7 +22,7 @@ fi
 strict=(-Wall -Wextra -Werror -pedantic -Iinclude)
 crate=${crate:-cnftl}
 archive=target/staticlib/lib$crate.a
-exported="cnftl_format cnftl_queue cnftl_read cnftl_release cnftl_why cnftl_write" # what the archive offers, sorted
+exported="cnftl_api_1 cnftl_format cnftl_queue cnftl_read cnftl_release cnftl_why cnftl_write" # what the archive offers, sorted
 if [ ! -f "$archive" ] || [ -n "$(find crates crates.txt -newer "$archive" -print -quit)" ]; then
     rt staticlib "$crate" >"$room/staticlib" 2>&1 || cat "$room/staticlib"
 fi

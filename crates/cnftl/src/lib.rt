@@ -9,6 +9,14 @@ ghost use Rattle.c_answer.specs.Packed.{paramsOf};
 ghost use Rattle.cnftl.specs.Packed.{Given};
 ghost use Rattle.cnftl.specs.Listed.{Listed};
 
+// The number of this interface, which is in the name too: an object that was compiled with a header of another number does not link.
+#[no_mangle]
+pub extern "C" fn cnftl_api_1() -> u32
+    ensures { λ n. ⌜ n ≡ 1 ⌝ }
+{
+    1
+}
+
 // Document 01's format.
 #[no_mangle]
 pub extern "C" fn cnftl_format(
