@@ -485,9 +485,9 @@ static void check_figures(void)
         { 252, 516096, 1, 1 }, { 240, 491520, 4, 1 }, { 224, 458752, 8, 2 },
         { 192, 393216, 16, 4 }, { 160, 327680, 24, 6 }, { 128, 262144, 32, 8 }
     };
-    struct cnftl_params p = { 512, 4, 4, 4, 4, 4, 252, 20 };
+    struct cnftl_params p = { 512, 4, 4, 4, 4, 4, 192, 20 };
 
-    assert(cnftl_table_bytes(&p) == 1156);
+    assert(cnftl_table_bytes(&p) == 1036);
     for (size_t i = 0; i < sizeof rows / sizeof rows[0]; i++) {
         p.c = rows[i].c;
         assert(cnftl_params_allowed(&p));
