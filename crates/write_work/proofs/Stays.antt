@@ -21,7 +21,7 @@ use Rattle.rules.proofs.Isolation.{index-low}
 use Rattle.rules.proofs.Sizes.{Sizes}
 use Rattle.rules.proofs.TableFacts.{Tables}
 use Rattle.rules.proofs.Views.{no-block}
-use Rattle.read_work.specs.Lookup.{blockFor, frameFor, lastFor, Lookup, Stands, Within}
+use Rattle.read_work.specs.Lookup.{blockFor, frameFor, lastFor, Stands, Within}
 
 module _ (p : Params) (b : Board) (r : ℕ) (pl : Plan) (still : erasesIn (eraseOps p b r pl) ≡ 0) where
   pub chip-same : replayChip p (b .chip) (roomOps p b r pl) ≡ b .chip
@@ -69,7 +69,7 @@ module _ (p : Params) (z : Sizes p) (b : Board) (t : Tables p b) (r : ℕ) (regi
       go (no e) = getD-set-other (b .bt) (r * p .gamma + planVBlock pl) (r * p .gamma + u) (planBlock p b r pl) none (λ x. e (omega (arith, x)))
 
 -- where the lookup finds the same block, it finds the same frame
-module _ (p : Params) (chip ct bt bt′ : List ℕ) (c : ℕ) (l : Lookup p chip ct bt c) (same : (ctAt ct c ≡ none → ⊥) → blockFor p ct bt′ c ≡ blockFor p ct bt c) (kept : Bool) where
+module _ (p : Params) (chip ct bt bt′ : List ℕ) (c : ℕ) (same : (ctAt ct c ≡ none → ⊥) → blockFor p ct bt′ c ≡ blockFor p ct bt c) (kept : Bool) where
   pub stands-same : (fr : ℕ) → Stands p chip ct bt c kept fr → Stands p chip ct bt′ c kept fr
   unfolding frameFor lastFor
   stands-same fr s = record { has = s .has; at = s .at ∙ go (ℕ-discrete (ctAt ct c) none) }

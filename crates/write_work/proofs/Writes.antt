@@ -273,12 +273,12 @@ module _ (p : Params) (b : Board) (q : Request) (e : replyOf p b (write q) ≡ A
       pub stays : (fr : ℕ) → Stands p (b .chip) (b .ct) (b .bt) c kept fr → Stands p chip₁ ct₁ bt₁ c kept fr
       stays fr s =
           rw (m-r .chipIs, m-r .ctIs, chip-same p b r pl none-erased, ct-same p b r pl none-erased)
-          (stands-same p (b .chip) (b .ct) (b .bt) bt₁ c (lookup-entry c ec) same-block kept fr s)
+          (stands-same p (b .chip) (b .ct) (b .bt) bt₁ c same-block kept fr s)
 
       pub stays-within : (u g fr : ℕ) → Stands p (b .chip) (b .ct) (b .bt) c kept fr → Within p (b .chip) (b .ct) (b .bt) c kept u g → Within p chip₁ ct₁ bt₁ c kept u g
       stays-within u g fr s w =
           rw (m-r .chipIs, m-r .ctIs, chip-same p b r pl none-erased, ct-same p b r pl none-erased)
-          (within-same p (b .chip) (b .ct) (b .bt) bt₁ c (lookup-entry c ec) same-block kept u g (s .has) w)
+          (within-same p (b .chip) (b .ct) (b .bt) bt₁ c same-block kept u g (s .has) w)
 
     pub copied-few : copied < 256
     copied-few = rw (m-r .count) (omega (arith, copies-few p vw pl, mk .base .ready .low, z .short))
