@@ -9,7 +9,7 @@
  * are of the layer and not of the machine, so they are the same under an
  * emulator.  The random numbers are always the same.
  */
-#include "cnftl.h"
+#include "image.h"
 
 #include <stdio.h>
 #include <stdlib.h>
@@ -29,46 +29,21 @@ static uint32_t below(uint32_t n)
     return (uint32_t)((state >> 33) % n);
 }
 
-/* Memory, or the end of the program. */
-static void *get(size_t bytes)
-{
-    void *p = malloc(bytes);
-
-    if (p == NULL) {
-        fprintf(stderr, "sizes: no memory\n");
-        exit(1);
-    }
-    return p;
-}
-
 /* The README's small board with c clusters, all ones and never erased. */
 static struct cnftl_board new_board(uint32_t c)
 {
-    struct cnftl_board b = { .params = { .s = SECTOR, .alpha = 4, .beta = 4,
-                                         .d = 4, .mu = 4, .gamma = 4, .c = c,
-                                         .n = 20 } };
-    const struct cnftl_params *p = &b.params;
+    const struct cnftl_params p = { .s = SECTOR, .alpha = 4, .beta = 4, .d = 4,
+                                    .mu = 4, .gamma = 4, .c = c, .n = 20 };
+    struct cnftl_board b;
+    struct image_result made = image_new_board(&b, &p);
 
-    b.chip = get(cnftl_chip_bytes(p));
-    b.ct = get(cnftl_ct_entries(p) * sizeof *b.ct);
-    b.bt = get(cnftl_bt_entries(p) * sizeof *b.bt);
-    b.fst = get(cnftl_fst_entries(p) * sizeof *b.fst);
-    b.bst = get(cnftl_bst_entries(p) * sizeof *b.bst);
-    b.wear = calloc(cnftl_wear_entries(p), sizeof *b.wear);
-    b.marks = get(cnftl_marks_entries(p) * sizeof *b.marks);
-    memset(b.chip, 255, cnftl_chip_bytes(p));
+    if (made.fault != IMAGE_FINE) {
+        fprintf(stderr, "sizes: %s\n", made.message);
+        exit(1);
+    }
+    memset(b.chip, 255, cnftl_chip_bytes(&p));
+    memset(b.wear, 0, cnftl_wear_entries(&p) * sizeof *b.wear);
     return b;
-}
-
-static void free_board(struct cnftl_board *b)
-{
-    free(b->chip);
-    free(b->ct);
-    free(b->bt);
-    free(b->fst);
-    free(b->bst);
-    free(b->wear);
-    free(b->marks);
 }
 
 /* Ends the program unless a call was accepted. */
@@ -117,7 +92,7 @@ static void measure(uint32_t c, uint64_t writes)
            (unsigned long)(cnftl_sectors(&b.params) * SECTOR),
            (unsigned long)cnftl_writes_per_erase(&b.params, 0),
            (double)programs / (double)writes, (double)erases / (double)writes);
-    free_board(&b);
+    image_free_board(&b);
 }
 
 int main(int argc, char **argv)
