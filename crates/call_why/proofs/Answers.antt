@@ -72,7 +72,17 @@ module _ (p : Params) (b : Board) (lba : ℕ) (h : Answered p b lba) where
   accepted : replyOf p b (write request) ≡ Accepted
   unfolding replyOf rowsOf lentRows accessRows orderRow firstRow badParameter wrongLength badCount wrongData notOrderly request
   accepted =
-      rw (h .ordered .fine, h .ordered .lengths, h .low, h .ordered .tidy, le-ltb (p .alpha) (sectorOf p lba + 1) (omega (arith, mod-lt lba ((sizes p (h .ordered .fine)) .sectors))), length-replicate, one-mul, eq-eqb (p .s) (p .s) refl)
+      rw (
+        h .ordered .fine,
+        h .ordered .lengths,
+        h .low,
+        h .ordered .tidy,
+        le-ltb (p .alpha) (sectorOf p lba + 1)
+            (omega (arith, mod-lt lba ((sizes p (h .ordered .fine)) .sectors))),
+        length-replicate,
+        one-mul,
+        eq-eqb (p .s) (p .s) refl,
+      )
 
   adm : Admitted p b request
   adm = admitted p b request (write-checks p b request accepted)

@@ -74,7 +74,13 @@ module _ (p : Params) (z : Sizes p) (b : Board) (h : OrderlyBoard p b) (c : ℕ)
   holder-small ne =
       let t = holder-true p b h c low ne in (
         omega (arith, mod-lt c (z .regions), z .muHigh),
-        (omega (arith, segment-low p b h c low ne, z .few), (omega (arith, vblock-low p b h c low ne, z .gammaHigh), (omega (arith, t .blockLow, z .blocks), (omega (arith, t .frameLow, z .short), tt)))),
+        (
+          omega (arith, segment-low p b h c low ne, z .few),
+          (
+            omega (arith, vblock-low p b h c low ne, z .gammaHigh),
+            (omega (arith, t .blockLow, z .blocks), (omega (arith, t .frameLow, z .short), tt)),
+          ),
+        ),
       )
 
   looks-small : looksAt p b c < 4294967296
@@ -88,7 +94,8 @@ module _ (p : Params) (z : Sizes p) (b : Board) (h : OrderlyBoard p b) (c : ℕ)
   unfolding foundOf forecastOf
   found-small v f =
       small-append (cond (eqb (ctAt (b .ct) c) none) (replicate 8 0) (0 ∷ 0 ∷ 1 ∷ holderOf p b c)) _ (go (ℕ-discrete (ctAt (b .ct) c) none))
-      (small-append (planNumbers p (view p b (regionOf p c)) (planOf p (view p b (regionOf p c)))) (looksAt p b c ∷ []) (plan-small p _ _ (omega (arith, v, z .gammaHigh)) (omega (arith, f, z .short))) (looks-small, tt))
+      (small-append (planNumbers p (view p b (regionOf p c)) (planOf p (view p b (regionOf p c)))) (looksAt p b c ∷ [])
+      (plan-small p _ _ (omega (arith, v, z .gammaHigh)) (omega (arith, f, z .short))) (looks-small, tt))
     where
       go : Dec (ctAt (b .ct) c ≡ none) → Small (cond (eqb (ctAt (b .ct) c) none) (replicate 8 0) (0 ∷ 0 ∷ 1 ∷ holderOf p b c))
       go (yes e) = rw (eq-eqb (ctAt (b .ct) c) none e) (omega arith)

@@ -27,7 +27,8 @@ use Rattle.check_rules.proofs.Same.{Names}
 pub name-low : (p : Params) (chip bt : List ℕ) → Lent p chip bt → (r v n : ℕ) → r < p .mu → v < p .gamma → n ≡ btAt p bt r v → (n ≡ none → ⊥) → n < p .N
 unfolding btRule btAt
 name-low p chip bt t r v n hr hv e ne =
-    go (or-cases (eqb (btEntry bt (r * p .gamma + v)) none) (all-at (p .mu * p .gamma) (λ i. eqb (btEntry bt i) none || ltb (btEntry bt i) (p .N)) (t .names) (r * p .gamma + v) (entry-in (p .mu * p .gamma) (p .mu) (p .gamma) r v refl hr hv)))
+    go (or-cases (eqb (btEntry bt (r * p .gamma + v)) none) (all-at (p .mu * p .gamma) (λ i. eqb (btEntry bt i) none || ltb (btEntry bt i) (p .N)) (t .names)
+    (r * p .gamma + v) (entry-in (p .mu * p .gamma) (p .mu) (p .gamma) r v refl hr hv)))
   where
     go : (eqb (btEntry bt (r * p .gamma + v)) none ≡ true) ⊎ (ltb (btEntry bt (r * p .gamma + v)) (p .N) ≡ true) → n < p .N
     go (inl x) = absurd (ne (e ∙ eqb-true _ _ x))

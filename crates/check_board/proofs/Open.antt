@@ -130,7 +130,8 @@ module _ (p : Params) (z : Sizes p) (chip bt bst : List ℕ) (r : ℕ) where
             at (inr x) (no d) = rw x (full-is v hv d ∙ (rw (x, ne-eqb (n v) none d) at (all-at (p .gamma) (fullOk p chip bt r o) f v hv)))
 
         go : (emptyAt p bt r ≡ true) ⊎ (emptyAt p bt r ≡ false)
-            → (cond (emptyAt p bt r) (eqb sg none) (ltb sg (p .gamma * p .d) && not (eqb (n o) none)) ≡ true) × ((v : ℕ) → v < p .gamma → not (eqb (k v) 0) && cond (eqb v o) (eqb (segmentOf p v (k v - 1)) sg) (eqb (k v) (frames p)) ≡ true)
+            → (cond (emptyAt p bt r) (eqb sg none) (ltb sg (p .gamma * p .d) && not (eqb (n o) none)) ≡ true)
+            × ((v : ℕ) → v < p .gamma → not (eqb (k v) 0) && cond (eqb v o) (eqb (segmentOf p v (k v - 1)) sg) (eqb (k v) (frames p)) ≡ true)
         go (inl e) =
             let s : eqb sg none ≡ true = rw e at h in
             (rw e s, λ v hv. and-intro (some v hv) (idle (unfold emptyAt in e) (eqb-true sg none s) v hv))

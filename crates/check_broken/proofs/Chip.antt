@@ -28,7 +28,8 @@ module _ (p : Params) (b : Board) (t : Lent p (b .chip) (b .bt)) where
   unfolding blockOk
   block-same r h v hv = go (ℕ-discrete (btAt p (b .bt) r v) none)
     where
-      go : Dec (btAt p (b .bt) r v ≡ none) → eqb (btAt p (b .bt) r v) none || blockRule p r (block p (b .chip) (btAt p (b .bt) r v)) ≡ not (assigned (view p b r) v) || blockRule p r ((view p b r) .body v)
+      go : Dec (btAt p (b .bt) r v ≡ none) → eqb (btAt p (b .bt) r v) none || blockRule p r (block p (b .chip) (btAt p (b .bt) r v)) ≡ not (assigned (view p b r) v) ||
+          blockRule p r ((view p b r) .body v)
       go (yes e) = rw (assigned-no p b names r h v hv e, eq-eqb (btAt p (b .bt) r v) none e)
       go (no e) = rw (assigned-yes p b names r h v hv e, body-is p b names r h v hv e, ne-eqb (btAt p (b .bt) r v) none e)
 

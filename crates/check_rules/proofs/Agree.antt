@@ -172,7 +172,8 @@ module _ (p : Params) (b : Board) (fine : Sizes p) (len : lengthsFit p b ≡ tru
     vblock : (r v : ℕ) → r < p .mu → v < p .gamma → (E r v ≡ none → ⊥) → (differs p (b .bt) r v ≡ true) × (bstAt (b .bst) (E r v) ≡ 1) × (blockRule p r (block p (b .chip) (E r v)) ≡ true)
     unfolding regionOk vblockOk
     vblock r v hr hv ne =
-        let w = rw (ne-eqb (E r v) none ne) at (all-at (p .gamma) (vblockOk p (b .chip) (b .bt) (b .bst) r) (and-left (allBelow (p .gamma) (vblockOk p (b .chip) (b .bt) (b .bst) r)) _ (l₁ r hr)) v hv) in
+        let w = rw (ne-eqb (E r v) none ne) at (all-at (p .gamma) (vblockOk p (b .chip) (b .bt) (b .bst) r)
+        (and-left (allBelow (p .gamma) (vblockOk p (b .chip) (b .bt) (b .bst) r)) _ (l₁ r hr)) v hv) in
         let u = and-right (differs p (b .bt) r v) w in
         (and-left (differs p (b .bt) r v) _ w, eqb-true _ _ (and-left (eqb (bstAt (b .bst) (E r v)) 1) _ u), and-right (eqb (bstAt (b .bst) (E r v)) 1) u)
 
@@ -266,14 +267,16 @@ module _ (p : Params) (b : Board) (fine : Sizes p) (len : lengthsFit p b ≡ tru
 
     opens : (r : ℕ) → r < p .mu → regionFst p (view p b r) ≡ true
     unfolding regionOk
-    opens r h = open-same p b ns r h (λ v hv ne. (vblock r v h hv ne) .2) ∙ and-left (fstOk p (b .chip) (b .bt) (b .fst) r) _ (and-right (allBelow (p .gamma) (vblockOk p (b .chip) (b .bt) (b .bst) r)) (l₁ r h))
+    opens r h = open-same p b ns r h (λ v hv ne. (vblock r v h hv ne) .2) ∙ and-left (fstOk p (b .chip) (b .bt) (b .fst) r) _
+        (and-right (allBelow (p .gamma) (vblockOk p (b .chip) (b .bt) (b .bst) r)) (l₁ r h))
 
     is-orderly : orderly p b ≡ true
     unfolding regionOrderly
     is-orderly = orderly-all p b fine tables (λ r h. all-true _ (blocks r h, (opens r h, (clusters r h, tt)))) own
 
   agree : tablesOk p (b .bt) (b .bst) && chipOk p (b .chip) (b .ct) (b .bt) (b .fst) (b .bst) ≡ orderly p b
-  agree = same-truth (tablesOk p (b .bt) (b .bst) && chipOk p (b .chip) (b .ct) (b .bt) (b .fst) (b .bst)) (orderly p b) (λ h. is-orderly (and-left (tablesOk p (b .bt) (b .bst)) _ h) (and-right (tablesOk p (b .bt) (b .bst)) h)) passes
+  agree = same-truth (tablesOk p (b .bt) (b .bst) && chipOk p (b .chip) (b .ct) (b .bt) (b .fst) (b .bst)) (orderly p b)
+      (λ h. is-orderly (and-left (tablesOk p (b .bt) (b .bst)) _ h) (and-right (tablesOk p (b .bt) (b .bst)) h)) passes
 
 -- the state is orderly if the nine rules hold and each mark is right
 pub orderly-is : (p : Params) (b : Board) → orderly p b ≡ nineRules p b && marksRule p b

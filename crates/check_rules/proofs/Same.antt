@@ -87,21 +87,25 @@ module _ (p : Params) (b : Board) (t : Names p b) (r : ℕ) (region : r < p .mu)
   full-same used o v h e = rw e (go (so (eqb v o)) (ℕ-discrete (btAt p (b .bt) r v) none))
     where
       go : (eqb v o ≡ true) ⊎ (eqb v o ≡ false) → Dec (btAt p (b .bt) r v ≡ none)
-          → eqb v o || (not (assigned (view p b r) v) || eqb (filled p ((view p b r) .body v)) (frames p)) ≡ cond (eqb v o) true (cond (eqb (btAt p (b .bt) r v) none) true (programmed p (frame p (block p (b .chip) (btAt p (b .bt) r v)) (frames p - 1))))
+          → eqb v o || (not (assigned (view p b r) v) || eqb (filled p ((view p b r) .body v)) (frames p)) ≡ cond (eqb v o) true
+          (cond (eqb (btAt p (b .bt) r v) none) true (programmed p (frame p (block p (b .chip) (btAt p (b .bt) r v)) (frames p - 1))))
       go (inl a) d = rw a
       go (inr a) (yes d) = rw (a, assigned-no v h d, eq-eqb (btAt p (b .bt) r v) none d)
       go (inr a) (no d) = rw (a, assigned-yes v h d, ne-eqb (btAt p (b .bt) r v) none d, body-is v h d) (last-full p (t .fine) r _ (used v h d))
 
   last-rest : (sg : ℕ) → (x : Bool) → vblockOf p sg < p .gamma → (x ≡ allBelow (p .gamma) (fullOk p (b .chip) (b .bt) r (vblockOf p sg))) → Dec (btAt p (b .bt) r (vblockOf p sg) ≡ none)
       → assigned (view p b r) (vblockOf p sg) && (eqb sg (segmentOf p (vblockOf p sg) (filled p ((view p b r) .body (vblockOf p sg)) - 1)) && (x && true))
-      ≡ not (eqb (btAt p (b .bt) r (vblockOf p sg)) none) && (eqb sg (segmentOf p (vblockOf p sg) (filled p (block p (b .chip) (btAt p (b .bt) r (vblockOf p sg))) - 1)) && allBelow (p .gamma) (fullOk p (b .chip) (b .bt) r (vblockOf p sg)))
+      ≡ not (eqb (btAt p (b .bt) r (vblockOf p sg)) none) &&
+      (eqb sg (segmentOf p (vblockOf p sg) (filled p (block p (b .chip) (btAt p (b .bt) r (vblockOf p sg))) - 1)) && allBelow (p .gamma)
+      (fullOk p (b .chip) (b .bt) r (vblockOf p sg)))
   last-rest sg x h f (yes d) = rw (assigned-no (vblockOf p sg) h d, eq-eqb (btAt p (b .bt) r (vblockOf p sg)) none d)
   last-rest sg x h f (no d) = rw (assigned-yes (vblockOf p sg) h d, ne-eqb (btAt p (b .bt) r (vblockOf p sg)) none d, body-is (vblockOf p sg) h d, and-true x, f)
 
   vblock-low : (sg : ℕ) → ltb sg (p .gamma * p .d) ≡ true → vblockOf p sg < p .gamma
   vblock-low sg a = div-lt-iff-lt-mul (t .fine .segments) .1 (ltb-true sg (p .gamma * p .d) a)
 
-  last-go : (sg : ℕ) → (x : Bool) → (vblockOf p sg < p .gamma → x ≡ allBelow (p .gamma) (fullOk p (b .chip) (b .bt) r (vblockOf p sg))) → (ltb sg (p .gamma * p .d) ≡ true) ⊎ (ltb sg (p .gamma * p .d) ≡ false)
+  last-go : (sg : ℕ) → (x : Bool) → (vblockOf p sg < p .gamma → x ≡ allBelow (p .gamma) (fullOk p (b .chip) (b .bt) r (vblockOf p sg))) → (ltb sg (p .gamma * p .d) ≡ true)
+      ⊎ (ltb sg (p .gamma * p .d) ≡ false)
       → ltb sg (p .gamma * p .d) && (assigned (view p b r) (vblockOf p sg) && (eqb sg (segmentOf p (vblockOf p sg) (filled p ((view p b r) .body (vblockOf p sg)) - 1)) && (x && true)))
       ≡ openOk p (b .chip) (b .bt) r sg
   unfolding openOk
@@ -141,7 +145,8 @@ module _ (p : Params) (b : Board) (t : Names p b) (r : ℕ) (region : r < p .mu)
 
       go : (sg : ℕ) → (eqb sg none ≡ true) ⊎ (eqb sg none ≡ false) → (ltb sg (p .gamma * p .d) ≡ true) ⊎ (ltb sg (p .gamma * p .d) ≡ false)
           → eqb sg none || (ltb sg (p .gamma * p .d) && (assigned (view p b r) (vblockOf p sg) && (ltb (lastIn p ((view p b r) .body (vblockOf p sg)) (placeOf p sg) c) (frames p) && true)))
-          ≡ cond (eqb sg none) true (ltb sg (p .gamma * p .d) && (not (eqb (btAt p (b .bt) r (vblockOf p sg)) none) && ltb (lastIn p (block p (b .chip) (btAt p (b .bt) r (vblockOf p sg))) (placeOf p sg) c) (frames p)))
+          ≡ cond (eqb sg none) true (ltb sg (p .gamma * p .d) &&
+          (not (eqb (btAt p (b .bt) r (vblockOf p sg)) none) && ltb (lastIn p (block p (b .chip) (btAt p (b .bt) r (vblockOf p sg))) (placeOf p sg) c) (frames p)))
       go sg (inl x) y = rw x
       go sg (inr x) (inr y) = rw (x, y)
       go sg (inr x) (inl y) = rw (x, y) (rest sg (vblock-low sg y) (ℕ-discrete (btAt p (b .bt) r (vblockOf p sg)) none))

@@ -100,7 +100,8 @@ module _ (p : Params) (z : Sizes p) (blk : List ℕ) (k page w f : ℕ) (le : k 
   pub rest-pages : length (take (length blk - k * w) (drop (k * w) blk)) ≡ (f - k) * p .alpha * page
   unfolding frameBytes
   rest-pages =
-      rw (take-all (length blk - k * w) (drop (k * w) blk) (rw length-drop (omega arith)), length-drop, ← whole) (let e : (f - k) * w ≡ (f - k) * p .alpha * page = rw (ew, ep) (sym (mul-assoc (f - k) (p .alpha) (pageBytes p))) in omega (arith, e))
+      rw (take-all (length blk - k * w) (drop (k * w) blk) (rw length-drop (omega arith)), length-drop, ← whole)
+      (let e : (f - k) * w ≡ (f - k) * p .alpha * page = rw (ew, ep) (sym (mul-assoc (f - k) (p .alpha) (pageBytes p))) in omega (arith, e))
 
   pub rest-lent : take (length blk - k * w) (drop (k * w) blk) ≡ drop (k * frameBytes p) blk
   rest-lent = take-all (length blk - k * w) (drop (k * w) blk) (rw length-drop (omega arith)) ∙ rw ew

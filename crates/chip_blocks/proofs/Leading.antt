@@ -66,7 +66,8 @@ module _ (p : Params) (z : Sizes p) (r : ℕ) (blk : List ℕ) (size : length bl
       go : UpTo p r (filled p blk) blk → Dec (filled p blk < k) → Dec (k < filled p blk) → filled p blk ≡ k
       go u (yes a) b =
           absurd
-          (never (marked-programmed p (frame p blk (filled p blk)) _ ((good-at (filled p blk) a) .marks 0 (z .sectors))) (erased-not p (frame p blk (filled p blk)) (u .rest (filled p blk) (omega arith) (omega arith))))
+          (never (marked-programmed p (frame p blk (filled p blk)) _ ((good-at (filled p blk) a) .marks 0 (z .sectors)))
+          (erased-not p (frame p blk (filled p blk)) (u .rest (filled p blk) (omega arith) (omega arith))))
       go u (no a) (yes b) =
           let in-block : k < frames p = omega (arith, filled-le p blk) in
           absurd (never (good-frame-back p r (frame p blk k) (u .front k b in-block)) (stop in-block))

@@ -44,7 +44,8 @@ module _ (chip : List ℕ) (s q : ℕ) (kept : Bool) (old j off count : ℕ) (by
   given-asked e = rw (given-length s (j - off) bytes (given-fits s off j count bytes e (f .given))) blank
 
   pub given-done : (u : List ℕ) → leb off j && ltb j (off + count) ≡ true
-      → u ≡ putPart (length (take ((j - off) * s + s - (j - off) * s) (drop ((j - off) * s) bytes)) + 16) q (take ((j - off) * s + s - (j - off) * s) (drop ((j - off) * s) bytes) ++ spareBytes c (j % 256)) chip
+      → u ≡ putPart (length (take ((j - off) * s + s - (j - off) * s) (drop ((j - off) * s) bytes)) + 16) q
+      (take ((j - off) * s + s - (j - off) * s) (drop ((j - off) * s) bytes) ++ spareBytes c (j % 256)) chip
       → u ≡ putPart (s + 16) q (hostPage s off count bytes (pageSector s kept old chip) c j) chip
   unfolding hostPage part
   given-done u e g = g ∙ rw (given-length s (j - off) bytes (given-fits s off j count bytes e (f .given)), width, place-is, e)

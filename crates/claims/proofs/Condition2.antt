@@ -24,7 +24,8 @@ use Rattle.claims.proofs.Steps.{format-leaves, parts-step}
 module _ (p : Params) (b : Board) (e : replyOf p b format ≡ Accepted) (cs : List Call) where
   -- the format blanks both, and the run keeps them alike
   run-reads : (m : Memory) → Agrees p (boardAfter p b (format ∷ cs)) (memoryAfter p m (partsOf p b (format ∷ cs)))
-  run-reads m = rw (parts-step p b format cs tt, memory-step p b m format (partsOf p (leaves p b format) cs), e) (unfold boardAfter isAccepted remember in after-agrees p (leaves p b format) (blank p) cs first)
+  run-reads m = rw (parts-step p b format cs tt, memory-step p b m format (partsOf p (leaves p b format) cs), e)
+      (unfold boardAfter isAccepted remember in after-agrees p (leaves p b format) (blank p) cs first)
     where
       first : Agrees p (leaves p b format) (blank p)
       first = rw (format-leaves p b e) (format-agrees p b e)

@@ -34,7 +34,8 @@ none-kept : (p : Params) (c : ℕ) (f : ℕ → Bool) (g : ℕ → List ℕ) (n 
     → noneHolds p c (map g (keepBelow n f)) ≡ true
 unfolding noneHolds keepBelow
 none-kept p c f g zero h = refl
-none-kept p c f g (suc n) h = rw (map-append g (keepBelow n f) (cond (f n) (n ∷ []) [])) (none-more p c (map g (keepBelow n f)) (map g (cond (f n) (n ∷ []) [])) (none-kept p c f g n (λ i k. h i (omega arith))) (last (so (f n))))
+none-kept p c f g (suc n) h = rw (map-append g (keepBelow n f) (cond (f n) (n ∷ []) []))
+    (none-more p c (map g (keepBelow n f)) (map g (cond (f n) (n ∷ []) [])) (none-kept p c f g n (λ i k. h i (omega arith))) (last (so (f n))))
   where
     last : (f n ≡ true) ⊎ (f n ≡ false) → noneHolds p c (map g (cond (f n) (n ∷ []) [])) ≡ true
     last (inl e) = rw e (and-intro (h n (omega arith) e) refl)

@@ -181,7 +181,8 @@ read-agrees p b m q e h = join-cong (q .count) _ _ one
       where
         cluster : q .lba / p .alpha ≡ (q .lba + i) / p .alpha
         cluster =
-            index-inj (p .alpha) (q .lba / p .alpha) (q .lba % p .alpha + i) ((q .lba + i) / p .alpha) ((q .lba + i) % p .alpha) (omega (arith, acc .asked .inside)) (mod-lt (q .lba + i) (acc .sized .sectors))
+            index-inj (p .alpha) (q .lba / p .alpha) (q .lba % p .alpha + i) ((q .lba + i) / p .alpha) ((q .lba + i) % p .alpha) (omega (arith, acc .asked .inside))
+            (mod-lt (q .lba + i) (acc .sized .sectors))
             (omega (arith, start, div-add-mod' (q .lba + i) (p .alpha)))
 
         place : q .lba % p .alpha + i ≡ (q .lba + i) % p .alpha

@@ -110,7 +110,13 @@ module _ (p : Params) (z : Sizes p) (b : Board) (t : Tables p b) (r : ℕ) (regi
           pick : Dec (f < filled p ((view p b r) .body v)) → Marked p (frame p ((view p b r) .body v) f)
           pick (yes k) =
               let g = (nt .blocks v mine a) .1 .front f k h in
-              record { whole = unfold frame in part-length (frameBytes p) f ((view p b r) .body v) (one-fits p ((view p b r) .body v) f (body-size p z b t r v region mine a) h); cluster = held p (frame p ((view p b r) .body v) f); low = g .low; marks = g .marks }
+              record {
+                whole = unfold frame in part-length (frameBytes p) f ((view p b r) .body v)
+                    (one-fits p ((view p b r) .body v) f (body-size p z b t r v region mine a) h);
+                cluster = held p (frame p ((view p b r) .body v) f);
+                low = g .low;
+                marks = g .marks;
+              }
           pick (no k) = absurd (never (w .written) (erased-not p _ ((nt .blocks v mine a) .1 .rest f (omega arith) h)))
 
   copies-marked : (i : ℕ) → i < length (copies p (view p b r) (reclaims v)) → Marked p (getD (copies p (view p b r) (reclaims v)) i [])
@@ -133,7 +139,8 @@ module _ (p : Params) (z : Sizes p) (b : Board) (t : Tables p b) (r : ℕ) (regi
       other pl i k = let one : planErases (reclaims v) ≡ 1 = unfold planErases in refl in omega (arith, sym (ap planErases i) ∙ k)
 
       found : ((lowestUnassigned p (view p b r) ≡ none) × ((i : ℕ) → i < p .gamma → not (assigned (view p b r) i) ≡ false))
-          ⊎ ((lowestUnassigned p (view p b r) < p .gamma) × (not (assigned (view p b r) (lowestUnassigned p (view p b r))) ≡ true)) → lowestUnassigned p (view p b r) ≡ none → assigned (view p b r) u ≡ true
+          ⊎ ((lowestUnassigned p (view p b r) < p .gamma) × (not (assigned (view p b r) (lowestUnassigned p (view p b r))) ≡ true)) → lowestUnassigned p (view p b r) ≡ none
+          → assigned (view p b r) u ≡ true
       found (inl w) k = not-false _ (w .1 u h)
       found (inr w) k = absurd (omega (arith, w .0, k, z .gammaHigh))
 

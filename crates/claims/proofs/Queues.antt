@@ -15,7 +15,26 @@ use Rattle.rules.specs.Parameters.{allowed}
 use Rattle.rules.specs.Tables.{Board}
 use Rattle.rules.specs.Orderly.{orderly}
 use Rattle.rules.specs.Requests.{Queue, Request, itemRequest, itemRequests, lent, queue, write}
-use Rattle.rules.specs.Replies.{accessRows, badAddress, badCount, badParameter, firstRow, isAccepted, lengthsFit, lentRows, notOrderly, numberOf, orderRow, queueRows, replyOf, row, rowsOf, tooFewAnswers, wrongData, wrongLength}
+use Rattle.rules.specs.Replies.{
+  accessRows,
+  badAddress,
+  badCount,
+  badParameter,
+  firstRow,
+  isAccepted,
+  lengthsFit,
+  lentRows,
+  notOrderly,
+  numberOf,
+  orderRow,
+  queueRows,
+  replyOf,
+  row,
+  rowsOf,
+  tooFewAnswers,
+  wrongData,
+  wrongLength,
+}
 use Rattle.rules.specs.Calls.{Work, answerOf, refuses, single, writeAll, writeWork}
 use Rattle.rules.proofs.Admitted.{passed}
 use Rattle.rules.proofs.ItemData.{item-data}

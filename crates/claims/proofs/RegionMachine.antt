@@ -90,7 +90,8 @@ module _ (p : Params) (b : Board) (ordered : OrderlyBoard p b) where
       go (inr e) = rw e (refused-told (read q) (requestReply p q) e reply)
 
   written-told : (q : Request) → replyOf p b (write q) ≡ Accepted
-      → toldBy (outcomeOf p b (write q)) ≡ tells Accepted (p .alpha * (length (copies p (view p b (requestRegion p q)) (planOf p (view p b (requestRegion p q)))) + 1)) (planErases (planOf p (view p b (requestRegion p q))))
+      → toldBy (outcomeOf p b (write q)) ≡ tells Accepted (p .alpha * (length (copies p (view p b (requestRegion p q)) (planOf p (view p b (requestRegion p q)))) + 1))
+      (planErases (planOf p (view p b (requestRegion p q))))
       (looksIn p (view p b (requestRegion p q)) (requestCluster p q)) (q .bytes)
   unfolding toldBy told isAccepted answerOf tells looksAt
   written-told q e =

@@ -39,7 +39,8 @@ pub read-turned : (lba count : ℕ) (b : Board) → Turned (Read lba count) b b
 unfolding turn
 read-turned lba count b = go (reply-cases (replyOf boardT b (read (requested lba count 0))))
   where
-    go : (replyOf boardT b (read (requested lba count 0)) ≡ Accepted) ⊎ (isAccepted (replyOf boardT b (read (requested lba count 0))) ≡ false) → b ≡ (outcomeOf boardT b (read (requested lba count 0))) .board
+    go : (replyOf boardT b (read (requested lba count 0)) ≡ Accepted) ⊎ (isAccepted (replyOf boardT b (read (requested lba count 0))) ≡ false)
+        → b ≡ (outcomeOf boardT b (read (requested lba count 0))) .board
     go (inl e) = sym (ap (λ (o : Outcome). o .board) (read-accepted boardT b (requested lba count 0) e))
     go (inr e) = sym (ap (λ (o : Outcome). o .board) (call-refused boardT b (read (requested lba count 0)) e))
 

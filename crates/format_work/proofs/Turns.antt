@@ -153,7 +153,8 @@ module _ (p : Params) (chip bst wear : List ℕ) (a : BlocksAsked p chip bst wea
         kinds-go : set (kindsBelow k ++ drop k bst) k (cond (bad p chip k) 2 0) ≡ kindsBelow (k + 1) ++ drop (k + 1) bst
         kinds-go =
             let h : k < length bst = rw (a .bstLength) low in
-            rw (drop-cons bst k 0, set-at (kindsBelow k) _ (drop (suc k) bst) (cond (bad p chip k) 2 0) k (kinds-length k), add-one) (unfold kindsBelow joinBelow in sym (append-assoc (kindsBelow k) (cond (bad p chip k) 2 0 ∷ []) (drop (suc k) bst)))
+            rw (drop-cons bst k 0, set-at (kindsBelow k) _ (drop (suc k) bst) (cond (bad p chip k) 2 0) k (kinds-length k), add-one)
+            (unfold kindsBelow joinBelow in sym (append-assoc (kindsBelow k) (cond (bad p chip k) 2 0 ∷ []) (drop (suc k) bst)))
 
   pub done : (k : ℕ) (chip₁ bst₁ wear₁ : List ℕ) (e : ℕ) → k ≡ p .N → So k chip₁ bst₁ wear₁ e → BlocksDone p chip wear chip₁ bst₁ wear₁ e
   unfolding formatOps opsBelow kindsBelow

@@ -148,7 +148,8 @@ module _ (p : Params) (z : Sizes p) (b : Board) (t : Tables p b) (r : ℕ) (regi
       go (continues u g) k mk = unfold roomMarks withRoom in is
       go (opens u) k mk = rw (opens-marks p (view p b r) u k v f) (unfold roomMarks in is)
       go (reclaims u) k mk =
-          rw (reclaim-marks p z r (view p b r) nt (k .0) (k .1) (λ w h. body-size p z b t r w region h (k .1 w h)) u (unfold planVBlock in mk .base .ready .mine) (unfold planFrame in mk .base .ready .low) v f)
+          rw (reclaim-marks p z r (view p b r) nt (k .0) (k .1) (λ w h. body-size p z b t r w region h (k .1 w h)) u (unfold planVBlock in mk .base .ready .mine)
+          (unfold planFrame in mk .base .ready .low) v f)
           (unfold roomMarks firstMarks in rw (eq-eqb r r refl, is))
 
 -- the marks of another region stay

@@ -33,7 +33,8 @@ module _ (p : Params) (b : Board) (numbers answers : ℕ) where
   cut ne r t is e =
       record { replied = e ∙ given t is; counted = none t e; fits = omega arith; room = omega arith; ready = λ k. absurd (omega arith) }
     where
-      given : (t : Bool) → t ≡ allowed p → cond t WrongLength BadParameter ≡ cond (not (allowed p)) BadParameter (cond (not (eqb (numbers % 3) 0)) WrongLength (firstRow Accepted (queueRows p b (numbers / 3) answers)))
+      given : (t : Bool) → t ≡ allowed p → cond t WrongLength BadParameter ≡ cond (not (allowed p)) BadParameter
+          (cond (not (eqb (numbers % 3) 0)) WrongLength (firstRow Accepted (queueRows p b (numbers / 3) answers)))
       given t k = rw (← k, ne-eqb (numbers % 3) 0 ne) (both t)
         where
           both : (t : Bool) → cond t WrongLength BadParameter ≡ cond (not t) BadParameter WrongLength

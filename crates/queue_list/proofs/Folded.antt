@@ -59,7 +59,8 @@ module _ (p : Params) (bytes : List ℕ) where
         let done : _≡_ {A = Board × List Answer} (b′, os′) ((writeAll p b qs l) .left, over (map itself (answersIn ((writeAll p b qs l) .parts))) os) =
         fold ∙ ap (λ (its : List Item). servedFrom itself p bytes its 0 b os) taken ∙ served-all itself p bytes l ys b os (subst (λ (k : ℕ). k ≤ length os) all (head .room)) in
         (λ j. outcome ((a-is ∙ ap (λ (r : Reply). answerOf r [] 0) zero) j) bytes (done j .1) (done j .0))
-        ∙ rw (queue-accepted p b l e, all-answer p b qs l, all-bytes p b qs l, all-lent p b qs l) (ap (λ (x : List Answer). outcome (answerOf Accepted [] 0) bytes (over x os) ((writeAll p b qs l) .left)) (map-id (answersIn ((writeAll p b qs l) .parts))))
+        ∙ rw (queue-accepted p b l e, all-answer p b qs l, all-bytes p b qs l, all-lent p b qs l)
+        (ap (λ (x : List Answer). outcome (answerOf Accepted [] 0) bytes (over x os) ((writeAll p b qs l) .left)) (map-id (answersIn ((writeAll p b qs l) .parts))))
 
     -- refused, none is
     refused : isAccepted (replyOf p b (queue (queueOf ys bytes os))) ≡ false → outcome a bytes os′ b′ ≡ outcomeOf p b (queue (queueOf ys bytes os))
@@ -72,6 +73,7 @@ module _ (p : Params) (bytes : List ℕ) where
     pub fold-is : outcome a bytes os′ b′ ≡ outcomeOf p b (queue (queueOf ys bytes os))
     fold-is = go (reply-cases (replyOf p b (queue (queueOf ys bytes os))))
       where
-        go : (replyOf p b (queue (queueOf ys bytes os)) ≡ Accepted) ⊎ (isAccepted (replyOf p b (queue (queueOf ys bytes os))) ≡ false) → outcome a bytes os′ b′ ≡ outcomeOf p b (queue (queueOf ys bytes os))
+        go : (replyOf p b (queue (queueOf ys bytes os)) ≡ Accepted) ⊎ (isAccepted (replyOf p b (queue (queueOf ys bytes os))) ≡ false)
+            → outcome a bytes os′ b′ ≡ outcomeOf p b (queue (queueOf ys bytes os))
         go (inl e) = accepted e
         go (inr e) = refused e

@@ -117,22 +117,26 @@ module _ {M : Type 1} (𝓤 : URA M) (H : Heap 𝓤) (A : Atoms 𝓤) (W : Given
       use2 W (later (some (λ (δ : GName). ‵ (MutSlice (named 0) (ν ∷ []) (d .R) .own (at-name d δ (ls .0)) (val d ∷ [])) ⊛ ‵ (LentAgain (d .R) (d .κ) (ν ∷ []) (d .q) (d .γ) (d .b) (d .o) δ (ls .0)))))
       (lends-at (d .R) (d .κ) (ν ∷ []) (d .q) (d .γ) (d .b) (d .o) 𝓤 H A W (named 0) (named 0) (ls .0) (d .n) (e .0)) $ await ! tt $ pick ! (λ δ. split ! $
       -- [the slice lent; what is kept; ν's token; the others; T; End]
-      move ! (3 ∷ 4 ∷ 5 ∷ []) $ use3 W (later (some (λ (p : Picks ds). ‵ (Tokens ds p T) ⊛ ‵ (Owns ds p (ls .1) End) ⊛ ‵ (Kept ds p (ls .1))))) (lends-all ds (ls .1) T End (e .1)) $ await ! tt $ pick ! (λ p. split3 ! $
+      move ! (3 ∷ 4 ∷ 5 ∷ []) $ use3 W (later (some (λ (p : Picks ds). ‵ (Tokens ds p T) ⊛ ‵ (Owns ds p (ls .1) End) ⊛ ‵ (Kept ds p (ls .1)))))
+      (lends-all ds (ls .1) T End (e .1)) $ await ! tt $ pick ! (λ p. split3 ! $
       at-once ! $ show ! (LentAll (d ∷ ds) ls T End) (ν, (δ, p)) $
       -- [Tokens; Owns; Kept; the slice lent; what is kept; ν's token]
       move ! (5 ∷ 0 ∷ []) $ fjoin ! $ frame ! $ move ! (2 ∷ 0 ∷ []) $ fjoin ! $ frame ! $ move ! (1 ∷ 0 ∷ []) $ fjoin ! $ done !)))
 
   pub backs-all : (ds : List Slice) (ls : Lists ds) (p : Picks ds) (zs : Lists ds) (T End : Fml) → Long ds ls → Rooms ds
       → ent 𝓤 (sep 𝓤 ⟦ Tokens ds p T ⟧ (sep 𝓤 ⟦ Kept ds p ls ⟧ ⟦ Said ds p ls zs End ⟧)) (H .⇛ (guard 𝓤 (Long ds zs) (sep 𝓤 ⟦ Bundle ds zs ⟧ ⟦ T ⟧)))
-  backs-all [] ls p zs T End e g = qed W (‵ (Tokens [] p T) ∷ ‵ (Kept [] p ls) ∷ ‵ (Said [] p ls zs End) ∷ []) ∵ updating ! $ at-once ! $ check ! tt $ move ! (1 ∷ []) $ frame ! $ move ! (1 ∷ []) $ drop ! $ done !
+  backs-all [] ls p zs T End e g = qed W (‵ (Tokens [] p T) ∷ ‵ (Kept [] p ls) ∷ ‵ (Said [] p ls zs End) ∷ []) ∵ updating ! $ at-once ! $ check ! tt $ move ! (1 ∷ []) $ frame
+      ! $ move ! (1 ∷ []) $ drop ! $ done !
   backs-all (d ∷ ds) ls p zs T End e g =
-      qed W (‵ (Tokens (d ∷ ds) p T) ∷ ‵ (Kept (d ∷ ds) p ls) ∷ ‵ (Said (d ∷ ds) p ls zs End) ∷ []) ∵ updating ! $ fsplit ! $ move ! (2 ∷ []) $ fsplit ! $ move ! (4 ∷ []) $ fsplit ! $ fsplit ! $ move ! (1 ∷ []) $ feqL ! (λ l.
+      qed W (‵ (Tokens (d ∷ ds) p T) ∷ ‵ (Kept (d ∷ ds) p ls) ∷ ‵ (Said (d ∷ ds) p ls zs End) ∷ []) ∵ updating ! $ fsplit ! $ move ! (2 ∷ []) $ fsplit ! $ move ! (4 ∷ []) $
+      fsplit ! $ fsplit ! $ move ! (1 ∷ []) $ feqL ! (λ l.
       -- [finally; what is said of the others; what is kept; the others' kept; ν's token; the others' tokens]
       move ! (4 ∷ []) $ lft-end ! tt $ move ! (0 ∷ 3 ∷ 1 ∷ []) $
       use3 W (later (‵ (MutSlice (named 0) (d .κ) (d .R) .own (at-name d (d .γ) (zs .0)) (val d ∷ [])) ⊛ ‵ (flft (d .κ) (d .q))))
       (back-at (d .R) (d .κ) (p .0 ∷ []) (d .q) (d .γ) (d .b) (d .o) 𝓤 H A W (named 0) (named 0) (ls .0) (d .n) (e .0) (p .1 .0) (zs .0) (g .0) l) $ await ! tt $ split ! $
       -- [the slice; its token; what is said of the others; the others' kept; the others' tokens]
-      move ! (4 ∷ 3 ∷ 2 ∷ []) $ use3 W (later (given (Long ds (zs .1)) (‵ (Bundle ds (zs .1)) ⊛ ‵ T))) (backs-all ds (ls .1) (p .1 .1) (zs .1) T End (e .1) (g .1)) $ await ! tt $ learn ! (λ es. split ! $
+      move ! (4 ∷ 3 ∷ 2 ∷ []) $ use3 W (later (given (Long ds (zs .1)) (‵ (Bundle ds (zs .1)) ⊛ ‵ T))) (backs-all ds (ls .1) (p .1 .1) (zs .1) T End (e .1) (g .1)) $ await !
+      tt $ learn ! (λ es. split ! $
       -- [the others; T; the slice; its token]
       at-once ! $ check ! (l ∙ e .0, es) $ move ! (3 ∷ 0 ∷ []) $ fjoin ! $ move ! (2 ∷ 0 ∷ []) $ fjoin ! $ frame ! $ done !))
 
@@ -148,7 +152,8 @@ module _ {M : Type 1} (𝓤 : URA M) (H : Heap 𝓤) (A : Atoms 𝓤) (W : Given
       use2 W (later (some (λ (δ : GName). ‵ (ShrSlice (named 0) (ν ∷ []) (d .R) .own (at-name d δ (ls .0)) (val d ∷ [])) ⊛ ‵ (Shown (d .R) (d .κ) (ν ∷ []) (d .q) (d .γ) (d .b) (d .o) (ls .0)))))
       (shows-at (d .R) (d .κ) (ν ∷ []) (d .q) (d .γ) (d .b) (d .o) 𝓤 H A W (named 0) (named 0) (ls .0) (d .n) (e .0)) $ await ! tt $ pick ! (λ δ. split ! $
       -- [the slice shared; what is held; ν's token; the others; T; End]
-      move ! (3 ∷ 4 ∷ 5 ∷ []) $ use3 W (later (some (λ (p : Picks ds). ‵ (Tokens ds p T) ⊛ ‵ (Shared ds p (ls .1) End) ⊛ ‵ (Held ds p (ls .1))))) (shows-all ds (ls .1) T End (e .1)) $ await ! tt $ pick ! (λ p. split3 ! $
+      move ! (3 ∷ 4 ∷ 5 ∷ []) $ use3 W (later (some (λ (p : Picks ds). ‵ (Tokens ds p T) ⊛ ‵ (Shared ds p (ls .1) End) ⊛ ‵ (Held ds p (ls .1)))))
+      (shows-all ds (ls .1) T End (e .1)) $ await ! tt $ pick ! (λ p. split3 ! $
       at-once ! $ show ! (ShownAll (d ∷ ds) ls T End) (ν, (δ, p)) $
       -- [Tokens; Shared; Held; the slice shared; what is held; ν's token]
       move ! (5 ∷ 0 ∷ []) $ fjoin ! $ frame ! $ move ! (2 ∷ 0 ∷ []) $ fjoin ! $ frame ! $ move ! (1 ∷ 0 ∷ []) $ fjoin ! $ done !)))

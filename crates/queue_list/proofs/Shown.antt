@@ -33,7 +33,8 @@ module _ (R : RattleType) (κ κ′ : Lft) (q : Share) (γ : GName) (b o : ℕ) 
   at-list δ ys = record { ptr = (b, o); name = δ; now = ys }
 
   abbrev pub Shown : List (R .Denot) → Fml
-  Shown ys = fsep (flent κ′ (arr-parts (shares R) (length ys) .part fullShare ys b o)) (fsep (fobor κ q (Held R (length ys) b o γ)) (fsep (fobs γ (codedHoleys R .code (heres R ys))) (fauth γ (codedHoleys R .code (heres R ys)))))
+  Shown ys = fsep (flent κ′ (arr-parts (shares R) (length ys) .part fullShare ys b o))
+      (fsep (fobor κ q (Held R (length ys) b o γ)) (fsep (fobs γ (codedHoleys R .code (heres R ys))) (fauth γ (codedHoleys R .code (heres R ys)))))
 
   module _ {M : Type 1} (𝓤 : URA M) (H : Heap 𝓤) (A : Atoms 𝓤) (W : Given 𝓤 H A) (ℓ ℓ′ : Lifetime) (ys : List (R .Denot)) where
     abbrev vals : List Val
@@ -44,7 +45,8 @@ module _ (R : RattleType) (κ κ′ : Lft) (q : Share) (γ : GName) (b o : ℕ) 
     shows =
         qed W (‵ (MutSlice ℓ κ R .own (at-list γ ys) vals) ∷ ‵ (flft κ q) ∷ []) ∵ updating ! $ fsplit ! $ pureL ! (at-slice R (at-list γ ys) vals) (λ p. fsplit ! $ opens-slice ! tt R ys b o $
         feqI ! ℕ (length ys) (length ys) refl $ fjoin ! $
-        use1 W (later (some (λ (γ₁ : GName). ‵ (ShrSlice ℓ′ κ′ R .own (at-list γ₁ ys) vals) ⊛ ‵ (flent κ′ (arr-parts (shares R) (length ys) .part fullShare ys b o))))) (lends-shr-slice 𝓤 H A W R ℓ′ κ′ fullShare ys b o (p .1)) $ await ! tt $ pick ! (λ γ₁. split ! $
+        use1 W (later (some (λ (γ₁ : GName). ‵ (ShrSlice ℓ′ κ′ R .own (at-list γ₁ ys) vals) ⊛ ‵ (flent κ′ (arr-parts (shares R) (length ys) .part fullShare ys b o)))))
+        (lends-shr-slice 𝓤 H A W R ℓ′ κ′ fullShare ys b o (p .1)) $ await ! tt $ pick ! (λ γ₁. split ! $
         -- [the shared slice; the lender's part at κ′; the open borrow at κ; obs γ; auth γ]
         at-once ! $ show ! (λ (γ′ : GName). sep 𝓤 (sem 𝓤 H A (ShrSlice ℓ′ κ′ R .own (at-list γ′ ys) vals)) (sem 𝓤 H A (Shown ys))) γ₁ $ frame ! $
         move ! (2 ∷ 3 ∷ []) $ fjoin ! $ move ! (2 ∷ 0 ∷ []) $ fjoin ! $ move ! (1 ∷ 0 ∷ []) $ fjoin ! $ done !))
@@ -61,5 +63,7 @@ module _ (R : RattleType) (κ κ′ : Lft) (q : Share) (γ : GName) (b o : ℕ) 
     shows-at n e = subst (λ (m : ℕ). ent 𝓤 (sep 𝓤 (sem 𝓤 H A (MutSlice ℓ κ R .own (at-list γ ys) (sliceVal (b, o) m ∷ []))) (A .lft κ q))
         (H .⇛ (ex 𝓤 (λ (γ₁ : GName). sep 𝓤 (sem 𝓤 H A (ShrSlice ℓ′ κ′ R .own (at-list γ₁ ys) (sliceVal (b, o) m ∷ []))) (sem 𝓤 H A (Shown ys)))))) e shows
 
-    pub hides-at : (n : ℕ) → length ys ≡ n → Room R n → ent 𝓤 (sep 𝓤 (A .dead κ′) (sem 𝓤 H A (Shown ys))) (H .⇛ (sep 𝓤 (sem 𝓤 H A (MutSlice ℓ κ R .own (at-list γ ys) (sliceVal (b, o) n ∷ []))) (A .lft κ q)))
-    hides-at n e room = subst (λ (m : ℕ). Room R m → ent 𝓤 (sep 𝓤 (A .dead κ′) (sem 𝓤 H A (Shown ys))) (H .⇛ (sep 𝓤 (sem 𝓤 H A (MutSlice ℓ κ R .own (at-list γ ys) (sliceVal (b, o) m ∷ []))) (A .lft κ q)))) e hides room
+    pub hides-at : (n : ℕ) → length ys ≡ n → Room R n → ent 𝓤 (sep 𝓤 (A .dead κ′) (sem 𝓤 H A (Shown ys)))
+        (H .⇛ (sep 𝓤 (sem 𝓤 H A (MutSlice ℓ κ R .own (at-list γ ys) (sliceVal (b, o) n ∷ []))) (A .lft κ q)))
+    hides-at n e room = subst (λ (m : ℕ). Room R m → ent 𝓤 (sep 𝓤 (A .dead κ′) (sem 𝓤 H A (Shown ys)))
+        (H .⇛ (sep 𝓤 (sem 𝓤 H A (MutSlice ℓ κ R .own (at-list γ ys) (sliceVal (b, o) m ∷ []))) (A .lft κ q)))) e hides room

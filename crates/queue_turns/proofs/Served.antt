@@ -80,7 +80,8 @@ pub answers-more : (p : Params) (b : Board) (q : Request) (qs : List Request) (l
     → answersIn ((writeAll p b (q ∷ qs) l) .parts) ≡ (outcomeOf p b (write q)) .answer ∷ answersIn ((writeAll p ((outcomeOf p b (write q)) .board) qs l) .parts)
 unfolding writeAll outcomeOf workOf
 answers-more p b q qs l =
-    let two : answersIn ((writeWork p b q) .parts ++ (writeAll p ((writeWork p b q) .left) qs l) .parts) ≡ answersIn ((writeWork p b q) .parts) ++ answersIn ((writeAll p ((writeWork p b q) .left) qs l) .parts) =
+    let two : answersIn ((writeWork p b q) .parts ++ (writeAll p ((writeWork p b q) .left) qs l) .parts) ≡ answersIn ((writeWork p b q) .parts) ++ answersIn
+    ((writeAll p ((writeWork p b q) .left) qs l) .parts) =
     unfold answersIn in map-append (λ (x : Part). x .answer) ((writeWork p b q) .parts) ((writeAll p ((writeWork p b q) .left) qs l) .parts) in
     two ∙ ap (λ (x : List Answer). x ++ answersIn ((writeAll p ((writeWork p b q) .left) qs l) .parts)) (write-answers p b q)
 

@@ -36,7 +36,8 @@ read-asked p b q a = record { lookup = lookup-admitted p b q a; inside = a .aske
 
 -- ---- its sectors
 
-module _ (p : Params) (chip ct bt : List ℕ) (lba count : ℕ) (bytes : List ℕ) (a : ReadAsked p chip ct bt lba count bytes) (kept : Bool) (frame : ℕ) (s : Stands p chip ct bt (clusterOf p lba) kept frame) where
+module _ (p : Params) (chip ct bt : List ℕ) (lba count : ℕ) (bytes : List ℕ) (a : ReadAsked p chip ct bt lba count bytes) (kept : Bool) (frame : ℕ)
+    (s : Stands p chip ct bt (clusterOf p lba) kept frame) where
   pub run-asked : (j : ℕ) → j ≡ sectorOf p lba → RunAsked p chip kept frame j count bytes
   run-asked j e = record { source = source p chip ct bt ct (clusterOf p lba) (a .lookup) kept frame s; inside = rw e (a .inside); size = a .size }
 

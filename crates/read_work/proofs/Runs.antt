@@ -85,7 +85,16 @@ module _ (p : Params) (chip : List ℕ) (kept : Bool) (frame j count : ℕ) (byt
     turn now e =
         let l = joined i (omega arith) in
         let s = p .s in
-        rw (e, take-at (joinBelow i sectors) (drop (i * s) bytes) (i * s) l, ← drop-drop s (i * s) (joinBelow i sectors ++ drop (i * s) bytes), drop-at (joinBelow i sectors) (drop (i * s) bytes) (i * s) l, drop-drop s (i * s) bytes, add-one i, suc-mul i s)
+        rw (
+          e,
+          take-at (joinBelow i sectors) (drop (i * s) bytes) (i * s) l,
+          ← drop-drop s (i * s) (joinBelow i sectors ++ drop (i * s) bytes),
+          drop-at (joinBelow i sectors)
+              (drop (i * s) bytes) (i * s) l,
+          drop-drop s (i * s) bytes,
+          add-one i,
+          suc-mul i s,
+        )
 
     pub turn-length : (now : List ℕ) → length now ≡ length bytes → length (putPart (p .s) i (sectors i) now) ≡ length bytes
     turn-length now e = put-length (p .s) i (sectors i) now (rw e ends) (each count i (omega arith) low) ∙ e

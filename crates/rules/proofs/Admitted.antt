@@ -21,7 +21,24 @@ use Rattle.rules.specs.Regions.{view, viewOf}
 use Rattle.rules.specs.Marks.{marksOf}
 use Rattle.rules.specs.Orderly.{blocksRule, clusterRule, ctRule, fstRule, orderly, regionBlocks, regionFst, rulesOf}
 use Rattle.rules.specs.Format.{goodBlocks}
-use Rattle.rules.specs.Replies.{accessRows, badAddress, badCluster, badCount, badParameter, firstRow, lengthsFit, lentRows, notOrderly, numberOf, orderRow, replyOf, rowsOf, tooFewBlocks, wrongData, wrongLength}
+use Rattle.rules.specs.Replies.{
+  accessRows,
+  badAddress,
+  badCluster,
+  badCount,
+  badParameter,
+  firstRow,
+  lengthsFit,
+  lentRows,
+  notOrderly,
+  numberOf,
+  orderRow,
+  replyOf,
+  rowsOf,
+  tooFewBlocks,
+  wrongData,
+  wrongLength,
+}
 use Rattle.rules.specs.Requests.{Request, requestCluster, format, read, release, write}
 use Rattle.rules.proofs.RegionFacts.{regionOrderly}
 use Rattle.rules.proofs.Sizes.{Sizes, sizes}

@@ -72,7 +72,8 @@ module _ (p : Params) (blk : List ℕ) (whole : length blk ≡ blockBytes p) whe
     where
       go : Dec (f < k) → getD (spare p blk (f * p .alpha + j)) 5 0 ≡ 255
       go (yes a) = rw (← frame-spare f j lj, (u .front f a lf) .marks j lj) (unfold spareBytes bytes32 in refl)
-      go (no a) = erased-fifth (f * p .alpha + j) h (rw (← frame-spare f j lj) (unfold spare page in allAre-drop 255 (p .s) _ (allAre-part 255 (pageBytes p) j (frame p blk f) (u .rest f (omega arith) lf))))
+      go (no a) = erased-fifth (f * p .alpha + j) h (rw (← frame-spare f j lj)
+          (unfold spare page in allAre-drop 255 (p .s) _ (allAre-part 255 (pageBytes p) j (frame p blk f) (u .rest f (omega arith) lf))))
 
   -- by its number
   used-fifth : Sizes p → (r k : ℕ) → UpTo p r k blk → (q : ℕ) → q < pages p → getD (spare p blk q) 5 0 ≡ 255

@@ -211,7 +211,8 @@ module _ (p : Params) (z : Sizes p) (b : Board) (t : Tables p b) (r : ℕ) (regi
       from : AllFrom p new 0 copying
       from =
           unfold copying in
-          frames-from p new 0 (copies p (view p b r) (reclaims v)) 0 (omega arith) (copies-fit p z r (view p b r) nt full every sized v low few) (wholes p z r (view p b r) nt full every sized v low few)
+          frames-from p new 0 (copies p (view p b r) (reclaims v)) 0 (omega arith) (copies-fit p z r (view p b r) nt full every sized v low few)
+          (wholes p z r (view p b r) nt full every sized v low few)
 
   -- from then on the copies stand
   after : (k i : ℕ) → length copying < k → i < length (validFrames p (view p b r) v)

@@ -67,7 +67,13 @@ module _ (p : Params) (z : Sizes p) (vw : View) (v f c : ℕ) (x : List ℕ) (re
   unfolding lastIn holds
   last-new =
       last-is none (frames p) _ f (ready .low)
-      (rw (frame-new, eq-eqb (f / p .beta) (f / p .beta) refl, marked-programmed p x c (sheet .marked 0 (z .sectors)), eq-eqb (held p x) c (marked-held p x c (sheet .marked 0 (z .sectors)) (sheet .small))))
+      (rw (
+        frame-new,
+        eq-eqb (f / p .beta) (f / p .beta) refl,
+        marked-programmed p x c (sheet .marked 0 (z .sectors)),
+        eq-eqb (held p x) c
+            (marked-held p x c (sheet .marked 0 (z .sectors)) (sheet .small)),
+      ))
       (λ g a b. rw (frame-old g (omega arith), erased-not p (frame p (vw .body v) g) (ready .rest g (omega arith) b)) (none-pass (eqb (g / p .beta) (f / p .beta))))
     where
       none-pass : (t : Bool) → t && false ≡ false
@@ -110,7 +116,15 @@ module _ (p : Params) (z : Sizes p) (vw : View) (v f c : ℕ) (x : List ℕ) (re
   pub read-new : (j : ℕ) → sectorIn p (withFrame p vw v f c x) c j ≡ take (p .s) (page p x j)
   unfolding sectorIn frameOf
   read-new j =
-      rw (seg-new, ne-eqb (segmentOf p v f) none (λ e. omega (arith, seg-low p z v f (ready .low) (ready .mine), z .few)), seg-vblock p z v f (ready .low), seg-place p z v f (ready .low), last-new, frame-new)
+      rw (
+        seg-new,
+        ne-eqb (segmentOf p v f) none (λ e. omega (arith, seg-low p z v f (ready .low) (ready .mine), z .few)),
+        seg-vblock p z v f (ready .low),
+        seg-place p z v f
+            (ready .low),
+        last-new,
+        frame-new,
+      )
 
   frames-differ : (k c′ : ℕ) → lastIn p (vw .body v) k c′ < frames p → lastIn p (vw .body v) k c′ ≡ f → ⊥
   unfolding holds

@@ -7,19 +7,115 @@ use Rattle.rules.specs.Tables.{ctAt, btEntry, btAt, fstAt, bstAt, wearAt
 use Rattle.rules.specs.Pages.{block, frame, page, spare, le32, bytes32, spareBytes, held, programmed, holds, filled, lastIn, programmedDownTo}
 use Rattle.rules.specs.Regions.{bodyAt, viewOf, assigned, valid, validFrames, frameOf, sectorIn, sector, looksIn, looksAt}
 use Rattle.rules.specs.Marks.{wordOf, entryOf, tableOf, marked, marksIn}
-use Rattle.rules.specs.Orderly.{bstRule, btRule, onceRule, named, usedRule, roomRule, freeRule, goodFrame, goodUpTo, blockRule, regionBlocks, blocksRule, fullRule, openRule, regionFst, fstRule, entryRule, clusterRule, ctRule, marksRule, rulesOf, orderly}
+use Rattle.rules.specs.Orderly.{
+  bstRule,
+  btRule,
+  onceRule,
+  named,
+  usedRule,
+  roomRule,
+  freeRule,
+  goodFrame,
+  goodUpTo,
+  blockRule,
+  regionBlocks,
+  blocksRule,
+  fullRule,
+  openRule,
+  regionFst,
+  fstRule,
+  entryRule,
+  clusterRule,
+  ctRule,
+  marksRule,
+  rulesOf,
+  orderly,
+}
 use Rattle.rules.specs.Traces.{onChip, onWear, replayChip, replayWear, clean, isErase, programsIn, erasesIn, frameOps, framesOps}
 use Rattle.rules.specs.Requests.{lies, itemRequest, itemRequests, lent, lentAnswers}
 use Rattle.rules.specs.Format.{badMark, bad, goodBlocks, formatOps, formatted}
-use Rattle.rules.specs.Write.{hasRoom, lowestUnassigned, victim, planOf, planVBlock, copies, planFrame, planErases, newSector, newPage, newFrame, freeBlock, planBlock, eraseOps, roomOps, planOps, followCt, planBst, writtenBy, writeOps, written}
+use Rattle.rules.specs.Write.{
+  hasRoom,
+  lowestUnassigned,
+  victim,
+  planOf,
+  planVBlock,
+  copies,
+  planFrame,
+  planErases,
+  newSector,
+  newPage,
+  newFrame,
+  freeBlock,
+  planBlock,
+  eraseOps,
+  roomOps,
+  planOps,
+  followCt,
+  planBst,
+  writtenBy,
+  writeOps,
+  written,
+}
 use Rattle.rules.specs.Release.{released}
-use Rattle.rules.specs.Replies.{isAccepted, lengthsFit, badParameter, wrongLength, badCount, badAddress, badCluster, wrongData, tooFewBlocks, notOrderly, tooFewAnswers, firstRow, lentRows, accessRows, orderRow, rowsOf, replyOf, whyRows, whyReply}
+use Rattle.rules.specs.Replies.{
+  isAccepted,
+  lengthsFit,
+  badParameter,
+  wrongLength,
+  badCount,
+  badAddress,
+  badCluster,
+  wrongData,
+  tooFewBlocks,
+  notOrderly,
+  tooFewAnswers,
+  firstRow,
+  lentRows,
+  accessRows,
+  orderRow,
+  rowsOf,
+  replyOf,
+  whyRows,
+  whyReply,
+}
 use Rattle.rules.specs.Calls.{answerOf, single, refuses, does, readBytes, writeWork, writeAll, queueWork, workOf, opsOf, over, answersIn, outcomeOf}
-use Rattle.rules.specs.BoardT.{paramsT, boardT, blankT, asks, W, R, inputT, counted, printed, sessionFrom, sessionT, outputT, boardFrom, after, plannedT, formatsT, readsT, reclaimAfter, paramsJ, markedCases, asSaid, sameLists}
+use Rattle.rules.specs.BoardT.{
+  paramsT,
+  boardT,
+  blankT,
+  asks,
+  W,
+  R,
+  inputT,
+  counted,
+  printed,
+  sessionFrom,
+  sessionT,
+  outputT,
+  boardFrom,
+  after,
+  plannedT,
+  formatsT,
+  readsT,
+  reclaimAfter,
+  paramsJ,
+  markedCases,
+  asSaid,
+  sameLists,
+}
 
 -- what the calls are defined by
 unfoldable pub all-rules : Unit {0}
-unfolding allBelow allTrue countBelow firstBelow lastBelow leastBelow keepBelow joinBelow listBelow bitsBelow updated part putPart allAre sameList frames pages pageBytes frameBytes blockBytes chipBytes perRegion within allowed ctAt btEntry btAt fstAt bstAt wearAt wordAt block frame page spare le32 bytes32 spareBytes held programmed holds filled lastIn programmedDownTo bodyAt viewOf assigned valid validFrames frameOf sectorIn sector looksIn looksAt wordOf entryOf tableOf marked marksIn bstRule btRule onceRule named usedRule roomRule freeRule goodFrame goodUpTo blockRule regionBlocks blocksRule fullRule openRule regionFst fstRule entryRule clusterRule ctRule marksRule rulesOf orderly onChip onWear replayChip replayWear clean isErase programsIn erasesIn frameOps framesOps lies itemRequest itemRequests lent lentAnswers badMark bad goodBlocks formatOps formatted hasRoom lowestUnassigned victim planOf planVBlock copies planFrame planErases newSector newPage newFrame freeBlock planBlock eraseOps roomOps planOps followCt planBst writtenBy writeOps written released isAccepted lengthsFit badParameter wrongLength badCount badAddress badCluster wrongData tooFewBlocks notOrderly tooFewAnswers firstRow lentRows accessRows orderRow rowsOf replyOf whyRows whyReply answerOf single refuses does readBytes writeWork writeAll queueWork workOf opsOf over answersIn outcomeOf
+unfolding allBelow allTrue countBelow firstBelow lastBelow leastBelow keepBelow joinBelow listBelow bitsBelow updated part putPart allAre sameList frames pages pageBytes
+    frameBytes blockBytes chipBytes perRegion within allowed ctAt btEntry btAt fstAt bstAt wearAt wordAt block frame page spare le32 bytes32 spareBytes held programmed holds
+    filled lastIn programmedDownTo bodyAt viewOf assigned valid validFrames frameOf sectorIn sector looksIn looksAt wordOf entryOf tableOf marked marksIn bstRule btRule
+    onceRule named usedRule roomRule freeRule goodFrame goodUpTo blockRule regionBlocks blocksRule fullRule openRule regionFst fstRule entryRule clusterRule ctRule marksRule
+    rulesOf orderly onChip onWear replayChip replayWear clean isErase programsIn erasesIn frameOps framesOps lies itemRequest itemRequests lent lentAnswers badMark bad
+    goodBlocks formatOps formatted hasRoom lowestUnassigned victim planOf planVBlock copies planFrame planErases newSector newPage newFrame freeBlock planBlock eraseOps
+    roomOps planOps followCt planBst writtenBy writeOps written released isAccepted lengthsFit badParameter wrongLength badCount badAddress badCluster wrongData tooFewBlocks
+    notOrderly tooFewAnswers firstRow lentRows accessRows orderRow rowsOf replyOf whyRows whyReply answerOf single refuses does readBytes writeWork writeAll queueWork workOf
+    opsOf over answersIn outcomeOf
 all-rules = tt
 
 -- and Board T

@@ -65,7 +65,8 @@ module _ (p : Params) (z : Sizes p) (vw : View) (whole : Whole p vw) where
     unfolding newSector
     new-length j h = go (so (leb (sectorOf p (q .lba)) j && ltb j (sectorOf p (q .lba) + q .count)))
       where
-        go : (leb (sectorOf p (q .lba)) j && ltb j (sectorOf p (q .lba) + q .count) ≡ true) ⊎ (leb (sectorOf p (q .lba)) j && ltb j (sectorOf p (q .lba) + q .count) ≡ false) → length (newSector p vw q j) ≡ p .s
+        go : (leb (sectorOf p (q .lba)) j && ltb j (sectorOf p (q .lba) + q .count) ≡ true) ⊎ (leb (sectorOf p (q .lba)) j && ltb j (sectorOf p (q .lba) + q .count) ≡ false)
+            → length (newSector p vw q j) ≡ p .s
         go (inl e) =
             let a = leb-true (sectorOf p (q .lba)) j (and-left (leb (sectorOf p (q .lba)) j) _ e) in
             let b = ltb-true j (sectorOf p (q .lba) + q .count) (and-right (leb (sectorOf p (q .lba)) j) e) in

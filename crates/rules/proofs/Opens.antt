@@ -127,7 +127,9 @@ module _ (p : Params) (z : Sizes p) (r : ℕ) (vw : View) (neat : Neat p r vw) (
 pub free-fresh : (p : Params) (z : Sizes p) (b : Board) → Tables p b → block p (b .chip) (freeBlock p (b .bst) (b .wear)) ≡ erasedBlock p
 free-fresh p z b t =
     let w = free-block p z b t in
-    erased-fresh p (block p (b .chip) (freeBlock p (b .bst) (b .wear))) (block-size p (b .chip) (freeBlock p (b .bst) (b .wear)) (rw (t .chipLength) (next (blockBytes p) (freeBlock p (b .bst) (b .wear)) (p .N) (w .0)))) (t .free (freeBlock p (b .bst) (b .wear)) (w .0) (w .1))
+    erased-fresh p (block p (b .chip) (freeBlock p (b .bst) (b .wear)))
+    (block-size p (b .chip) (freeBlock p (b .bst) (b .wear)) (rw (t .chipLength) (next (blockBytes p) (freeBlock p (b .bst) (b .wear)) (p .N) (w .0))))
+    (t .free (freeBlock p (b .bst) (b .wear)) (w .0) (w .1))
 
 module _ (p : Params) (z : Sizes p) (b : Board) (t : Tables p b) (r : ℕ) (region : r < p .mu) (neat : Neat p r (view p b r)) (no-room : hasRoom p (view p b r) ≡ false)
     (v : ℕ) (low : v < p .gamma) (lacks : assigned (view p b r) v ≡ false) where

@@ -64,11 +64,13 @@ module _ (p : Params) (z : Sizes p) (b : Board) (t : Tables p b) (r : ℕ) (regi
   old-fits = rw (copied .size) (chip-fits p z b t r v region low taken)
 
   -- the chip once the victim is erased
-  chip-is : replayChip p (b .chip) (roomOps p b r (reclaims v)) ≡ replayChip p (replayChip p (b .chip) (framesOps p (freeBlock p (b .bst) (b .wear)) 0 (copies p (view p b r) (reclaims v)))) (erase (btAt p (b .bt) r v) ∷ [])
+  chip-is : replayChip p (b .chip) (roomOps p b r (reclaims v)) ≡ replayChip p
+      (replayChip p (b .chip) (framesOps p (freeBlock p (b .bst) (b .wear)) 0 (copies p (view p b r) (reclaims v)))) (erase (btAt p (b .bt) r v) ∷ [])
   unfolding roomOps eraseOps planBlock
   chip-is = replay-append p (b .chip) (framesOps p (freeBlock p (b .bst) (b .wear)) 0 (copies p (view p b r) (reclaims v))) (erase (btAt p (b .bt) r v) ∷ [])
 
-  erased : Ran p (replayChip p (b .chip) (framesOps p (freeBlock p (b .bst) (b .wear)) 0 (copies p (view p b r) (reclaims v)))) (replayChip p (b .chip) (roomOps p b r (reclaims v))) (btAt p (b .bt) r v) (erasedBlock p)
+  erased : Ran p (replayChip p (b .chip) (framesOps p (freeBlock p (b .bst) (b .wear)) 0 (copies p (view p b r) (reclaims v))))
+      (replayChip p (b .chip) (roomOps p b r (reclaims v))) (btAt p (b .bt) r v) (erasedBlock p)
   erased = rw chip-is (erase-ran p _ (btAt p (b .bt) r v) old-fits)
 
   block-new : block p (replayChip p (b .chip) (roomOps p b r (reclaims v))) (freeBlock p (b .bst) (b .wear)) ≡ (withRoom p (view p b r) (reclaims v)) .body v
@@ -128,9 +130,12 @@ module _ (p : Params) (z : Sizes p) (b : Board) (t : Tables p b) (r : ℕ) (regi
         reads = reclaim-reads p z r (view p b r) neat no-room every sized v low few;
         bstLength = length-set (set (b .bst) (freeBlock p (b .bst) (b .wear)) 1) (btAt p (b .bt) r v) 0 ∙ length-set (b .bst) (freeBlock p (b .bst) (b .wear)) 1 ∙ t .bstLength;
         was = λ e. omega (arith, w .1);
-        kindHere = getD-set-other (set (b .bst) (freeBlock p (b .bst) (b .wear)) 1) (btAt p (b .bt) r v) (freeBlock p (b .bst) (b .wear)) 0 0 (λ e. differ (sym e)) ∙ getD-set-same (b .bst) (freeBlock p (b .bst) (b .wear)) 1 0 (rw (t .bstLength) (w .0));
-        kindOld = λ ne k. getD-set-same (set (b .bst) (freeBlock p (b .bst) (b .wear)) 1) (btAt p (b .bt) r v) 0 0 (rw (length-set (b .bst) (freeBlock p (b .bst) (b .wear)) 1, t .bstLength) (block-low p z b t r v region low taken));
+        kindHere = getD-set-other (set (b .bst) (freeBlock p (b .bst) (b .wear)) 1) (btAt p (b .bt) r v) (freeBlock p (b .bst) (b .wear)) 0 0 (λ e. differ (sym e)) ∙
+            getD-set-same (b .bst) (freeBlock p (b .bst) (b .wear)) 1 0 (rw (t .bstLength) (w .0));
+        kindOld = λ ne k. getD-set-same (set (b .bst) (freeBlock p (b .bst) (b .wear)) 1) (btAt p (b .bt) r v) 0 0
+            (rw (length-set (b .bst) (freeBlock p (b .bst) (b .wear)) 1, t .bstLength) (block-low p z b t r v region low taken));
         eraseOld = λ ne k. rw (erased .here) (fresh-all p);
-        kindElse = λ m h ne k. unfold bstAt in (getD-set-other (set (b .bst) (freeBlock p (b .bst) (b .wear)) 1) (btAt p (b .bt) r v) m 0 0 k ∙ getD-set-other (b .bst) (freeBlock p (b .bst) (b .wear)) m 1 0 ne);
+        kindElse = λ m h ne k. unfold bstAt in (getD-set-other (set (b .bst) (freeBlock p (b .bst) (b .wear)) 1) (btAt p (b .bt) r v) m 0 0 k ∙ getD-set-other (b .bst)
+            (freeBlock p (b .bst) (b .wear)) m 1 0 ne);
         blockElse = λ m h ne k. block-same m ne k;
       }

@@ -84,7 +84,13 @@ module _ (p : Params) (vw : View) (c : ℕ) where
   unfolding regionOrderly
   without-orderly r h =
       let t = truths _ h in
-      all-true _ (unfold without regionBlocks assigned in t .0, (unfold without regionFst openRule fullRule assigned in t .1 .0, (all-below-intro (p .C) _ (λ x k. entry x (ℕ-discrete x c) (all-at (p .C) (clusterRule p vw) (t .1 .1 .0) x k)), tt)))
+      all-true _ (
+        unfold without regionBlocks assigned in t .0,
+        (
+          unfold without regionFst openRule fullRule assigned in t .1 .0,
+          (all-below-intro (p .C) _ (λ x k. entry x (ℕ-discrete x c) (all-at (p .C) (clusterRule p vw) (t .1 .1 .0) x k)), tt),
+        ),
+      )
     where
       entry : (x : ℕ) → Dec (x ≡ c) → clusterRule p vw x ≡ true → clusterRule p (without vw c) x ≡ true
       entry x (yes e) k = unfold clusterRule in rw (e, gone)

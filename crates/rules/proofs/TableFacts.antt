@@ -55,7 +55,8 @@ names-out p b h = all-below-intro (p .mu * p .gamma) _ (λ i k. go i (h i k))
     go i (inl e) = rw (eq-eqb (btEntry (b .bt) i) none e)
     go i (inr e) = or-right (eqb (btEntry (b .bt) i) none) (lt-ltb _ _ e)
 
-once-in : (p : Params) (b : Board) → onceRule p (b .bt) ≡ true → (i j : ℕ) → i < p .mu * p .gamma → j < p .mu * p .gamma → btEntry (b .bt) i ≡ btEntry (b .bt) j → (btEntry (b .bt) i ≡ none → ⊥) → i ≡ j
+once-in : (p : Params) (b : Board) → onceRule p (b .bt) ≡ true → (i j : ℕ) → i < p .mu * p .gamma → j < p .mu * p .gamma → btEntry (b .bt) i ≡ btEntry (b .bt) j
+    → (btEntry (b .bt) i ≡ none → ⊥) → i ≡ j
 unfolding onceRule
 once-in p b h i j a c e ne = go (ℕ-discrete i j)
   where
@@ -67,9 +68,11 @@ once-in p b h i j a c e ne = go (ℕ-discrete i j)
     go (yes k) = k
     go (no k) = absurd (false≢true (rw (ne-eqb i j k, ne-eqb (btEntry (b .bt) i) none ne, eq-eqb (btEntry (b .bt) i) (btEntry (b .bt) j) e) at t))
 
-once-out : (p : Params) (b : Board) → ((i j : ℕ) → i < p .mu * p .gamma → j < p .mu * p .gamma → btEntry (b .bt) i ≡ btEntry (b .bt) j → (btEntry (b .bt) i ≡ none → ⊥) → i ≡ j) → onceRule p (b .bt) ≡ true
+once-out : (p : Params) (b : Board) → ((i j : ℕ) → i < p .mu * p .gamma → j < p .mu * p .gamma → btEntry (b .bt) i ≡ btEntry (b .bt) j → (btEntry (b .bt) i ≡ none → ⊥)
+    → i ≡ j) → onceRule p (b .bt) ≡ true
 unfolding onceRule
-once-out p b h = all-below-intro (p .mu * p .gamma) _ (λ i a. all-below-intro (p .mu * p .gamma) _ (λ j c. go i j a c (ℕ-discrete i j) (ℕ-discrete (btEntry (b .bt) i) none) (ℕ-discrete (btEntry (b .bt) i) (btEntry (b .bt) j))))
+once-out p b h = all-below-intro (p .mu * p .gamma) _ (λ i a. all-below-intro (p .mu * p .gamma) _
+    (λ j c. go i j a c (ℕ-discrete i j) (ℕ-discrete (btEntry (b .bt) i) none) (ℕ-discrete (btEntry (b .bt) i) (btEntry (b .bt) j))))
   where
     go : (i j : ℕ) → i < p .mu * p .gamma → j < p .mu * p .gamma → Dec (i ≡ j) → Dec (btEntry (b .bt) i ≡ none) → Dec (btEntry (b .bt) i ≡ btEntry (b .bt) j)
         → eqb i j || (eqb (btEntry (b .bt) i) none || not (eqb (btEntry (b .bt) i) (btEntry (b .bt) j))) ≡ true
@@ -86,7 +89,8 @@ named-out : (p : Params) (b : Board) (n i : ℕ) → i < p .mu * p .gamma → bt
 unfolding named
 named-out p b n i k e = go (so (allBelow (p .mu * p .gamma) (λ i. not (eqb (btEntry (b .bt) i) n))))
   where
-    go : (allBelow (p .mu * p .gamma) (λ i. not (eqb (btEntry (b .bt) i) n)) ≡ true) ⊎ (allBelow (p .mu * p .gamma) (λ i. not (eqb (btEntry (b .bt) i) n)) ≡ false) → not (allBelow (p .mu * p .gamma) (λ i. not (eqb (btEntry (b .bt) i) n))) ≡ true
+    go : (allBelow (p .mu * p .gamma) (λ i. not (eqb (btEntry (b .bt) i) n)) ≡ true) ⊎ (allBelow (p .mu * p .gamma) (λ i. not (eqb (btEntry (b .bt) i) n)) ≡ false)
+        → not (allBelow (p .mu * p .gamma) (λ i. not (eqb (btEntry (b .bt) i) n))) ≡ true
     go (inl a) = absurd (never (eq-eqb _ _ e) (not-true _ (all-at (p .mu * p .gamma) (λ i. not (eqb (btEntry (b .bt) i) n)) a i k)))
     go (inr a) = rw a
 

@@ -38,7 +38,12 @@ unfolding valid
 valid-in p vw v f h =
     let fr = frame p (vw .body v) f in
     let k = and-right (programmed p fr) h in
-    record { written = and-left (programmed p fr) _ h; names = eqb-true _ _ (and-left (eqb (vw .segOf (held p fr)) (segmentOf p v f)) _ k); last = eqb-true _ _ (and-right (eqb (vw .segOf (held p fr)) (segmentOf p v f)) k) }
+    record {
+      written = and-left (programmed p fr) _ h;
+      names = eqb-true _ _ (and-left (eqb (vw .segOf (held p fr)) (segmentOf p v f)) _ k);
+      last = eqb-true _ _
+          (and-right (eqb (vw .segOf (held p fr)) (segmentOf p v f)) k);
+    }
 
 pub valid-out : (p : Params) (vw : View) (v f : ℕ) → Valid p vw v f → valid p vw v f ≡ true
 unfolding valid

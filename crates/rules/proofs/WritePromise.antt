@@ -24,7 +24,27 @@ use Rattle.rules.specs.Pages.{filled, frame, page}
 use Rattle.rules.specs.Regions.{View, assigned, sector, validFrames, view}
 use Rattle.rules.specs.Orderly.{orderly}
 use Rattle.rules.specs.Traces.{Op, clean, erasesIn, frameOps, framesOps, isErase, program, programsIn}
-use Rattle.rules.specs.Write.{Plan, planErases, continues, copies, eraseOps, hasRoom, lowestUnassigned, newFrame, opens, planBlock, planFrame, planOf, planOps, reclaims, roomOps, victim, writeOps, written, writtenBy}
+use Rattle.rules.specs.Write.{
+  Plan,
+  planErases,
+  continues,
+  copies,
+  eraseOps,
+  hasRoom,
+  lowestUnassigned,
+  newFrame,
+  opens,
+  planBlock,
+  planFrame,
+  planOf,
+  planOps,
+  reclaims,
+  roomOps,
+  victim,
+  writeOps,
+  written,
+  writtenBy,
+}
 use Rattle.rules.specs.Replies.{lengthsFit, replyOf}
 use Rattle.rules.specs.Requests.{Request, write, requestCluster, requestRegion}
 use Rattle.rules.specs.Machine.{viewAfter}
@@ -73,7 +93,8 @@ module _ (p : Params) (z : Sizes p) (b : Board) (t : Tables p b) (r : ℕ) (regi
   to-reclaim h e = go (least-spec (λ v. length (validFrames p (view p b r) v)) none (p .gamma) (λ v. true) γ-few)
     where
       go : ((victim p (view p b r) ≡ none) × ((i : ℕ) → i < p .gamma → true ≡ false))
-          ⊎ ((victim p (view p b r) < p .gamma) × (true ≡ true) × ((i : ℕ) → i < p .gamma → true ≡ true → length (validFrames p (view p b r) (victim p (view p b r))) ≤ length (validFrames p (view p b r) i)))
+          ⊎ ((victim p (view p b r) < p .gamma) × (true ≡ true)
+          × ((i : ℕ) → i < p .gamma → true ≡ true → length (validFrames p (view p b r) (victim p (view p b r))) ≤ length (validFrames p (view p b r) i)))
           → Makes p b r (reclaims (victim p (view p b r)))
       go (inl w) = absurd (false≢true (sym (w .1 0 (z .vblocks))))
       go (inr w) =

@@ -84,7 +84,8 @@ module _ (p : Params) (b : Board) (q : Request) (acc : Admitted p b q) (r : ℕ)
       (host-clean p (acc .sized) b (writtenBy p b r q pl) (acc .tables) r (planVBlock pl) (planBlock p b r pl) (planFrame p (view p b r) pl) (requestCluster p q) (newFrame p (view p b r) q)
       _ _ (withRoom p (view p b r) pl) (makes .room) put region (acc .asked .cluster) is (makes .base .ready) sheet)
 
-  effect : Effect p b (writtenBy p b r q pl) r (planVBlock pl) (planBlock p b r pl) (withFrame p (withRoom p (view p b r) pl) (planVBlock pl) (planFrame p (view p b r) pl) (requestCluster p q) (newFrame p (view p b r) q))
+  effect : Effect p b (writtenBy p b r q pl) r (planVBlock pl) (planBlock p b r pl)
+      (withFrame p (withRoom p (view p b r) pl) (planVBlock pl) (planFrame p (view p b r) pl) (requestCluster p q) (newFrame p (view p b r) q))
   effect =
       write-effect p (acc .sized) b (writtenBy p b r q pl) (acc .tables) r (planVBlock pl) (planBlock p b r pl) (planFrame p (view p b r) pl) (requestCluster p q) (newFrame p (view p b r) q)
       _ _ (withRoom p (view p b r) pl) (makes .room) put region (acc .asked .cluster) is (makes .base .ready) sheet
@@ -124,7 +125,8 @@ module _ (p : Params) (b : Board) (q : Request) (acc : Admitted p b q) (r : ℕ)
     where
       go : Dec (regionOf p c ≡ r) → sectorIn p (view p (writtenBy p b r q pl) (regionOf p c)) c j ≡ sectorIn p (view p b (regionOf p c)) c j
       go (yes e) =
-          rw (e, own-is) (read-old p (acc .sized) (withRoom p (view p b r) pl) (planVBlock pl) (planFrame p (view p b r) pl) (requestCluster p q) (newFrame p (view p b r) q) (makes .base .ready) sheet c ne (named-in c h) j
+          rw (e, own-is) (read-old p (acc .sized) (withRoom p (view p b r) pl) (planVBlock pl) (planFrame p (view p b r) pl) (requestCluster p q) (newFrame p (view p b r) q)
+          (makes .base .ready) sheet c ne (named-in c h) j
           ∙ makes .reads c h j)
       go (no e) = rw (others-same (regionOf p c) (mod-lt c (acc .sized .regions)) e)
 
@@ -193,5 +195,6 @@ module _ (p : Params) (b : Board) (q : Request) (acc : Admitted p b q) (r : ℕ)
   write-orderly = orderly-all p (writtenBy p b r q pl) (acc .sized) tables-after (λ r′ h. go r′ h (ℕ-discrete r′ r)) (write-marks p b r q pl)
     where
       go : (r′ : ℕ) → r′ < p .mu → Dec (r′ ≡ r) → regionOrderly p r′ (view p (writtenBy p b r q pl) r′) ≡ true
-      go r′ h (yes e) = rw (e, own-is) (put-orderly p (acc .sized) r (withRoom p (view p b r) pl) (planVBlock pl) (planFrame p (view p b r) pl) (requestCluster p q) (newFrame p (view p b r) q) (makes .base) sheet (acc .asked .cluster) is)
+      go r′ h (yes e) = rw (e, own-is) (put-orderly p (acc .sized) r (withRoom p (view p b r) pl) (planVBlock pl) (planFrame p (view p b r) pl) (requestCluster p q)
+          (newFrame p (view p b r) q) (makes .base) sheet (acc .asked .cluster) is)
       go r′ h (no e) = rw (others-same r′ h e) (acc .tidy r′ h)

@@ -192,14 +192,16 @@ module _ (p : Params) (b : Board) (q : Request) (e : replyOf p b (write q) ≡ A
   place-after = rw seg-after (seg-place p (adm .sized) (planVBlock pl) (planFrame p vw pl) (made .base .ready .low))
 
   -- its last frame there is the plan's
-  frame-after : lastIn p ((view p (written p b q) (requestRegion p q)) .body (vblockOf p (ctAt ((written p b q) .ct) (requestCluster p q)))) (placeOf p (ctAt ((written p b q) .ct) (requestCluster p q))) (requestCluster p q)
+  frame-after : lastIn p ((view p (written p b q) (requestRegion p q)) .body (vblockOf p (ctAt ((written p b q) .ct) (requestCluster p q))))
+      (placeOf p (ctAt ((written p b q) .ct) (requestCluster p q))) (requestCluster p q)
       ≡ planFrame p vw pl
   frame-after =
       rw (vblock-after, place-after, own)
       (last-new p (adm .sized) (withRoom p vw pl) (planVBlock pl) (planFrame p vw pl) (requestCluster p q) (newFrame p vw q) (made .base .ready) sheet)
 
   -- the block that was reclaimed is free, and so erased
-  erased-after : planAt p vw pl 0 ≡ 3 → (btAt p (b .bt) (requestRegion p q) (planAt p vw pl 1) < p .N) × (erased (block p ((written p b q) .chip) (btAt p (b .bt) (requestRegion p q) (planAt p vw pl 1))) ≡ true)
+  erased-after : planAt p vw pl 0 ≡ 3 → (btAt p (b .bt) (requestRegion p q) (planAt p vw pl 1) < p .N)
+      × (erased (block p ((written p b q) .chip) (btAt p (b .bt) (requestRegion p q) (planAt p vw pl 1))) ≡ true)
   erased-after k =
       let w = plan-frees p (adm .sized) b (adm .tables) (requestRegion p q) region pl listed made k in
       (w .0, (tables-in p (written p b q) (promise .lengths) (promise .orderlyLeft)) .free (btAt p (b .bt) (requestRegion p q) (planAt p vw pl 1)) (w .0) (unfold written writtenBy in w .1))

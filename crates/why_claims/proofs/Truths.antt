@@ -158,4 +158,12 @@ module _ (p : Params) (b : Board) (lba : ℕ) where
     forecast q is a = forecast-true p b q a lba ((answered p b lba accepted) .low) is (toldAt p b lba) (rw is planned) (rw is seen)
 
 pub why-true : (p : Params) (b : Board) (lba : ℕ) → WhyTrue p b lba
-why-true p b lba = record { reply = told-reply p b lba; rule = rule-true p b lba; kind = kind p b lba; held = held-true p b lba; notHeld = not-held-true p b lba; forecast = forecast p b lba; looks = looks-true p b lba }
+why-true p b lba = record {
+  reply = told-reply p b lba;
+  rule = rule-true p b lba;
+  kind = kind p b lba;
+  held = held-true p b lba;
+  notHeld = not-held-true p b lba;
+  forecast = forecast p b lba;
+  looks = looks-true p b lba;
+}

@@ -26,7 +26,12 @@ least-more bst wear i m x t a b e = rw (add-one, e, b, a)
 
 pub compared : (p : Params) (bst wear : List ℕ) → Pool p bst wear → (i m : ℕ) → i < p .N → m ≡ leastFree bst wear i → Compared bst wear i m
 compared p bst wear a i m h e =
-    record { free = omega (arith, a .bstLength); low = omega (arith, a .wearLength); best = go (least-spec (wearAt wear) none i (λ j. eqb (bstAt bst j) 0) (omega (arith, (sizes p (a .fine)) .blocks))) }
+    record {
+      free = omega (arith, a .bstLength);
+      low = omega (arith, a .wearLength);
+      best = go
+          (least-spec (wearAt wear) none i (λ j. eqb (bstAt bst j) 0) (omega (arith, (sizes p (a .fine)) .blocks)));
+    }
   where
     go : ((leastFree bst wear i ≡ none) × ((j : ℕ) → j < i → eqb (bstAt bst j) 0 ≡ false))
         ⊎ ((leastFree bst wear i < i) × (eqb (bstAt bst (leastFree bst wear i)) 0 ≡ true) × ((j : ℕ) → j < i → eqb (bstAt bst j) 0 ≡ true → wearAt wear (leastFree bst wear i) ≤ wearAt wear j))

@@ -101,7 +101,11 @@ module _ (p : Params) (chip ct : List ℕ) (o n v : ℕ) (a : FromTo p chip ct o
 
   next-clean : (m : ℕ) → m < frames p → erased (frame p (block p (after m) n) (length (xs m))) ≡ true
   next-clean m h =
-      rw ((ran m (omega arith)) .here, put-frames-else p (xs m) 0 (block p chip n) (block-size p chip n n-fits) (whole m (omega arith)) (omega (arith, kept-few m)) (length (xs m)) (λ x y. omega arith))
+      rw (
+        (ran m (omega arith)) .here,
+        put-frames-else p (xs m) 0 (block p chip n) (block-size p chip n n-fits) (whole m (omega arith)) (omega (arith, kept-few m))
+            (length (xs m)) (λ x y. omega arith),
+      )
       (a .clean (length (xs m)) (omega (arith, kept-few m)))
 
   -- after m turns
@@ -163,7 +167,18 @@ module _ (p : Params) (chip ct : List ℕ) (o n v : ℕ) (a : FromTo p chip ct o
           go : (t : Bool) → fine m ≡ t → So (m + 1) l′ u′ (k + x)
           go true t =
               record {
-                chipIs = w .chipIs ∙ rw (t, source, more-yes t, frames-snoc p n 0 (xs m) (frame p blk m), replay-append p chip (framesOps p n 0 (xs m)), zero-plus, frame-put p (after m) (frame p blk m) n (length (xs m)) fits-next (frame-whole p chip o m (from-in m h)), so .chipIs, so .count);
+                chipIs = w .chipIs ∙ rw (
+                  t,
+                  source,
+                  more-yes t,
+                  frames-snoc p n 0 (xs m) (frame p blk m),
+                  replay-append p chip (framesOps p n 0 (xs m)),
+                  zero-plus,
+                  frame-put p
+                      (after m) (frame p blk m) n (length (xs m)) fits-next (frame-whole p chip o m (from-in m h)),
+                  so .chipIs,
+                  so .count,
+                );
                 ctIs = w .ctIs ∙ rw (t, source, more-yes t, follow-snoc p v 0 (xs m) (frame p blk m) ct, zero-plus, so .ctIs, so .count);
                 count = rw (more-yes t, length-append (xs m) (frame p blk m ∷ []), w .count, t, so .count);
               }

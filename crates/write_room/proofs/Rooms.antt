@@ -109,7 +109,8 @@ module _ (p : Params) (chip ct bt fst bst wear marks : List ℕ) (r : ℕ) where
       }
 
 -- the copies of a reclaim are the marked frames, where each mark equals the validity rule
-pub made-by-marks : (p : Params) (chip ct bt bst wear marks : List ℕ) (r v : ℕ) → ReclaimReady p chip ct bt bst wear marks r v → (fst : List ℕ) → marks ≡ marksOf p (boardOf chip ct bt fst bst wear marks)
+pub made-by-marks : (p : Params) (chip ct bt bst wear marks : List ℕ) (r v : ℕ) → ReclaimReady p chip ct bt bst wear marks r v → (fst : List ℕ)
+    → marks ≡ marksOf p (boardOf chip ct bt fst bst wear marks)
     → (chip′ ct′ bt′ bst′ wear′ : List ℕ) (k : ℕ)
     → ((m : Marks) → marks ≡ tableOf p m → BlockReclaimed p chip ct bt bst wear r v (markedFrames p (block p chip (btAt p bt r v)) (m r v)) chip′ ct′ bt′ bst′ wear′ k)
     → RoomMade p (boardOf chip ct bt fst bst wear marks) r (reclaims v) v k k 1 chip′ ct′ bt′ bst′ wear′

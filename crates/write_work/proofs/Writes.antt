@@ -185,7 +185,8 @@ module _ (p : Params) (b : Board) (q : Request) (e : replyOf p b (write q) ≡ A
   unfolding lowestUnassigned
   every full u k = go (first-spec none (p .gamma) (λ v. not (assigned vw v)) (omega (arith, z .gammaHigh)))
     where
-      go : ((lowestUnassigned p vw ≡ none) × ((i : ℕ) → i < p .gamma → not (assigned vw i) ≡ false)) ⊎ ((lowestUnassigned p vw < p .gamma) × (not (assigned vw (lowestUnassigned p vw)) ≡ true)) → assigned vw u ≡ true
+      go : ((lowestUnassigned p vw ≡ none) × ((i : ℕ) → i < p .gamma → not (assigned vw i) ≡ false))
+          ⊎ ((lowestUnassigned p vw < p .gamma) × (not (assigned vw (lowestUnassigned p vw)) ≡ true)) → assigned vw u ≡ true
       go (inl w) = not-false _ (w .1 u k)
       go (inr w) = absurd (omega (arith, z .gammaHigh, full, w .0))
 
@@ -287,7 +288,8 @@ module _ (p : Params) (b : Board) (q : Request) (e : replyOf p b (write q) ≡ A
         → boardOf chip ct bt₁ fst bst₁ wear₁ marks ≡ written p b q
     unfolding written
     board-is chip ct fst marks x em =
-        let y = made.done p b q acc pl mk chip ct fst bst₁ wear₁ marks (rw (m-r .chipIs, m-r .ctIs, m-r .btIs, m-r .vblock, m-r .frame) at x) (m-r .bstIs) (m-r .wearIs) (em ∙ sym (ap (λ (l : Plan). (writtenBy p b r q l) .marks) ep-r)) in
+        let y = made.done p b q acc pl mk chip ct fst bst₁ wear₁ marks (rw (m-r .chipIs, m-r .ctIs, m-r .btIs, m-r .vblock, m-r .frame) at x) (m-r .bstIs) (m-r .wearIs)
+        (em ∙ sym (ap (λ (l : Plan). (writtenBy p b r q l) .marks) ep-r)) in
         rw (m-r .btIs) (y ∙ ap (writtenBy p b r q) ep-r)
 
     answer-is : (looks : ℕ) → looks ≡ looksAt p b (requestCluster p q) → acceptedAnswer p copied erases looks ≡ answerOf Accepted (writeOps p b q) (looksAt p b (requestCluster p q))
@@ -317,7 +319,8 @@ module _ (p : Params) (b : Board) (q : Request) (e : replyOf p b (write q) ≡ A
       unfolding writtenMarks
       kept-are m =
           let old = old-is p chip₁ ct₁ bt₁ c (lookup-made c ec) kept kept-fr u g s w (b .fst) (roomMarks p vw r pl m) in
-          rw (er, room-is p b r pl v copied erases (m-r .vblock) (m-r .count) (m-r .erases) m, ← ep-r, ← view-made, m-r .vblock, m-r .frame) (ap (λ (k : Marks). putMark k r (planVBlock pl) (planFrame p vw pl) true) (rw ec at old))
+          rw (er, room-is p b r pl v copied erases (m-r .vblock) (m-r .count) (m-r .erases) m, ← ep-r, ← view-made, m-r .vblock, m-r .frame)
+          (ap (λ (k : Marks). putMark k r (planVBlock pl) (planFrame p vw pl) true) (rw ec at old))
 
       -- the marks that are kept are those of the board that is left
       marks-kept : (marks : List ℕ) → ((m : Marks) → b .marks ≡ tableOf p m → marks ≡ tableOf p (keptMarks m r′ v f copied erases kept u g)) → marks ≡ (written p b q) .marks

@@ -29,7 +29,9 @@ mul-result-2 : tie.Need-mul-result-2
 mul-result-2 c = search needs
 
 add-result-2 : tie.Need-add-result-2
-add-result-2 c = omega (arith, number-low (c .before .before .before .args .a .reply), c .before .before .before .pre)
+add-result-2 c =
+    let start = c .before .before .before in
+    omega (arith, number-low (start .args .a .reply), start .pre)
 
 returns : tie.Need-returns
 returns c = unfold packed in omega arith

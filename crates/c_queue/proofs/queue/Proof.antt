@@ -14,8 +14,10 @@ head-flat-requires c κs = search needs
 
 turns-requires : tie.Need-turns-requires
 turns-requires c κs =
-    let a = c .before .before .before .before .before .before .before .before .before .before .before .before .before .before .before .before .before .before .before .before .before .before .before .before .before .before in
-    turns-asked _ (board a) _ (a .args .bytes .now) _ _ (c .before .before .before .before .before .before .before .before .head-flat .ensures)
+    let at-head-flat = c .before .before .before .before .before .before .before .before in
+    let start = at-head-flat .before .before .before .before .before .before .before .before .before .before .before .before .before .before .before .before .before .before in
+    let a = start in
+    turns-asked _ (board a) _ (a .args .bytes .now) _ _ (at-head-flat .head-flat .ensures)
 
 number-requires : tie.Need-number-requires
 number-requires c κs = search needs
@@ -49,8 +51,11 @@ same-length-8 c = search needs
 
 returns : tie.Need-returns
 returns c =
-    let a = c .before .before .before .before .before .before .before .before .before .before .before .before .before .before .before .before .before .before .before .before .before .before .before .before .before .before .before .before .before .before .before .before .before .before .before .before .before .before .before .before .before .before .before .before in
-    all-done _ (board a) _ _ _ _ (c .before .before .before .before .before .before .before .before .before .before .before .before .before .before .before .before .before .before .before .before .before .before .before .before .before .before .head-flat .ensures) _ _ (c .before .before .before .before .before .before .before .before .before .before .before .before .before .before .before .before .before .turns .ensures) _ (c .number .ensures)
+    let at-turns = c .before .before .before .before .before .before .before .before .before .before .before .before .before .before .before .before .before in
+    let at-head-flat = at-turns .before .before .before .before .before .before .before .before .before in
+    let start = at-head-flat .before .before .before .before .before .before .before .before .before .before .before .before .before .before .before .before .before .before in
+    let a = start in
+    all-done _ (board a) _ _ _ _ (at-head-flat .head-flat .ensures) _ _ (at-turns .turns .ensures) _ (c .number .ensures)
 
 pub queue-spec : {M : Type 1} → statement M
 queue-spec =

@@ -46,7 +46,10 @@ item-requires : tie.Need-item-requires
 item-requires c κs = search needs
 
 put-requires : tie.Need-put-requires
-put-requires c κs = (few-item _ _ (board (c .before .before .before .before .before .before .before .before .before .before .before .before .before .before .before .before .before .before .before .before .before .before .before .before .before .before .before .before .before .before .before .before .before .before .before .before)) _ _ _ _ (c .before .before .before .before .before .before .before .before .before .before .before .before .before .before .before .item .ensures), c .before .before .before .before .before .before .before .before .before .before .before .before .before .before .before .before .before .before .before .before .before .before .before .before .before .before .before .before .before .before .before .before .before .before .before .before .pre .1 .place)
+put-requires c κs =
+    let at-item = c .before .before .before .before .before .before .before .before .before .before .before .before .before .before .before in
+    let start = at-item .before .before .before .before .before .before .before .before .before .before .before .before .before .before .before .before .before .before .before .before .before in
+    (few-item _ _ (board start) _ _ _ _ (at-item .item .ensures), start .pre .1 .place)
 
 same-length : tie.Need-same-length
 same-length c = search needs
@@ -73,7 +76,10 @@ same-length-8 : tie.Need-same-length-8
 same-length-8 c = search needs
 
 returns : tie.Need-returns
-returns c = turn-done _ _ (board (c .before .before .before .before .before .before .before .before .before .before .before .before .before .before .before .before .before .before .before .before .before .before .before .before .before .before .before .before .before .before .before .before .before .before .before .before .before .before .before)) _ _ _ _ _ _ (c .before .before .before .before .before .before .before .before .before .before .before .before .before .before .before .before .before .before .item .ensures) _ (c .before .before .put .ensures)
+returns c =
+    let at-item = c .before .before .before .before .before .before .before .before .before .before .before .before .before .before .before .before .before .before in
+    let start = at-item .before .before .before .before .before .before .before .before .before .before .before .before .before .before .before .before .before .before .before .before .before in
+    turn-done _ _ (board start) _ _ _ _ _ _ (at-item .item .ensures) _ (c .before .before .put .ensures)
 
 pub turn-spec : {M : Type 1} → statement M
 turn-spec =

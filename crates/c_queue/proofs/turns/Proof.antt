@@ -13,7 +13,8 @@ abbrev Inv-loop : tie.InvT-loop
 Inv-loop p chip₀ ct₀ bt₀ fst₀ bst₀ wear₀ marks₀ ordered requests bytes answers₀ n i₀ chip ct bt fst bst wear marks answers i =
     (i ≤ n)
     × Long (boardOf chip₀ ct₀ bt₀ fst₀ bst₀ wear₀ marks₀) answers₀ (boardOf chip ct bt fst bst wear marks) answers
-    × (TurnsAsked p ordered (boardOf chip₀ ct₀ bt₀ fst₀ bst₀ wear₀ marks₀) requests answers₀ n → So p ordered requests bytes n (boardOf chip₀ ct₀ bt₀ fst₀ bst₀ wear₀ marks₀) answers₀ i (boardOf chip ct bt fst bst wear marks) answers)
+    × (TurnsAsked p ordered (boardOf chip₀ ct₀ bt₀ fst₀ bst₀ wear₀ marks₀) requests answers₀ n
+    → So p ordered requests bytes n (boardOf chip₀ ct₀ bt₀ fst₀ bst₀ wear₀ marks₀) answers₀ i (boardOf chip ct bt fst bst wear marks) answers)
 
 abbrev μ-loop : tie.MeasureT-loop
 μ-loop p chip₀ ct₀ bt₀ fst₀ bst₀ wear₀ marks₀ ordered requests bytes answers₀ n i₀ chip ct bt fst bst wear marks answers i = n - i
@@ -23,28 +24,56 @@ board a = boardOf (a .args .chip .now) (a .args .ct .now) (a .args .bt .now) (a 
 
 loop-holds : tie.Need-loop-holds Inv-loop μ-loop
 loop-holds c =
-    let a = c .before .before .before .before .before .before .before .before .before .before in
+    let entered = c .before .before .before .before .before .before .before .before .before .before in
+    let a = entered in
     (omega arith, record { chip = refl; ct = refl; bt = refl; fst = refl; bst = refl; wear = refl; marks = refl; answers = refl }, λ k. start _ _ _ _ _ (board a) _ k)
 
 turn-requires : tie.Need-turn-requires Inv-loop μ-loop
 turn-requires c κs =
-    let a = c .before .before .before .before .before .before .before .before .before .before .before .before .before .before .before .before .before .before .before .before in
-    let inv = c .before .before .before .before .before .before .before .before .before .loop .inv in
-    (inv .2 (a .pre) .ready (omega (arith, c .before .before .before .before .before .before .before .before .loop-test .taken)), asked _ _ _ (a .args .bytes .now) _ (board a) _ (a .pre) _ (c .before .before .before .before .before .before .before .before .loop-test .taken) _ (inv .1 .answers))
+    let at-loop-test = c .before .before .before .before .before .before .before .before in
+    let at-loop = at-loop-test .before in
+    let entered = at-loop .before .before .before .before .before .before .before .before .before .before .before in
+    let a = entered in
+    let inv = at-loop .loop .inv in
+    (inv .2 (a .pre) .ready (omega (arith, at-loop-test .loop-test .taken)), asked _ _ _ (a .args .bytes .now) _ (board a) _ (a .pre) _ (at-loop-test .loop-test .taken) _ (inv .1 .answers))
 
 add-i : tie.Need-add-i Inv-loop μ-loop
-add-i c = omega (arith, c .before .before .before .before .before .before .before .before .before .before .before .before .before .before .before .before .before .before .before .before .before .before .before .before .before .loop-test .taken, c .before .before .before .before .before .before .before .before .before .before .before .before .before .before .before .before .before .before .before .before .before .before .before .before .before .before .before .before .before .before .before .before .before .before .before .before .before .pre .places, c .before .before .before .before .before .before .before .before .before .before .before .before .before .before .before .before .before .before .before .before .before .before .before .before .before .before .before .before .before .before .before .before .before .before .before .before .before .good .1 .1 .1 .1 .1 .1 .1 .1 .1 .1 .1 .0 .0)
+add-i c =
+    let at-loop-test = c .before .before .before .before .before .before .before .before .before .before .before .before
+    .before .before .before .before .before .before .before .before .before .before .before .before .before in
+    let entered = at-loop-test .before .before .before .before .before .before .before .before .before .before .before .before in
+    omega (arith, at-loop-test .loop-test .taken, entered .pre .places, entered .good .1 .1 .1 .1 .1 .1 .1 .1 .1 .1 .1 .0 .0)
 
 loop-less : tie.Need-loop-less Inv-loop μ-loop
 loop-less c = omega arith
 
 loop-again : tie.Need-loop-again Inv-loop μ-loop
 loop-again c =
-    let a = c .before .before .before .before .before .before .before .before .before .before .before .before .before .before .before .before .before .before .before .before .before .before .before .before .before .before .before .before .before .before .before .before .before .before .before .before .before in
-    let inv = c .before .before .before .before .before .before .before .before .before .before .before .before .before .before .before .before .before .before .before .before .before .before .before .before .before .before .loop .inv in (
-      omega (arith, c .before .before .before .before .before .before .before .before .before .before .before .before .before .before .before .before .before .before .before .before .before .before .before .before .before .loop-test .taken),
-      record { chip = c .before .before .before .before .before .before .before .before .before .before .before .before .before .before .before .chip .given ∙ inv .1 .chip; ct = c .before .before .before .before .before .before .before .before .before .before .before .before .before .ct .given ∙ inv .1 .ct; bt = c .before .before .before .before .before .before .before .before .before .before .before .bt .given ∙ inv .1 .bt; fst = c .before .before .before .before .before .before .before .before .before .fst .given ∙ inv .1 .fst; bst = c .before .before .before .before .before .before .before .bst .given ∙ inv .1 .bst; wear = c .before .before .before .before .before .wear .given ∙ inv .1 .wear; marks = c .before .before .before .marks .given ∙ inv .1 .marks; answers = c .before .answers .given ∙ inv .1 .answers },
-      λ k. next _ _ _ _ _ (board a) _ k _ (c .before .before .before .before .before .before .before .before .before .before .before .before .before .before .before .before .before .before .before .before .before .before .before .before .before .loop-test .taken) _ _ (inv .2 k) _ _ (c .before .before .before .before .before .before .before .before .before .before .before .before .before .before .before .before .turn .ensures),
+    let at-marks = c .before .before .before in
+    let at-wear = at-marks .before .before in
+    let at-bst = at-wear .before .before in
+    let at-fst = at-bst .before .before in
+    let at-bt = at-fst .before .before in
+    let at-ct = at-bt .before .before in
+    let at-chip = at-ct .before .before in
+    let at-turn = at-chip .before in
+    let at-loop-test = at-turn .before .before .before .before .before .before .before .before .before in
+    let at-loop = at-loop-test .before in
+    let entered = at-loop .before .before .before .before .before .before .before .before .before .before .before in
+    let a = entered in
+    let inv = at-loop .loop .inv in (
+      omega (arith, at-loop-test .loop-test .taken),
+      record {
+        chip = at-chip .chip .given ∙ inv .1 .chip;
+        ct = at-ct .ct .given ∙ inv .1 .ct;
+        bt = at-bt .bt .given ∙ inv .1 .bt;
+        fst = at-fst .fst .given ∙ inv .1 .fst;
+        bst = at-bst .bst .given ∙ inv .1 .bst;
+        wear = at-wear .wear .given ∙ inv .1 .wear;
+        marks = at-marks .marks .given ∙ inv .1 .marks;
+        answers = c .before .answers .given ∙ inv .1 .answers;
+      },
+      λ k. next _ _ _ _ _ (board a) _ k _ (at-loop-test .loop-test .taken) _ _ (inv .2 k) _ _ (at-turn .turn .ensures),
     )
 
 same-length : tie.Need-same-length Inv-loop μ-loop
@@ -73,7 +102,8 @@ same-length-8 c = c .before .loop .inv .1 .answers
 
 returns : tie.Need-returns Inv-loop μ-loop
 returns c =
-    let a = c .before .before .before .before .before .before .before .before .before .before .before .before in
+    let entered = c .before .before .before .before .before .before .before .before .before .before .before .before in
+    let a = entered in
     done _ _ _ _ _ (board a) _ (a .pre) _ (omega (arith, c .loop-test .left)) _ _ (c .before .loop .inv .2 (a .pre))
 
 pub turns-spec : {M : Type 1} → statement M

@@ -10,33 +10,45 @@ enum-known-fc c = search needs
 
 cast-t8 : tie.Need-cast-t8
 unfolding forecastNumbers
-cast-t8 c = record { fits = (rw (c .before .before .fc .given .1) at (c .before .before .before .before .pre)) .1 .0 }
+cast-t8 c =
+    let start = c .before .before .before .before in
+    record { fits = (rw (c .before .before .fc .given .1) at (start .pre)) .1 .0 }
 
 cast-t9 : tie.Need-cast-t9
 unfolding forecastNumbers
-cast-t9 c = record { fits = (rw (c .before .before .fc .given .1) at (c .before .before .before .before .pre)) .1 .1 .0 }
+cast-t9 c =
+    let start = c .before .before .before .before in
+    record { fits = (rw (c .before .before .fc .given .1) at (start .pre)) .1 .1 .0 }
 
 enum-known-fc-2 : tie.Need-enum-known-fc-2
 enum-known-fc-2 c = search needs
 
 cast-t10 : tie.Need-cast-t10
 unfolding forecastNumbers
-cast-t10 c = record { fits = (rw (c .before .before .fc2 .given .1) at (c .before .before .before .before .pre)) .1 .0 }
+cast-t10 c =
+    let start = c .before .before .before .before in
+    record { fits = (rw (c .before .before .fc2 .given .1) at (start .pre)) .1 .0 }
 
 enum-known-fc-3 : tie.Need-enum-known-fc-3
 enum-known-fc-3 c = search needs
 
 cast-t11 : tie.Need-cast-t11
 unfolding forecastNumbers
-cast-t11 c = record { fits = (rw (c .before .before .fc3 .given .1) at (c .before .before .before .before .pre)) .1 .0 }
+cast-t11 c =
+    let start = c .before .before .before .before in
+    record { fits = (rw (c .before .before .fc3 .given .1) at (start .pre)) .1 .0 }
 
 cast-t12 : tie.Need-cast-t12
 unfolding forecastNumbers
-cast-t12 c = record { fits = (rw (c .before .before .fc3 .given .1) at (c .before .before .before .before .pre)) .1 .1 .0 }
+cast-t12 c =
+    let start = c .before .before .before .before in
+    record { fits = (rw (c .before .before .fc3 .given .1) at (start .pre)) .1 .1 .0 }
 
 cast-t13 : tie.Need-cast-t13
 unfolding forecastNumbers
-cast-t13 c = record { fits = (rw (c .before .before .fc3 .given .1) at (c .before .before .before .before .pre)) .1 .1 .1 .0 }
+cast-t13 c =
+    let start = c .before .before .before .before in
+    record { fits = (rw (c .before .before .fc3 .given .1) at (start .pre)) .1 .1 .1 .0 }
 
 returns : tie.Need-returns
 unfolding forecastNumbers

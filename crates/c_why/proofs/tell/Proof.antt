@@ -21,7 +21,10 @@ slice-aggregate-put-list : tie.Need-slice-aggregate-put-list
 slice-aggregate-put-list c = search needs
 
 put-list-requires : tie.Need-put-list-requires
-put-list-requires c κs = c .before .before .before .before .before .pre .1 ∙ sym (ap length (c .before .before .before .why-numbers .ensures) ∙ thirteen (c .before .before .before .before .before .args .w))
+put-list-requires c κs =
+    let at-why-numbers = c .before .before .before in
+    let start = at-why-numbers .before .before in
+    start .pre .1 ∙ sym (ap length (at-why-numbers .why-numbers .ensures) ∙ thirteen (start .args .w))
 
 cast-result : tie.Need-cast-result
 cast-result c = search needs
@@ -32,8 +35,10 @@ same-length c = search needs
 returns : tie.Need-returns
 unfolding tells
 returns c =
-    let e = c .before .before .before .before .before .before .why-numbers .ensures in
-    let t : tells (getD (c .before .before .before .before .before .before .why-numbers .result) 0 0) ≡ true = c .before .before .before .before .before .if1 .taken in
+    let at-if1 = c .before .before .before .before .before in
+    let at-why-numbers = at-if1 .before in
+    let e = at-why-numbers .why-numbers .ensures in
+    let t : tells (getD (at-why-numbers .why-numbers .result) 0 0) ≡ true = at-if1 .if1 .taken in
     (ap (λ (l : List ℕ). getD l 0 0) e, rw (rw e at t) (c .before .before .put-list .ensures ∙ e))
 
 cast-result-2 : tie.Need-cast-result-2

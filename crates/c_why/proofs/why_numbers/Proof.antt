@@ -26,7 +26,9 @@ enum-known-w-3 c = search needs
 
 forecast-numbers-requires : tie.Need-forecast-numbers-requires
 unfolding numbersOf
-forecast-numbers-requires c κs = small-front (forecastNumbers (c .before .w3 .given .0 .0)) (0 ∷ []) ((rw (c .before .w3 .given .1) at (c .before .before .before .pre)) .1 .1 .1 .1 .1 .1 .1 .1)
+forecast-numbers-requires c κs =
+    let start = c .before .before .before in
+    small-front (forecastNumbers (c .before .w3 .given .0 .0)) (0 ∷ []) ((rw (c .before .w3 .given .1) at (start .pre)) .1 .1 .1 .1 .1 .1 .1 .1)
 
 array-read-t16 : tie.Need-array-read-t16
 array-read-t16 c = search needs
@@ -45,27 +47,44 @@ enum-known-w-4 c = search needs
 
 forecast-numbers-requires-2 : tie.Need-forecast-numbers-requires-2
 unfolding numbersOf placeNumbers
-forecast-numbers-requires-2 c κs = small-front (forecastNumbers (c .before .w4 .given .0 .1 .0)) (c .before .w4 .given .0 .1 .1 .0 ∷ []) ((rw (c .before .w4 .given .1) at (c .before .before .before .pre)) .1 .1 .1 .1 .1 .1 .1 .1)
+forecast-numbers-requires-2 c κs =
+    let start = c .before .before .before in
+    small-front (forecastNumbers (c .before .w4 .given .0 .1 .0)) (c .before .w4 .given .0 .1 .1 .0 ∷ []) ((rw (c .before .w4 .given .1) at (start .pre)) .1 .1 .1 .1 .1 .1 .1 .1)
 
 cast-t27 : tie.Need-cast-t27
 unfolding numbersOf placeNumbers
-cast-t27 c = record { fits = (rw (c .before .before .before .w4 .given .1) at (c .before .before .before .before .before .pre)) .1 .1 .1 .0 }
+cast-t27 c =
+    let at-w4 = c .before .before .before in
+    let start = at-w4 .before .before in
+    record { fits = (rw (at-w4 .w4 .given .1) at (start .pre)) .1 .1 .1 .0 }
 
 cast-t28 : tie.Need-cast-t28
 unfolding numbersOf placeNumbers
-cast-t28 c = record { fits = (rw (c .before .before .before .before .w4 .given .1) at (c .before .before .before .before .before .before .pre)) .1 .1 .1 .1 .0 }
+cast-t28 c =
+    let at-w4 = c .before .before .before .before in
+    let start = at-w4 .before .before in
+    record { fits = (rw (at-w4 .w4 .given .1) at (start .pre)) .1 .1 .1 .1 .0 }
 
 cast-t29 : tie.Need-cast-t29
 unfolding numbersOf placeNumbers
-cast-t29 c = record { fits = (rw (c .before .before .before .before .before .w4 .given .1) at (c .before .before .before .before .before .before .before .pre)) .1 .1 .1 .1 .1 .0 }
+cast-t29 c =
+    let at-w4 = c .before .before .before .before .before in
+    let start = at-w4 .before .before in
+    record { fits = (rw (at-w4 .w4 .given .1) at (start .pre)) .1 .1 .1 .1 .1 .0 }
 
 cast-t30 : tie.Need-cast-t30
 unfolding numbersOf placeNumbers
-cast-t30 c = record { fits = (rw (c .before .before .before .before .before .before .w4 .given .1) at (c .before .before .before .before .before .before .before .before .pre)) .1 .1 .1 .1 .1 .1 .0 }
+cast-t30 c =
+    let at-w4 = c .before .before .before .before .before .before in
+    let start = at-w4 .before .before in
+    record { fits = (rw (at-w4 .w4 .given .1) at (start .pre)) .1 .1 .1 .1 .1 .1 .0 }
 
 cast-t31 : tie.Need-cast-t31
 unfolding numbersOf placeNumbers
-cast-t31 c = record { fits = (rw (c .before .before .before .before .before .before .before .w4 .given .1) at (c .before .before .before .before .before .before .before .before .before .pre)) .1 .1 .1 .1 .1 .1 .1 .0 }
+cast-t31 c =
+    let at-w4 = c .before .before .before .before .before .before .before in
+    let start = at-w4 .before .before in
+    record { fits = (rw (at-w4 .w4 .given .1) at (start .pre)) .1 .1 .1 .1 .1 .1 .1 .0 }
 
 array-read-t34 : tie.Need-array-read-t34
 array-read-t34 c = search needs
@@ -93,7 +112,10 @@ returns-3 c = rw (c .before .before .w3 .given .1) (ap (λ (x : List ℕ). 0 ∷
 
 returns-4 : tie.Need-returns-4
 unfolding numbersOf placeNumbers
-returns-4 c = rw (c .before .before .before .before .before .before .before .w4 .given .1, ← (reads-four _ _ (c .before .before .before .before .before .forecast-numbers2 .ensures)))
+returns-4 c =
+    let at-forecast-numbers2 = c .before .before .before .before .before in
+    let at-w4 = at-forecast-numbers2 .before .before in
+    rw (at-w4 .w4 .given .1, ← (reads-four _ _ (at-forecast-numbers2 .forecast-numbers2 .ensures)))
 
 pub why-numbers-spec : {M : Type 1} → statement M
 why-numbers-spec =

@@ -44,8 +44,10 @@ same-length-7 c = search needs
 returns : tie.Need-returns
 unfolding lent lentAnswers
 returns c =
-    let a = c .before .before .before .before .before .before .before .before .before .before .before .before .before .before .before .before .before .before in
-    refused-by _ (board a) format _ (c .before .before .before .format-reply .ensures) _ (c .before .before .number .ensures) (c .before .if1 .taken) _ (c .idle .ensures)
+    let at-format-reply = c .before .before .before in
+    let start = at-format-reply .before .before .before .before .before .before .before .before .before .before .before .before .before .before .before in
+    let a = start in
+    refused-by _ (board a) format _ (at-format-reply .format-reply .ensures) _ (c .before .before .number .ensures) (c .before .if1 .taken) _ (c .idle .ensures)
 
 clear-requires : tie.Need-clear-requires
 clear-requires c κs = search needs
@@ -61,14 +63,26 @@ clear-all-requires c κs = search needs
 
 format-blocks-requires : tie.Need-format-blocks-requires
 format-blocks-requires c κs =
-    let a = c .before .before .before .before .before .before .before .before .before .before .before .before .before .before .before .before .before .before .before .before .before .before .before .before .before .before .before .before .before .before .before .before .before .before .before .before in
+    let at-if1 = c .before .before .before .before .before .before .before .before .before .before .before .before .before .before .before .before .before .before .before in
+    let at-number = at-if1 .before in
+    let at-format-reply = at-number .before in
+    let start = at-format-reply .before .before .before .before .before .before .before .before .before .before .before .before .before .before .before in
+    let a = start in
     blocks-asked _ (board a)
-    (reply-zero _ (board a) format _ (c .before .before .before .before .before .before .before .before .before .before .before .before .before .before .before .before .before .before .before .before .before .format-reply .ensures) _ (c .before .before .before .before .before .before .before .before .before .before .before .before .before .before .before .before .before .before .before .before .number .ensures) (c .before .before .before .before .before .before .before .before .before .before .before .before .before .before .before .before .before .before .before .if1 .left))
+    (reply-zero _ (board a) format _ (at-format-reply .format-reply .ensures) _ (at-number .number .ensures) (at-if1 .if1 .left))
 
 cast-t25 : tie.Need-cast-t25
 cast-t25 c =
-    let a = c .before .before .before .before .before .before .before .before .before .before .before .before .before .before .before .before .before .before .before .before .before .before .before .before .before .before .before .before .before .before .before .before .before .before .before .before .before .before .before .before .before .before .before in
-    record { fits = few _ (board a) (reply-zero _ (board a) format _ (c .before .before .before .before .before .before .before .before .before .before .before .before .before .before .before .before .before .before .before .before .before .before .before .before .before .before .before .before .format-reply .ensures) _ (c .before .before .before .before .before .before .before .before .before .before .before .before .before .before .before .before .before .before .before .before .before .before .before .before .before .before .before .number .ensures) (c .before .before .before .before .before .before .before .before .before .before .before .before .before .before .before .before .before .before .before .before .before .before .before .before .before .before .if1 .left)) _ (c .before .before .before .before .before .before .format-blocks .ensures .few) }
+    let at-format-blocks = c .before .before .before .before .before .before in
+    let at-if1 = at-format-blocks .before .before .before .before .before .before .before .before .before .before .before .before .before .before .before .before .before .before .before .before in
+    let at-number = at-if1 .before in
+    let at-format-reply = at-number .before in
+    let start = at-format-reply .before .before .before .before .before .before .before .before .before .before .before .before .before .before .before in
+    let a = start in
+    record {
+      fits = few _ (board a) (reply-zero _ (board a) format _ (at-format-reply .format-reply .ensures) _ (at-number .number .ensures) (at-if1 .if1 .left)) _
+          (at-format-blocks .format-blocks .ensures .few);
+    }
 
 same-length-8 : tie.Need-same-length-8
 same-length-8 c = search needs
@@ -93,15 +107,26 @@ same-length-14 c = search needs
 
 returns-2 : tie.Need-returns-2
 returns-2 c =
-    let a = c .before .before .before .before .before .before .before .before .before .before .before .before .before .before .before .before .before .before .before .before .before .before .before .before .before .before .before .before .before .before .before .before .before .before .before .before .before .before .before .before .before .before .before in
+    let at-format-blocks = c .before .before .before .before .before .before in
+    let at-clear-all = at-format-blocks .before .before .before .before .before .before in
+    let at-clear3 = at-clear-all .before .before .before .before in
+    let at-clear2 = at-clear3 .before .before .before .before in
+    let at-clear = at-clear2 .before .before .before .before in
+    let at-if1 = at-clear .before .before in
+    let at-number = at-if1 .before in
+    let at-format-reply = at-number .before in
+    let start = at-format-reply .before .before .before .before .before .before .before .before .before .before .before .before .before .before .before in
+    let a = start in
     format-done _ (board a)
-    (reply-zero _ (board a) format _ (c .before .before .before .before .before .before .before .before .before .before .before .before .before .before .before .before .before .before .before .before .before .before .before .before .before .before .before .before .format-reply .ensures) _ (c .before .before .before .before .before .before .before .before .before .before .before .before .before .before .before .before .before .before .before .before .before .before .before .before .before .before .before .number .ensures) (c .before .before .before .before .before .before .before .before .before .before .before .before .before .before .before .before .before .before .before .before .before .before .before .before .before .before .if1 .left))
-    _ (c .before .before .before .before .before .before .before .before .before .before .before .before .before .before .before .before .before .before .before .before .before .before .before .before .before .before .before .before .format-reply .ensures) _ _ _ _ _ _ _ _
-    (c .before .before .before .before .before .before .before .before .before .before .before .before .before .before .before .before .before .before .before .before .before .before .before .before .clear .ensures)
-    (c .before .before .before .before .before .before .before .before .before .before .before .before .before .before .before .before .before .before .before .before .clear2 .ensures)
-    (c .before .before .before .before .before .before .before .before .before .before .before .before .before .before .before .before .clear3 .ensures)
-    (c .before .before .before .before .before .before .before .before .before .before .before .before .clear-all .ensures)
-    (c .before .before .before .before .before .before .format-blocks .ensures)
+    (reply-zero _ (board a) format _ (at-format-reply .format-reply .ensures) _ (at-number .number .ensures) (at-if1 .if1 .left))
+    _ (at-format-reply .format-reply .ensures) _ _ _ _ _ _ _ _
+    (at-clear .clear .ensures)
+    (at-clear2 .clear2 .ensures)
+    (at-clear3 .clear3 .ensures)
+    (at-clear-all .clear-all .ensures)
+    (at-format-blocks .format-blocks .ensures)
 
 pub format-spec : {M : Type 1} → statement M
-format-spec = tie.close (tie.spec format-reply-requires number-requires idle-requires same-length same-length-2 same-length-3 same-length-4 same-length-5 same-length-6 same-length-7 returns clear-requires clear-requires-2 clear-requires-3 clear-all-requires format-blocks-requires cast-t25 same-length-8 same-length-9 same-length-10 same-length-11 same-length-12 same-length-13 same-length-14 returns-2)
+format-spec = tie.close (tie.spec format-reply-requires number-requires idle-requires same-length same-length-2 same-length-3 same-length-4 same-length-5 same-length-6
+    same-length-7 returns clear-requires clear-requires-2 clear-requires-3 clear-all-requires format-blocks-requires cast-t25 same-length-8 same-length-9 same-length-10
+    same-length-11 same-length-12 same-length-13 same-length-14 returns-2)

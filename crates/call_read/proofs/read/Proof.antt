@@ -27,13 +27,19 @@ idle-requires c κs = search needs
 returns : tie.Need-returns
 unfolding lent lentAnswers
 returns c =
-    let a = c .before .before .before .before .before .before .before .before .before .before .before .before in
-    refused-by _ (board a) (read (request a)) _ (c .before .before .before .access-reply .ensures .0 (request a) refl refl refl) _ (c .before .before .number .ensures) (c .before .if1 .taken) _ (c .idle .ensures)
+    let at-access-reply = c .before .before .before in
+    let start = at-access-reply .before .before .before .before .before .before .before .before .before in
+    let a = start in
+    refused-by _ (board a) (read (request a)) _ (at-access-reply .access-reply .ensures .0 (request a) refl refl refl) _ (c .before .before .number .ensures)
+    (c .before .if1 .taken) _ (c .idle .ensures)
 
 read-sectors-requires : tie.Need-read-sectors-requires
 read-sectors-requires c κs =
-    let a = c .before .before .before .before .before .before .before .before .before .before .before .before in
-    asked _ (board a) (request a) (reply-zero _ (board a) (read (request a)) _ (c .before .before .before .access-reply .ensures .0 (request a) refl refl refl) _ (c .before .before .number .ensures) (c .before .if1 .left))
+    let at-access-reply = c .before .before .before in
+    let start = at-access-reply .before .before .before .before .before .before .before .before .before in
+    let a = start in
+    asked _ (board a) (request a) (reply-zero _ (board a) (read (request a)) _ (at-access-reply .access-reply .ensures .0 (request a) refl refl refl) _
+    (c .before .before .number .ensures) (c .before .if1 .left))
 
 looked-requires : tie.Need-looked-requires
 looked-requires c κs = search needs
@@ -43,10 +49,15 @@ same-length c = search needs
 
 returns-2 : tie.Need-returns-2
 returns-2 c =
-    let a = c .before .before .before .before .before .before .before .before .before .before .before .before .before .before .before .before in
-    let e = c .before .before .before .before .before .before .before .access-reply .ensures .0 (request a) refl refl refl in
-    let zero = reply-zero _ (board a) (read (request a)) _ e _ (c .before .before .before .before .before .before .number .ensures) (c .before .before .before .before .before .if1 .left) in
-    let done = c .before .before .before .read-sectors .ensures in
+    let at-read-sectors = c .before .before .before in
+    let at-if1 = at-read-sectors .before .before in
+    let at-number = at-if1 .before in
+    let at-access-reply = at-number .before in
+    let start = at-access-reply .before .before .before .before .before .before .before .before .before in
+    let a = start in
+    let e = at-access-reply .access-reply .ensures .0 (request a) refl refl refl in
+    let zero = reply-zero _ (board a) (read (request a)) _ e _ (at-number .number .ensures) (at-if1 .if1 .left) in
+    let done = at-read-sectors .read-sectors .ensures in
     read-done _ (board a) (request a) zero _ (done .0 _ _ _ _) _ (done .1) _ e _ (c .looked .ensures)
 
 pub read-spec : {M : Type 1} → statement M

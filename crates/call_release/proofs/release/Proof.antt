@@ -27,19 +27,46 @@ same-length-2 : tie.Need-same-length-2
 same-length-2 c = search needs
 
 returns : tie.Need-returns
-returns c = release-refused _ (board (c .before .before .before .before .before .before .before .before .before .before .before .before .before)) _ _ (c .before .before .before .release-reply .ensures) _ (c .before .before .number .ensures) (c .before .if1 .taken) _ (c .idle .ensures)
+returns c =
+    let entered = c .before .before .before in
+    let at-release-reply = entered in
+    let start = at-release-reply .before .before .before .before .before .before .before .before .before .before in
+    release-refused _ (board start) _ _ (at-release-reply .release-reply .ensures) _ (c .before .before .number .ensures) (c .before .if1 .taken) _ (c .idle .ensures)
 
 find-frame-requires : tie.Need-find-frame-requires
-find-frame-requires c κs = release-lookup _ (board (c .before .before .before .before .before .before .before .before .before .before .before .before .before)) _ _ (c .before .before .before .release-reply .ensures) _ (c .before .before .number .ensures) (c .before .if1 .left)
+find-frame-requires c κs =
+    let entered = c .before .before .before in
+    let at-release-reply = entered in
+    let start = at-release-reply .before .before .before .before .before .before .before .before .before .before in
+    release-lookup _ (board start) _ _ (at-release-reply .release-reply .ensures) _ (c .before .before .number .ensures) (c .before .if1 .left)
 
 region-of-requires : tie.Need-region-of-requires
-region-of-requires c κs = regions _ (board (c .before .before .before .before .before .before .before .before .before .before .before .before .before .before .before)) _ _ (c .before .before .before .before .before .release-reply .ensures) _ (c .before .before .before .before .number .ensures) (c .before .before .before .if1 .left)
+region-of-requires c κs =
+    let entered = c .before .before .before in
+    let at-if1 = entered in
+    let at-number = at-if1 .before in
+    let at-release-reply = at-number .before in
+    let start = at-release-reply .before .before .before .before .before .before .before .before .before .before in
+    regions _ (board start) _ _ (at-release-reply .release-reply .ensures) _ (at-number .number .ensures) (at-if1 .if1 .left)
 
 unmark-requires : tie.Need-unmark-requires
-unmark-requires c κs = release-unmark _ (board (c .before .before .before .before .before .before .before .before .before .before .before .before .before .before .before .before)) _ _ (c .before .before .before .before .before .before .release-reply .ensures) _ (c .before .before .before .before .before .number .ensures) (c .before .before .before .before .if1 .left) _ _ _ _ (c .before .before .find-frame .ensures .0) (c .before .before .find-frame .ensures .1 .0) _ (c .region-of .ensures)
+unmark-requires c κs =
+    let entered = c .before .before .before .before in
+    let at-if1 = entered in
+    let at-number = at-if1 .before in
+    let at-release-reply = at-number .before in
+    let start = at-release-reply .before .before .before .before .before .before .before .before .before .before in
+    release-unmark _ (board start) _ _ (at-release-reply .release-reply .ensures) _ (at-number .number .ensures) (at-if1 .if1 .left) _ _ _ _
+    (c .before .before .find-frame .ensures .0) (c .before .before .find-frame .ensures .1 .0) _ (c .region-of .ensures)
 
 set-ct-requires : tie.Need-set-ct-requires
-set-ct-requires c κs = (entry-there _ (board (c .before .before .before .before .before .before .before .before .before .before .before .before .before .before .before .before .before .before .before .before)) _ _ (c .before .before .before .before .before .before .before .before .before .before .release-reply .ensures) _ (c .before .before .before .before .before .before .before .before .before .number .ensures) (c .before .before .before .before .before .before .before .before .if1 .left), omega arith)
+set-ct-requires c κs =
+    let entered = c .before .before .before .before .before .before .before .before in
+    let at-if1 = entered in
+    let at-number = at-if1 .before in
+    let at-release-reply = at-number .before in
+    let start = at-release-reply .before .before .before .before .before .before .before .before .before .before in
+    (entry-there _ (board start) _ _ (at-release-reply .release-reply .ensures) _ (at-number .number .ensures) (at-if1 .if1 .left), omega arith)
 
 idle-requires-2 : tie.Need-idle-requires-2
 idle-requires-2 c κs = search needs
@@ -51,7 +78,20 @@ same-length-4 : tie.Need-same-length-4
 same-length-4 c = search needs
 
 returns-2 : tie.Need-returns-2
-returns-2 c = release-done _ (board (c .before .before .before .before .before .before .before .before .before .before .before .before .before .before .before .before .before .before .before .before .before .before .before .before)) _ _ (c .before .before .before .before .before .before .before .before .before .before .before .before .before .before .release-reply .ensures) _ (c .before .before .before .before .before .before .before .before .before .before .before .before .before .number .ensures) (c .before .before .before .before .before .before .before .before .before .before .before .before .if1 .left) _ _ _ _ (c .before .before .before .before .before .before .before .before .before .before .find-frame .ensures .0) (c .before .before .before .before .before .before .before .before .before .before .find-frame .ensures .1 .0) _ (c .before .before .before .before .before .before .before .before .region-of .ensures) _ _ (c .before .before .before .set-ct .ensures) (c .before .before .before .before .before .before .before .unmark .ensures) _ (c .idle2 .ensures)
+returns-2 c =
+    let entered = c .before .before .before in
+    let at-set-ct = entered in
+    let at-unmark = at-set-ct .before .before .before .before in
+    let at-region-of = at-unmark .before in
+    let at-find-frame = at-region-of .before .before in
+    let at-if1 = at-find-frame .before .before in
+    let at-number = at-if1 .before in
+    let at-release-reply = at-number .before in
+    let start = at-release-reply .before .before .before .before .before .before .before .before .before .before in
+    release-done _ (board start) _ _ (at-release-reply .release-reply .ensures) _ (at-number .number .ensures) (at-if1 .if1 .left) _ _ _ _
+    (at-find-frame .find-frame .ensures .0) (at-find-frame .find-frame .ensures .1 .0) _ (at-region-of .region-of .ensures) _ _ (at-set-ct .set-ct .ensures)
+    (at-unmark .unmark .ensures) _ (c .idle2 .ensures)
 
 pub release-spec : {M : Type 1} → statement M
-release-spec = tie.close (tie.spec release-reply-requires number-requires idle-requires same-length same-length-2 returns find-frame-requires region-of-requires unmark-requires set-ct-requires idle-requires-2 same-length-3 same-length-4 returns-2)
+release-spec = tie.close (tie.spec release-reply-requires number-requires idle-requires same-length same-length-2 returns find-frame-requires region-of-requires
+    unmark-requires set-ct-requires idle-requires-2 same-length-3 same-length-4 returns-2)

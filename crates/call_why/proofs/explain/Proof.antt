@@ -20,49 +20,95 @@ number-requires : tie.Need-number-requires
 number-requires c κs = search needs
 
 broken-rule-requires : tie.Need-broken-rule-requires
-broken-rule-requires c κs = lengths-at _ (board (c .before .before .before .before .before .before .before .before .before .before)) _ _ (c .before .before .why-reply .ensures) _ (c .before .number .ensures) (c .if1 .taken)
+broken-rule-requires c κs =
+    let start = c .before .before .before .before .before .before .before .before .before .before in
+    lengths-at _ (board start) _ _ (c .before .before .why-reply .ensures) _ (c .before .number .ensures) (c .if1 .taken)
 
 returns : tie.Need-returns
 unfolding numbersOf
-returns c = (why-7 _ (board (c .before .before .before .before .before .before .before .before .before .before .before)) _ _ (c .before .before .before .why-reply .ensures) _ (c .before .before .number .ensures) (c .before .if1 .taken) _ (c .broken-rule .ensures _ _), broken-small (c .broken-rule .result))
+returns c =
+    let at-why-reply = c .before .before .before in
+    let start = at-why-reply .before .before .before .before .before .before .before .before in
+    (why-7 _ (board start) _ _ (at-why-reply .why-reply .ensures) _ (c .before .before .number .ensures) (c .before .if1 .taken) _ (c .broken-rule .ensures _ _), broken-small (c .broken-rule .result))
 
 returns-2 : tie.Need-returns-2
 unfolding numbersOf
-returns-2 c = (why-refused _ (board (c .before .before .before .before .before .before .before .before .before .before .before)) _ _ (c .before .before .before .why-reply .ensures) _ (c .before .before .number .ensures) (c .before .if1 .left) (c .if2 .taken), refused-small (c .before .before .before .why-reply .result))
+returns-2 c =
+    let at-why-reply = c .before .before .before in
+    let start = at-why-reply .before .before .before .before .before .before .before .before in
+    (why-refused _ (board start) _ _ (at-why-reply .why-reply .ensures) _ (c .before .before .number .ensures) (c .before .if1 .left) (c .if2 .taken), refused-small (at-why-reply .why-reply .result))
 
 cluster-of-requires : tie.Need-cluster-of-requires
-cluster-of-requires c κs = (sizes _ ((passed _ (board (c .before .before .before .before .before .before .before .before .before .before .before)) _ _ (c .before .before .before .why-reply .ensures) _ (c .before .before .number .ensures) (c .if2 .left)) .ordered .fine)) .sectors
+cluster-of-requires c κs =
+    let at-why-reply = c .before .before .before in
+    let start = at-why-reply .before .before .before .before .before .before .before .before in
+    (sizes _ ((passed _ (board start) _ _ (at-why-reply .why-reply .ensures) _ (c .before .before .number .ensures) (c .if2 .left)) .ordered .fine)) .sectors
 
 region-of-requires : tie.Need-region-of-requires
-region-of-requires c κs = (sizes _ ((passed _ (board (c .before .before .before .before .before .before .before .before .before .before .before .before)) _ _ (c .before .before .before .before .why-reply .ensures) _ (c .before .before .before .number .ensures) (c .before .if2 .left)) .ordered .fine)) .regions
+region-of-requires c κs =
+    let at-number = c .before .before .before in
+    let at-why-reply = at-number .before in
+    let start = at-why-reply .before .before .before .before .before .before .before .before in
+    (sizes _ ((passed _ (board start) _ _ (at-why-reply .why-reply .ensures) _ (at-number .number .ensures) (c .before .if2 .left)) .ordered .fine)) .regions
 
 forecast-of-requires : tie.Need-forecast-of-requires
-forecast-of-requires c κs = asked _ (board (c .before .before .before .before .before .before .before .before .before .before .before .before .before)) _ (passed _ (board (c .before .before .before .before .before .before .before .before .before .before .before .before .before)) _ _ (c .before .before .before .before .before .why-reply .ensures) _ (c .before .before .before .before .number .ensures) (c .before .before .if2 .left)) _ (c .before .cluster-of .ensures) _ (c .region-of .ensures)
+forecast-of-requires c κs =
+    let at-number = c .before .before .before .before in
+    let at-why-reply = at-number .before in
+    let start = at-why-reply .before .before .before .before .before .before .before .before in
+    asked _ (board start) _ (passed _ (board start) _ _ (at-why-reply .why-reply .ensures) _ (at-number .number .ensures) (c .before .before .if2 .left)) _
+    (c .before .cluster-of .ensures) _ (c .region-of .ensures)
 
 find-frame-requires : tie.Need-find-frame-requires
-find-frame-requires c κs = looked _ (board (c .before .before .before .before .before .before .before .before .before .before .before .before .before .before)) _ (passed _ (board (c .before .before .before .before .before .before .before .before .before .before .before .before .before .before)) _ _ (c .before .before .before .before .before .before .why-reply .ensures) _ (c .before .before .before .before .before .number .ensures) (c .before .before .before .if2 .left)) _ (c .before .before .cluster-of .ensures)
+find-frame-requires c κs =
+    let at-if2 = c .before .before .before in
+    let at-number = at-if2 .before .before in
+    let at-why-reply = at-number .before in
+    let start = at-why-reply .before .before .before .before .before .before .before .before in
+    looked _ (board start) _ (passed _ (board start) _ _ (at-why-reply .why-reply .ensures) _ (at-number .number .ensures) (at-if2 .if2 .left)) _ (c .before .before .cluster-of .ensures)
 
 returns-3 : tie.Need-returns-3
 unfolding numbersOf
 returns-3 c =
-    let h = (passed _ (board (c .before .before .before .before .before .before .before .before .before .before .before .before .before .before .before .before .before)) _ _ (c .before .before .before .before .before .before .before .before .before .why-reply .ensures) _ (c .before .before .before .before .before .before .before .before .number .ensures) (c .before .before .before .before .before .before .if2 .left)) in
-    let fc = forecast-is _ (board (c .before .before .before .before .before .before .before .before .before .before .before .before .before .before .before .before .before)) _ _ (c .before .before .before .before .region-of .ensures) _ (c .before .before .before .forecast-of .ensures _ (marks-right _ (board (c .before .before .before .before .before .before .before .before .before .before .before .before .before .before .before .before .before)) _ h)) in
-    let e = empty _ (board (c .before .before .before .before .before .before .before .before .before .before .before .before .before .before .before .before .before)) _ _ _ (c .before .before .find-frame .ensures .0) (c .if3 .taken) _ fc in
-    (why-found _ (board (c .before .before .before .before .before .before .before .before .before .before .before .before .before .before .before .before .before)) _ h _ (c .before .before .before .before .before .cluster-of .ensures) _ e, small _ (board (c .before .before .before .before .before .before .before .before .before .before .before .before .before .before .before .before .before)) _ h _ (c .before .before .before .before .before .cluster-of .ensures) _ e)
+    let at-forecast-of = c .before .before .before in
+    let at-region-of = at-forecast-of .before in
+    let at-cluster-of = at-region-of .before in
+    let at-if2 = at-cluster-of .before in
+    let at-number = at-if2 .before .before in
+    let at-why-reply = at-number .before in
+    let start = at-why-reply .before .before .before .before .before .before .before .before in
+    let h = (passed _ (board start) _ _ (at-why-reply .why-reply .ensures) _ (at-number .number .ensures) (at-if2 .if2 .left)) in
+    let fc = forecast-is _ (board start) _ _ (at-region-of .region-of .ensures) _ (at-forecast-of .forecast-of .ensures _ (marks-right _ (board start) _ h)) in
+    let e = empty _ (board start) _ _ _ (c .before .before .find-frame .ensures .0) (c .if3 .taken) _ fc in
+    (why-found _ (board start) _ h _ (at-cluster-of .cluster-of .ensures) _ e, small _ (board start) _ h _ (at-cluster-of .cluster-of .ensures) _ e)
 
 place-at-requires : tie.Need-place-at-requires
 place-at-requires c κs =
-    place-asked _ (board (c .before .before .before .before .before .before .before .before .before .before .before .before .before .before .before .before .before)) _ _ _ (c .before .before .find-frame .ensures .0) (c .if3 .left)
-    (looked _ (board (c .before .before .before .before .before .before .before .before .before .before .before .before .before .before .before .before .before)) _ (passed _ (board (c .before .before .before .before .before .before .before .before .before .before .before .before .before .before .before .before .before)) _ _ (c .before .before .before .before .before .before .before .before .before .why-reply .ensures) _ (c .before .before .before .before .before .before .before .before .number .ensures) (c .before .before .before .before .before .before .if2 .left)) _ (c .before .before .before .before .before .cluster-of .ensures)) _ _ (c .before .before .find-frame .ensures .1 .0)
+    let at-cluster-of = c .before .before .before .before .before in
+    let at-if2 = at-cluster-of .before in
+    let at-number = at-if2 .before .before in
+    let at-why-reply = at-number .before in
+    let start = at-why-reply .before .before .before .before .before .before .before .before in
+    place-asked _ (board start) _ _ _ (c .before .before .find-frame .ensures .0) (c .if3 .left)
+    (looked _ (board start) _ (passed _ (board start) _ _ (at-why-reply .why-reply .ensures) _ (at-number .number .ensures) (at-if2 .if2 .left)) _
+    (at-cluster-of .cluster-of .ensures)) _ _ (c .before .before .find-frame .ensures .1 .0)
 
 returns-4 : tie.Need-returns-4
 unfolding numbersOf
 returns-4 c =
-    let h = (passed _ (board (c .before .before .before .before .before .before .before .before .before .before .before .before .before .before .before .before .before .before)) _ _ (c .before .before .before .before .before .before .before .before .before .before .why-reply .ensures) _ (c .before .before .before .before .before .before .before .before .before .number .ensures) (c .before .before .before .before .before .before .before .if2 .left)) in
-    let fc = forecast-is _ (board (c .before .before .before .before .before .before .before .before .before .before .before .before .before .before .before .before .before .before)) _ _ (c .before .before .before .before .before .region-of .ensures) _ (c .before .before .before .before .forecast-of .ensures _ (marks-right _ (board (c .before .before .before .before .before .before .before .before .before .before .before .before .before .before .before .before .before .before)) _ h)) in
-    let at = c .place-at .ensures _ _ _ _ _ (not-false _ (c .before .if3 .left)) (c .before .before .before .find-frame .ensures .1 .0) in
-    let e = held _ (board (c .before .before .before .before .before .before .before .before .before .before .before .before .before .before .before .before .before .before)) _ _ _ (c .before .before .before .find-frame .ensures .0) (c .before .if3 .left) _ _ _ at fc (c .before .before .before .find-frame .ensures .1 .1) in
-    (why-found _ (board (c .before .before .before .before .before .before .before .before .before .before .before .before .before .before .before .before .before .before)) _ h _ (c .before .before .before .before .before .before .cluster-of .ensures) _ e, small _ (board (c .before .before .before .before .before .before .before .before .before .before .before .before .before .before .before .before .before .before)) _ h _ (c .before .before .before .before .before .before .cluster-of .ensures) _ e)
+    let at-find-frame = c .before .before .before in
+    let at-forecast-of = at-find-frame .before in
+    let at-region-of = at-forecast-of .before in
+    let at-cluster-of = at-region-of .before in
+    let at-if2 = at-cluster-of .before in
+    let at-number = at-if2 .before .before in
+    let at-why-reply = at-number .before in
+    let start = at-why-reply .before .before .before .before .before .before .before .before in
+    let h = (passed _ (board start) _ _ (at-why-reply .why-reply .ensures) _ (at-number .number .ensures) (at-if2 .if2 .left)) in
+    let fc = forecast-is _ (board start) _ _ (at-region-of .region-of .ensures) _ (at-forecast-of .forecast-of .ensures _ (marks-right _ (board start) _ h)) in
+    let at = c .place-at .ensures _ _ _ _ _ (not-false _ (c .before .if3 .left)) (at-find-frame .find-frame .ensures .1 .0) in
+    let e = held _ (board start) _ _ _ (at-find-frame .find-frame .ensures .0) (c .before .if3 .left) _ _ _ at fc (at-find-frame .find-frame .ensures .1 .1) in
+    (why-found _ (board start) _ h _ (at-cluster-of .cluster-of .ensures) _ e, small _ (board start) _ h _ (at-cluster-of .cluster-of .ensures) _ e)
 
 pub explain-spec : {M : Type 1} → statement M
 explain-spec =

@@ -46,34 +46,58 @@ same-length-7 : tie.Need-same-length-7
 same-length-7 c = search needs
 
 returns : tie.Need-returns
-returns c = unfold lent lentAnswers in refused-by _ (board (c .before .before .before .before .before .before .before .before .before .before .before .before .before .before .before .before .before .before .before)) (write (request (c .before .before .before .before .before .before .before .before .before .before .before .before .before .before .before .before .before .before .before))) _ (c .before .before .before .access-reply .ensures .1 (request (c .before .before .before .before .before .before .before .before .before .before .before .before .before .before .before .before .before .before .before)) refl refl refl) _ (c .before .before .number .ensures) (c .before .if1 .taken) _ (c .idle .ensures)
+returns c =
+    let at-access-reply = c .before .before .before in
+    let start = at-access-reply .before .before .before .before .before .before .before .before .before .before .before .before .before .before .before .before in
+    unfold lent lentAnswers in refused-by _ (board start) (write (request start)) _ (at-access-reply .access-reply .ensures .1 (request start) refl refl refl) _
+    (c .before .before .number .ensures) (c .before .if1 .taken) _ (c .idle .ensures)
 
 write-orderly-requires : tie.Need-write-orderly-requires
-write-orderly-requires c κs = reply-zero _ (board (c .before .before .before .before .before .before .before .before .before .before .before .before .before .before .before .before .before .before .before .before .before .before .before .before .before)) (write (request (c .before .before .before .before .before .before .before .before .before .before .before .before .before .before .before .before .before .before .before .before .before .before .before .before .before))) _ (c .before .before .before .before .before .before .before .before .before .access-reply .ensures .1 (request (c .before .before .before .before .before .before .before .before .before .before .before .before .before .before .before .before .before .before .before .before .before .before .before .before .before)) refl refl refl) _ (c .before .before .before .before .before .before .before .before .number .ensures) (c .before .before .before .before .before .before .before .if1 .left)
+write-orderly-requires c κs =
+    let at-if1 = c .before .before .before .before .before .before .before in
+    let at-number = at-if1 .before in
+    let at-access-reply = at-number .before in
+    let start = at-access-reply .before .before .before .before .before .before .before .before .before .before .before .before .before .before .before .before in
+    reply-zero _ (board start) (write (request start)) _ (at-access-reply .access-reply .ensures .1 (request start) refl refl refl) _ (at-number .number .ensures) (at-if1 .if1 .left)
 
 same-length-8 : tie.Need-same-length-8
-same-length-8 c = c .before .before .before .before .before .before .before .before .before .before .before .before .before .chip .given
+same-length-8 c =
+    let at-chip = c .before .before .before .before .before .before .before .before .before .before .before .before .before in
+    at-chip .chip .given
 
 same-length-9 : tie.Need-same-length-9
-same-length-9 c = c .before .before .before .before .before .before .before .before .before .before .before .ct .given
+same-length-9 c =
+    let at-ct = c .before .before .before .before .before .before .before .before .before .before .before in
+    at-ct .ct .given
 
 same-length-10 : tie.Need-same-length-10
-same-length-10 c = c .before .before .before .before .before .before .before .before .before .bt .given
+same-length-10 c =
+    let at-bt = c .before .before .before .before .before .before .before .before .before in
+    at-bt .bt .given
 
 same-length-11 : tie.Need-same-length-11
-same-length-11 c = c .before .before .before .before .before .before .before .fst .given
+same-length-11 c =
+    let at-fst = c .before .before .before .before .before .before .before in
+    at-fst .fst .given
 
 same-length-12 : tie.Need-same-length-12
-same-length-12 c = c .before .before .before .before .before .bst .given
+same-length-12 c =
+    let at-bst = c .before .before .before .before .before in
+    at-bst .bst .given
 
 same-length-13 : tie.Need-same-length-13
-same-length-13 c = c .before .before .before .wear .given
+same-length-13 c =
+    let at-wear = c .before .before .before in
+    at-wear .wear .given
 
 same-length-14 : tie.Need-same-length-14
 same-length-14 c = c .before .marks .given
 
 returns-2 : tie.Need-returns-2
-returns-2 c = c .before .before .before .before .before .before .before .before .before .before .before .before .before .before .write-orderly .ensures
+returns-2 c =
+    let at-write-orderly = c .before .before .before .before .before .before .before .before .before .before .before .before .before .before in
+    at-write-orderly .write-orderly .ensures
 
 pub write-spec : {M : Type 1} → statement M
-write-spec = tie.close (tie.spec access-reply-requires number-requires idle-requires same-length same-length-2 same-length-3 same-length-4 same-length-5 same-length-6 same-length-7 returns write-orderly-requires same-length-8 same-length-9 same-length-10 same-length-11 same-length-12 same-length-13 same-length-14 returns-2)
+write-spec = tie.close (tie.spec access-reply-requires number-requires idle-requires same-length same-length-2 same-length-3 same-length-4 same-length-5 same-length-6
+    same-length-7 returns write-orderly-requires same-length-8 same-length-9 same-length-10 same-length-11 same-length-12 same-length-13 same-length-14 returns-2)

@@ -12,13 +12,19 @@ returns : tie.Need-returns
 returns c = rw (← (c .before .bst-at .ensures), ne-eqb _ 0 (c .if1 .taken))
 
 block-of-requires : tie.Need-block-of-requires
-block-of-requires c κs = let a = c .before .before .before .before in (a .pre .0, (a .pre .1 .0, a .pre .1 .1 .1))
+block-of-requires c κs =
+    let start = c .before .before .before .before in
+    let a = start in (a .pre .0, (a .pre .1 .0, a .pre .1 .1 .1))
 
 block-erased-requires : tie.Need-block-erased-requires
-block-erased-requires c κs = (c .before .before .before .before .before .pre .0, c .block-of .ensures .1)
+block-erased-requires c κs =
+    let start = c .before .before .before .before .before in
+    (start .pre .0, c .block-of .ensures .1)
 
 returns-2 : tie.Need-returns-2
-returns-2 c = rw (← (c .before .before .before .bst-at .ensures), eq-eqb _ 0 (c .before .before .if1 .left), ← (c .before .block-of .ensures .0)) (c .block-erased .ensures)
+returns-2 c =
+    let at-bst-at = c .before .before .before in
+    rw (← (at-bst-at .bst-at .ensures), eq-eqb _ 0 (c .before .before .if1 .left), ← (c .before .block-of .ensures .0)) (c .block-erased .ensures)
 
 pub free-ok-spec : {M : Type 1} → statement M
 free-ok-spec = tie.close (tie.spec bst-at-requires returns block-of-requires block-erased-requires returns-2)

@@ -24,11 +24,15 @@ loop-holds : tie.Need-loop-holds Inv-loop μ-loop
 loop-holds c = (omega arith, all-start _)
 
 free-ok-requires : tie.Need-free-ok-requires Inv-loop μ-loop
-free-ok-requires c κs = let a = c .before .before .before .before in (a .pre .0, (a .pre .1 .0, (a .pre .1 .1, c .loop-test .taken)))
+free-ok-requires c κs =
+    let start = c .before .before .before .before in
+    let a = start in (a .pre .0, (a .pre .1 .0, (a .pre .1 .1, c .loop-test .taken)))
 
 returns : tie.Need-returns Inv-loop μ-loop
 unfolding freeRule
-returns c = sym (all-fails _ (c .before .before .before .loop .n) _ (c .before .before .loop-test .taken) (sym (c .before .free-ok .ensures) ∙ not-true _ (c .if1 .taken)))
+returns c =
+    let at-loop = c .before .before .before in
+    sym (all-fails _ (at-loop .loop .n) _ (c .before .before .loop-test .taken) (sym (c .before .free-ok .ensures) ∙ not-true _ (c .if1 .taken)))
 
 add-n : tie.Need-add-n Inv-loop μ-loop
 add-n c = omega arith
@@ -37,7 +41,9 @@ loop-less : tie.Need-loop-less Inv-loop μ-loop
 loop-less c = omega arith
 
 loop-again : tie.Need-loop-again Inv-loop μ-loop
-loop-again c = (omega arith, all-more _ _ (c .before .before .before .loop .inv .1) (sym (c .before .free-ok .ensures) ∙ not-false _ (c .if1 .left)))
+loop-again c =
+    let at-loop = c .before .before .before in
+    (omega arith, all-more _ _ (at-loop .loop .inv .1) (sym (c .before .free-ok .ensures) ∙ not-false _ (c .if1 .left)))
 
 returns-2 : tie.Need-returns-2 Inv-loop μ-loop
 unfolding freeRule

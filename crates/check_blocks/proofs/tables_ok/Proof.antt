@@ -24,7 +24,9 @@ kinds-ok-requires c κs = search needs
 returns-2 : tie.Need-returns-2
 unfolding tablesOk usedOk kindsOk
 returns-2 c =
-    rw (← (c .before .before .before .bt-ok .ensures), not-false (c .before .before .before .bt-ok .result) (c .before .before .if1 .left), ← (c .before .before .before .before .before .before .pre .1 .0), ← (c .before .assigned .ensures)) (c .kinds-ok .ensures)
+    let at-bt-ok = c .before .before .before in
+    let start = at-bt-ok .before .before .before in
+    rw (← (at-bt-ok .bt-ok .ensures), not-false (at-bt-ok .bt-ok .result) (c .before .before .if1 .left), ← (start .pre .1 .0), ← (c .before .assigned .ensures)) (c .kinds-ok .ensures)
 
 pub tables-ok-spec : {M : Type 1} → statement M
 tables-ok-spec =

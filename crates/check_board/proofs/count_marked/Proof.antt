@@ -44,7 +44,10 @@ count-requires : tie.Need-count-requires Inv-loop μ-loop
 count-requires c κs = search needs
 
 add-k : tie.Need-add-k Inv-loop μ-loop
-add-k c = omega (arith, c .before .before .before .loop .inv .1, c .count .ensures .0, c .before .before .before .before .before .pre)
+add-k c =
+    let at-loop = c .before .before .before in
+    let start = at-loop .before .before in
+    omega (arith, at-loop .loop .inv .1, c .count .ensures .0, start .pre)
 
 add-i : tie.Need-add-i Inv-loop μ-loop
 add-i c = omega arith
@@ -55,17 +58,21 @@ loop-less c = omega arith
 loop-again : tie.Need-loop-again Inv-loop μ-loop
 unfolding wordAt
 loop-again c =
-    let l = c .before .before .before .loop in
-    let m = c .before .before .before .before .before .args .marks .now in (
+    let at-loop = c .before .before .before in
+    let at-shared-slice-known = at-loop .before in
+    let start = at-shared-slice-known .before in
+    let l = at-loop .loop in
+    let m = start .args .marks .now in (
       omega arith,
       omega (arith, l .inv .1, c .count .ensures .0),
       count-word (bitAt m) (l .i) (l .k) (c .count .result) (l .inv .2)
-          (c .count .ensures .1 (bitIn (wordAt m (l .i))) (bits-of 64 (wordAt m (l .i)) (omega (arith, c .before .before .before .before .shared-slice-known .given (l .i)))) ∙ word-bits m (l .i)),
+          (c .count .ensures .1 (bitIn (wordAt m (l .i))) (bits-of 64 (wordAt m (l .i)) (omega (arith, at-shared-slice-known .shared-slice-known .given (l .i)))) ∙ word-bits m (l .i)),
     )
 
 returns : tie.Need-returns Inv-loop μ-loop
 returns c =
-    let e : c .before .loop .i ≡ length (c .before .before .before .args .marks .now) = omega arith in
+    let start = c .before .before .before in
+    let e : c .before .loop .i ≡ length (start .args .marks .now) = omega arith in
     rw (← e) (c .before .loop .inv .2)
 
 pub count-marked-spec : {M : Type 1} → statement M

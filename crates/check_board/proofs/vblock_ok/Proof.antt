@@ -10,11 +10,14 @@ use Rattle.check_board.proofs.vblock_ok.Statement.{statement}
 use Rattle.check_board.proofs.vblock_ok.Tie as tie
 
 vblock-frames-requires : tie.Need-vblock-frames-requires
-vblock-frames-requires c κs = let a = c .before .before .before .before .before .pre in (a .0 .lent, (a .0 .bstLength, (a .1 .0, a .1 .1 .1)))
+vblock-frames-requires c κs =
+    let start = c .before .before .before .before .before in
+    let a = start .pre in (a .0 .lent, (a .0 .bstLength, (a .1 .0, a .1 .1 .1)))
 
 frames-ok-requires : tie.Need-frames-ok-requires
 frames-ok-requires c κs =
-    let a = c .before .before .before .before .before .before .pre in (a .0 .lent .fine, (a .1 .1 .0, (a .1 .1 .1, rw (c .vblock-frames .ensures) (frames-le _ (sizes _ (a .0 .lent .fine)) _ _ _ _ _))))
+    let start = c .before .before .before .before .before .before in
+    let a = start .pre in (a .0 .lent .fine, (a .1 .1 .0, (a .1 .1 .1, rw (c .vblock-frames .ensures) (frames-le _ (sizes _ (a .0 .lent .fine)) _ _ _ _ _))))
 
 returns : tie.Need-returns
 unfolding blockHeld
@@ -22,14 +25,17 @@ returns c = rw (← (c .before .before .vblock-frames .ensures), ← (c .before 
 
 marks-ok-requires : tie.Need-marks-ok-requires
 marks-ok-requires c κs =
-    let a = c .before .before .before .before .before .before .before .before .pre in
-    let ok = frames-block _ (sizes _ (a .0 .lent .fine)) _ _ _ _ (c .before .before .before .before .before .before .before .before .args .sg .0) _ (rw (c .before .before .vblock-frames .ensures) at (sym (c .before .frames-ok .ensures) ∙ not-false _ (c .if1 .left))) in
+    let start = c .before .before .before .before .before .before .before .before in
+    let a = start .pre in
+    let ok = frames-block _ (sizes _ (a .0 .lent .fine)) _ _ _ _ (start .args .sg .0) _
+    (rw (c .before .before .vblock-frames .ensures) at (sym (c .before .frames-ok .ensures) ∙ not-false _ (c .if1 .left))) in
     check-asked _ _ _ _ _ _ ok _ _ (a .0) (a .1 .0) (a .1 .1 .1)
 
 returns-2 : tie.Need-returns-2
 unfolding blockHeld
 returns-2 c =
-    rw (← (c .before .before .before .vblock-frames .ensures), ← (c .before .before .frames-ok .ensures), not-false (c .before .before .frames-ok .result) (c .before .if1 .left)) (c .marks-ok .ensures)
+    let at-vblock-frames = c .before .before .before in
+    rw (← (at-vblock-frames .vblock-frames .ensures), ← (c .before .before .frames-ok .ensures), not-false (c .before .before .frames-ok .result) (c .before .if1 .left)) (c .marks-ok .ensures)
 
 pub vblock-ok-spec : {M : Type 1} → statement M
 vblock-ok-spec = tie.close (tie.spec vblock-frames-requires frames-ok-requires returns marks-ok-requires returns-2)

@@ -17,15 +17,24 @@ returns c = rw (← (c .before .before .bt-at .ensures .0), eq-eqb _ none (c .if
 
 block-of-requires : tie.Need-block-of-requires
 block-of-requires c κs =
-    let a = c .before .before .before .before .before in
-    (a .pre .0 .fine, (a .pre .0 .chipLength, name-low (a .args .p) (a .args .chip .now) (a .args .bt .now) (a .pre .0) (a .args .r) (a .args .v .0) (c .before .before .bt-at .result .0) (a .pre .1 .0) (a .pre .1 .1) (c .before .before .bt-at .ensures .0) (c .if1 .left)))
+    let start = c .before .before .before .before .before in
+    let a = start in (
+      a .pre .0 .fine,
+      (
+        a .pre .0 .chipLength,
+        name-low (a .args .p) (a .args .chip .now) (a .args .bt .now) (a .pre .0) (a .args .r) (a .args .v .0)
+            (c .before .before .bt-at .result .0) (a .pre .1 .0) (a .pre .1 .1) (c .before .before .bt-at .ensures .0) (c .if1 .left),
+      ),
+    )
 
 block-ok-requires : tie.Need-block-ok-requires
 block-ok-requires c κs = search needs
 
 returns-2 : tie.Need-returns-2
 unfolding blockOk
-returns-2 c = rw (← (c .before .before .before .before .bt-at .ensures .0), ne-eqb (c .before .before .before .before .bt-at .result .0) none (c .before .before .if1 .left), ← (c .before .block-of .ensures .0)) (c .block-ok .ensures)
+returns-2 c =
+    let at-bt-at = c .before .before .before .before in
+    rw (← (at-bt-at .bt-at .ensures .0), ne-eqb (at-bt-at .bt-at .result .0) none (c .before .before .if1 .left), ← (c .before .block-of .ensures .0)) (c .block-ok .ensures)
 
 pub block-ok-spec : {M : Type 1} → statement M
 block-ok-spec =

@@ -51,7 +51,8 @@ bst-ok-requires c κs = search needs
 returns : tie.Need-returns
 unfolding brokenRule rulesOf ruleNames
 returns c =
-    let a = c .before .before .before .before .before .before .before in
+    let start = c .before .before .before .before .before .before .before in
+    let a = start in
     λ wear marks.
     let told : BstValues ≡ brokenRule (a .args .p) (board a wear marks) =
     here _ _ _ _ _ (c .before .bst-ok .ensures) (c .if1 .taken) in
@@ -63,10 +64,12 @@ bt-ok-requires c κs = search needs
 returns-2 : tie.Need-returns-2
 unfolding brokenRule rulesOf ruleNames
 returns-2 c =
-    let a = c .before .before .before .before .before .before .before .before .before in
+    let at-bst-ok = c .before .before .before in
+    let start = at-bst-ok .before .before .before .before .before .before in
+    let a = start in
     λ wear marks.
     let told : BtRange ≡ brokenRule (a .args .p) (board a wear marks) =
-    skip _ _ _ _ _ _ (c .before .before .before .bst-ok .ensures) (c .before .before .if1 .left)
+    skip _ _ _ _ _ _ (at-bst-ok .bst-ok .ensures) (c .before .before .if1 .left)
     (here _ _ _ _ _ (c .before .bt-ok .ensures) (c .if2 .taken)) in
     told
 
@@ -76,11 +79,15 @@ once-ok-requires c κs = search needs
 returns-3 : tie.Need-returns-3
 unfolding brokenRule rulesOf ruleNames
 returns-3 c =
-    let a = c .before .before .before .before .before .before .before .before .before .before .before in
+    let at-bt-ok = c .before .before .before in
+    let at-if1 = at-bt-ok .before in
+    let at-bst-ok = at-if1 .before in
+    let start = at-bst-ok .before .before .before .before .before .before in
+    let a = start in
     λ wear marks.
     let told : NamedTwice ≡ brokenRule (a .args .p) (board a wear marks) =
-    skip _ _ _ _ _ _ (c .before .before .before .before .before .bst-ok .ensures) (c .before .before .before .before .if1 .left)
-    (skip _ _ _ _ _ _ (c .before .before .before .bt-ok .ensures) (c .before .before .if2 .left)
+    skip _ _ _ _ _ _ (at-bst-ok .bst-ok .ensures) (at-if1 .if1 .left)
+    (skip _ _ _ _ _ _ (at-bt-ok .bt-ok .ensures) (c .before .before .if2 .left)
     (here _ _ _ _ _ (c .before .once-ok .ensures) (c .if3 .taken))) in
     told
 
@@ -90,12 +97,18 @@ used-ok-requires c κs = search needs
 returns-4 : tie.Need-returns-4
 unfolding brokenRule rulesOf ruleNames
 returns-4 c =
-    let a = c .before .before .before .before .before .before .before .before .before .before .before .before .before in
+    let at-once-ok = c .before .before .before in
+    let at-if2 = at-once-ok .before in
+    let at-bt-ok = at-if2 .before in
+    let at-if1 = at-bt-ok .before in
+    let at-bst-ok = at-if1 .before in
+    let start = at-bst-ok .before .before .before .before .before .before in
+    let a = start in
     λ wear marks.
     let told : UsedIfNamed ≡ brokenRule (a .args .p) (board a wear marks) =
-    skip _ _ _ _ _ _ (c .before .before .before .before .before .before .before .bst-ok .ensures) (c .before .before .before .before .before .before .if1 .left)
-    (skip _ _ _ _ _ _ (c .before .before .before .before .before .bt-ok .ensures) (c .before .before .before .before .if2 .left)
-    (skip _ _ _ _ _ _ (c .before .before .before .once-ok .ensures) (c .before .before .if3 .left)
+    skip _ _ _ _ _ _ (at-bst-ok .bst-ok .ensures) (at-if1 .if1 .left)
+    (skip _ _ _ _ _ _ (at-bt-ok .bt-ok .ensures) (at-if2 .if2 .left)
+    (skip _ _ _ _ _ _ (at-once-ok .once-ok .ensures) (c .before .before .if3 .left)
     (here _ _ _ _ _ (c .before .used-ok .ensures) (c .if4 .taken)))) in
     told
 
@@ -105,13 +118,21 @@ room-ok-requires c κs = search needs
 returns-5 : tie.Need-returns-5
 unfolding brokenRule rulesOf ruleNames
 returns-5 c =
-    let a = c .before .before .before .before .before .before .before .before .before .before .before .before .before .before .before in
+    let at-used-ok = c .before .before .before in
+    let at-if3 = at-used-ok .before in
+    let at-once-ok = at-if3 .before in
+    let at-if2 = at-once-ok .before in
+    let at-bt-ok = at-if2 .before in
+    let at-if1 = at-bt-ok .before in
+    let at-bst-ok = at-if1 .before in
+    let start = at-bst-ok .before .before .before .before .before .before in
+    let a = start in
     λ wear marks.
     let told : TooFewLeft ≡ brokenRule (a .args .p) (board a wear marks) =
-    skip _ _ _ _ _ _ (c .before .before .before .before .before .before .before .before .before .bst-ok .ensures) (c .before .before .before .before .before .before .before .before .if1 .left)
-    (skip _ _ _ _ _ _ (c .before .before .before .before .before .before .before .bt-ok .ensures) (c .before .before .before .before .before .before .if2 .left)
-    (skip _ _ _ _ _ _ (c .before .before .before .before .before .once-ok .ensures) (c .before .before .before .before .if3 .left)
-    (skip _ _ _ _ _ _ (c .before .before .before .used-ok .ensures) (c .before .before .if4 .left)
+    skip _ _ _ _ _ _ (at-bst-ok .bst-ok .ensures) (at-if1 .if1 .left)
+    (skip _ _ _ _ _ _ (at-bt-ok .bt-ok .ensures) (at-if2 .if2 .left)
+    (skip _ _ _ _ _ _ (at-once-ok .once-ok .ensures) (at-if3 .if3 .left)
+    (skip _ _ _ _ _ _ (at-used-ok .used-ok .ensures) (c .before .before .if4 .left)
     (here _ _ _ _ _ (c .before .room-ok .ensures) (c .if5 .taken))))) in
     told
 
@@ -121,89 +142,172 @@ frees-ok-requires c κs = search needs
 returns-6 : tie.Need-returns-6
 unfolding brokenRule rulesOf ruleNames
 returns-6 c =
-    let a = c .before .before .before .before .before .before .before .before .before .before .before .before .before .before .before .before .before in
+    let at-room-ok = c .before .before .before in
+    let at-if4 = at-room-ok .before in
+    let at-used-ok = at-if4 .before in
+    let at-if3 = at-used-ok .before in
+    let at-once-ok = at-if3 .before in
+    let at-if2 = at-once-ok .before in
+    let at-bt-ok = at-if2 .before in
+    let at-if1 = at-bt-ok .before in
+    let at-bst-ok = at-if1 .before in
+    let start = at-bst-ok .before .before .before .before .before .before in
+    let a = start in
     λ wear marks.
     let told : FreeErased ≡ brokenRule (a .args .p) (board a wear marks) =
-    skip _ _ _ _ _ _ (c .before .before .before .before .before .before .before .before .before .before .before .bst-ok .ensures) (c .before .before .before .before .before .before .before .before .before .before .if1 .left)
-    (skip _ _ _ _ _ _ (c .before .before .before .before .before .before .before .before .before .bt-ok .ensures) (c .before .before .before .before .before .before .before .before .if2 .left)
-    (skip _ _ _ _ _ _ (c .before .before .before .before .before .before .before .once-ok .ensures) (c .before .before .before .before .before .before .if3 .left)
-    (skip _ _ _ _ _ _ (c .before .before .before .before .before .used-ok .ensures) (c .before .before .before .before .if4 .left)
-    (skip _ _ _ _ _ _ (c .before .before .before .room-ok .ensures) (c .before .before .if5 .left)
+    skip _ _ _ _ _ _ (at-bst-ok .bst-ok .ensures) (at-if1 .if1 .left)
+    (skip _ _ _ _ _ _ (at-bt-ok .bt-ok .ensures) (at-if2 .if2 .left)
+    (skip _ _ _ _ _ _ (at-once-ok .once-ok .ensures) (at-if3 .if3 .left)
+    (skip _ _ _ _ _ _ (at-used-ok .used-ok .ensures) (at-if4 .if4 .left)
+    (skip _ _ _ _ _ _ (at-room-ok .room-ok .ensures) (c .before .before .if5 .left)
     (here _ _ _ _ _ (c .before .frees-ok .ensures) (c .if6 .taken)))))) in
     told
 
 blocks-ok-requires : tie.Need-blocks-ok-requires
-blocks-ok-requires c κs = lent (c .before .before .before .before .before .before .before .before .before .before .before .before .before .before .before .before .before) (c .before .before .before .before .before .before .before .before .before .bt-ok .result) (c .before .before .before .before .before .before .before .before .before .bt-ok .ensures) (c .before .before .before .before .before .before .before .before .if2 .left)
+blocks-ok-requires c κs =
+    let at-if2 = c .before .before .before .before .before .before .before .before in
+    let at-bt-ok = at-if2 .before in
+    let start = at-bt-ok .before .before .before .before .before .before .before .before in
+    lent start (at-bt-ok .bt-ok .result) (at-bt-ok .bt-ok .ensures) (at-if2 .if2 .left)
 
 returns-7 : tie.Need-returns-7
 unfolding brokenRule rulesOf ruleNames
 returns-7 c =
-    let a = c .before .before .before .before .before .before .before .before .before .before .before .before .before .before .before .before .before .before .before in
+    let at-frees-ok = c .before .before .before in
+    let at-if5 = at-frees-ok .before in
+    let at-room-ok = at-if5 .before in
+    let at-if4 = at-room-ok .before in
+    let at-used-ok = at-if4 .before in
+    let at-if3 = at-used-ok .before in
+    let at-once-ok = at-if3 .before in
+    let at-if2 = at-once-ok .before in
+    let at-bt-ok = at-if2 .before in
+    let at-if1 = at-bt-ok .before in
+    let at-bst-ok = at-if1 .before in
+    let start = at-bst-ok .before .before .before .before .before .before in
+    let a = start in
     λ wear marks.
     let told : UsedBlock ≡ brokenRule (a .args .p) (board a wear marks) =
-    skip _ _ _ _ _ _ (c .before .before .before .before .before .before .before .before .before .before .before .before .before .bst-ok .ensures) (c .before .before .before .before .before .before .before .before .before .before .before .before .if1 .left)
-    (skip _ _ _ _ _ _ (c .before .before .before .before .before .before .before .before .before .before .before .bt-ok .ensures) (c .before .before .before .before .before .before .before .before .before .before .if2 .left)
-    (skip _ _ _ _ _ _ (c .before .before .before .before .before .before .before .before .before .once-ok .ensures) (c .before .before .before .before .before .before .before .before .if3 .left)
-    (skip _ _ _ _ _ _ (c .before .before .before .before .before .before .before .used-ok .ensures) (c .before .before .before .before .before .before .if4 .left)
-    (skip _ _ _ _ _ _ (c .before .before .before .before .before .room-ok .ensures) (c .before .before .before .before .if5 .left)
-    (skip _ _ _ _ _ _ (c .before .before .before .frees-ok .ensures) (c .before .before .if6 .left)
-    (here _ _ _ _ _ (used-blocks a _ _ (c .before .before .before .before .before .before .before .before .before .before .before .bt-ok .ensures) (c .before .before .before .before .before .before .before .before .before .before .if2 .left) (c .before .blocks-ok .ensures) wear marks) (c .if7 .taken))))))) in
+    skip _ _ _ _ _ _ (at-bst-ok .bst-ok .ensures) (at-if1 .if1 .left)
+    (skip _ _ _ _ _ _ (at-bt-ok .bt-ok .ensures) (at-if2 .if2 .left)
+    (skip _ _ _ _ _ _ (at-once-ok .once-ok .ensures) (at-if3 .if3 .left)
+    (skip _ _ _ _ _ _ (at-used-ok .used-ok .ensures) (at-if4 .if4 .left)
+    (skip _ _ _ _ _ _ (at-room-ok .room-ok .ensures) (at-if5 .if5 .left)
+    (skip _ _ _ _ _ _ (at-frees-ok .frees-ok .ensures) (c .before .before .if6 .left)
+    (here _ _ _ _ _ (used-blocks a _ _ (at-bt-ok .bt-ok .ensures) (at-if2 .if2 .left) (c .before .blocks-ok .ensures) wear marks) (c .if7 .taken))))))) in
     told
 
 fsts-ok-requires : tie.Need-fsts-ok-requires
-fsts-ok-requires c κs = (lent (c .before .before .before .before .before .before .before .before .before .before .before .before .before .before .before .before .before .before .before) (c .before .before .before .before .before .before .before .before .before .before .before .bt-ok .result) (c .before .before .before .before .before .before .before .before .before .before .before .bt-ok .ensures) (c .before .before .before .before .before .before .before .before .before .before .if2 .left), c .before .before .before .before .before .before .before .before .before .before .before .before .before .before .before .before .before .before .before .pre .fstLength)
+fsts-ok-requires c κs =
+    let at-if2 = c .before .before .before .before .before .before .before .before .before .before in
+    let at-bt-ok = at-if2 .before in
+    let start = at-bt-ok .before .before .before .before .before .before .before .before in
+    (lent start (at-bt-ok .bt-ok .result) (at-bt-ok .bt-ok .ensures) (at-if2 .if2 .left), start .pre .fstLength)
 
 returns-8 : tie.Need-returns-8
 unfolding brokenRule rulesOf ruleNames
 returns-8 c =
-    let a = c .before .before .before .before .before .before .before .before .before .before .before .before .before .before .before .before .before .before .before .before .before in
+    let at-blocks-ok = c .before .before .before in
+    let at-if6 = at-blocks-ok .before in
+    let at-frees-ok = at-if6 .before in
+    let at-if5 = at-frees-ok .before in
+    let at-room-ok = at-if5 .before in
+    let at-if4 = at-room-ok .before in
+    let at-used-ok = at-if4 .before in
+    let at-if3 = at-used-ok .before in
+    let at-once-ok = at-if3 .before in
+    let at-if2 = at-once-ok .before in
+    let at-bt-ok = at-if2 .before in
+    let at-if1 = at-bt-ok .before in
+    let at-bst-ok = at-if1 .before in
+    let start = at-bst-ok .before .before .before .before .before .before in
+    let a = start in
     λ wear marks.
     let told : Fst ≡ brokenRule (a .args .p) (board a wear marks) =
-    skip _ _ _ _ _ _ (c .before .before .before .before .before .before .before .before .before .before .before .before .before .before .before .bst-ok .ensures) (c .before .before .before .before .before .before .before .before .before .before .before .before .before .before .if1 .left)
-    (skip _ _ _ _ _ _ (c .before .before .before .before .before .before .before .before .before .before .before .before .before .bt-ok .ensures) (c .before .before .before .before .before .before .before .before .before .before .before .before .if2 .left)
-    (skip _ _ _ _ _ _ (c .before .before .before .before .before .before .before .before .before .before .before .once-ok .ensures) (c .before .before .before .before .before .before .before .before .before .before .if3 .left)
-    (skip _ _ _ _ _ _ (c .before .before .before .before .before .before .before .before .before .used-ok .ensures) (c .before .before .before .before .before .before .before .before .if4 .left)
-    (skip _ _ _ _ _ _ (c .before .before .before .before .before .before .before .room-ok .ensures) (c .before .before .before .before .before .before .if5 .left)
-    (skip _ _ _ _ _ _ (c .before .before .before .before .before .frees-ok .ensures) (c .before .before .before .before .if6 .left)
-    (skip _ _ _ _ _ _ (used-blocks a _ _ (c .before .before .before .before .before .before .before .before .before .before .before .before .before .bt-ok .ensures) (c .before .before .before .before .before .before .before .before .before .before .before .before .if2 .left) (c .before .before .before .blocks-ok .ensures) wear marks) (c .before .before .if7 .left)
-    (here _ _ _ _ _ (fst-entries a _ _ _ (c .before .before .before .before .before .before .before .before .before .before .before .before .before .bt-ok .ensures) (c .before .before .before .before .before .before .before .before .before .before .before .before .if2 .left) (c .before .before .before .blocks-ok .ensures) (c .before .before .if7 .left) (c .before .fsts-ok .ensures) wear marks) (c .if8 .taken)))))))) in
+    skip _ _ _ _ _ _ (at-bst-ok .bst-ok .ensures) (at-if1 .if1 .left)
+    (skip _ _ _ _ _ _ (at-bt-ok .bt-ok .ensures) (at-if2 .if2 .left)
+    (skip _ _ _ _ _ _ (at-once-ok .once-ok .ensures) (at-if3 .if3 .left)
+    (skip _ _ _ _ _ _ (at-used-ok .used-ok .ensures) (at-if4 .if4 .left)
+    (skip _ _ _ _ _ _ (at-room-ok .room-ok .ensures) (at-if5 .if5 .left)
+    (skip _ _ _ _ _ _ (at-frees-ok .frees-ok .ensures) (at-if6 .if6 .left)
+    (skip _ _ _ _ _ _ (used-blocks a _ _ (at-bt-ok .bt-ok .ensures) (at-if2 .if2 .left) (at-blocks-ok .blocks-ok .ensures) wear marks) (c .before .before .if7 .left)
+    (here _ _ _ _ _ (fst-entries a _ _ _ (at-bt-ok .bt-ok .ensures) (at-if2 .if2 .left) (at-blocks-ok .blocks-ok .ensures) (c .before .before .if7 .left)
+    (c .before .fsts-ok .ensures) wear marks) (c .if8 .taken)))))))) in
     told
 
 cts-ok-requires : tie.Need-cts-ok-requires
-cts-ok-requires c κs = (lent (c .before .before .before .before .before .before .before .before .before .before .before .before .before .before .before .before .before .before .before .before .before) (c .before .before .before .before .before .before .before .before .before .before .before .before .before .bt-ok .result) (c .before .before .before .before .before .before .before .before .before .before .before .before .before .bt-ok .ensures) (c .before .before .before .before .before .before .before .before .before .before .before .before .if2 .left), c .before .before .before .before .before .before .before .before .before .before .before .before .before .before .before .before .before .before .before .before .before .pre .ctLength)
+cts-ok-requires c κs =
+    let at-if2 = c .before .before .before .before .before .before .before .before .before .before .before .before in
+    let at-bt-ok = at-if2 .before in
+    let start = at-bt-ok .before .before .before .before .before .before .before .before in
+    (lent start (at-bt-ok .bt-ok .result) (at-bt-ok .bt-ok .ensures) (at-if2 .if2 .left), start .pre .ctLength)
 
 returns-9 : tie.Need-returns-9
 unfolding brokenRule rulesOf ruleNames
 returns-9 c =
-    let a = c .before .before .before .before .before .before .before .before .before .before .before .before .before .before .before .before .before .before .before .before .before .before .before in
+    let at-fsts-ok = c .before .before .before in
+    let at-if7 = at-fsts-ok .before in
+    let at-blocks-ok = at-if7 .before in
+    let at-if6 = at-blocks-ok .before in
+    let at-frees-ok = at-if6 .before in
+    let at-if5 = at-frees-ok .before in
+    let at-room-ok = at-if5 .before in
+    let at-if4 = at-room-ok .before in
+    let at-used-ok = at-if4 .before in
+    let at-if3 = at-used-ok .before in
+    let at-once-ok = at-if3 .before in
+    let at-if2 = at-once-ok .before in
+    let at-bt-ok = at-if2 .before in
+    let at-if1 = at-bt-ok .before in
+    let at-bst-ok = at-if1 .before in
+    let start = at-bst-ok .before .before .before .before .before .before in
+    let a = start in
     λ wear marks.
     let told : Ct ≡ brokenRule (a .args .p) (board a wear marks) =
-    skip _ _ _ _ _ _ (c .before .before .before .before .before .before .before .before .before .before .before .before .before .before .before .before .before .bst-ok .ensures) (c .before .before .before .before .before .before .before .before .before .before .before .before .before .before .before .before .if1 .left)
-    (skip _ _ _ _ _ _ (c .before .before .before .before .before .before .before .before .before .before .before .before .before .before .before .bt-ok .ensures) (c .before .before .before .before .before .before .before .before .before .before .before .before .before .before .if2 .left)
-    (skip _ _ _ _ _ _ (c .before .before .before .before .before .before .before .before .before .before .before .before .before .once-ok .ensures) (c .before .before .before .before .before .before .before .before .before .before .before .before .if3 .left)
-    (skip _ _ _ _ _ _ (c .before .before .before .before .before .before .before .before .before .before .before .used-ok .ensures) (c .before .before .before .before .before .before .before .before .before .before .if4 .left)
-    (skip _ _ _ _ _ _ (c .before .before .before .before .before .before .before .before .before .room-ok .ensures) (c .before .before .before .before .before .before .before .before .if5 .left)
-    (skip _ _ _ _ _ _ (c .before .before .before .before .before .before .before .frees-ok .ensures) (c .before .before .before .before .before .before .if6 .left)
-    (skip _ _ _ _ _ _ (used-blocks a _ _ (c .before .before .before .before .before .before .before .before .before .before .before .before .before .before .before .bt-ok .ensures) (c .before .before .before .before .before .before .before .before .before .before .before .before .before .before .if2 .left) (c .before .before .before .before .before .blocks-ok .ensures) wear marks) (c .before .before .before .before .if7 .left)
-    (skip _ _ _ _ _ _ (fst-entries a _ _ _ (c .before .before .before .before .before .before .before .before .before .before .before .before .before .before .before .bt-ok .ensures) (c .before .before .before .before .before .before .before .before .before .before .before .before .before .before .if2 .left) (c .before .before .before .before .before .blocks-ok .ensures) (c .before .before .before .before .if7 .left) (c .before .before .before .fsts-ok .ensures) wear marks) (c .before .before .if8 .left)
-    (here _ _ _ _ _ (ct-entries a _ _ (c .before .before .before .before .before .before .before .before .before .before .before .before .before .before .before .bt-ok .ensures) (c .before .before .before .before .before .before .before .before .before .before .before .before .before .before .if2 .left) (c .before .cts-ok .ensures) wear marks) (c .if9 .taken))))))))) in
+    skip _ _ _ _ _ _ (at-bst-ok .bst-ok .ensures) (at-if1 .if1 .left)
+    (skip _ _ _ _ _ _ (at-bt-ok .bt-ok .ensures) (at-if2 .if2 .left)
+    (skip _ _ _ _ _ _ (at-once-ok .once-ok .ensures) (at-if3 .if3 .left)
+    (skip _ _ _ _ _ _ (at-used-ok .used-ok .ensures) (at-if4 .if4 .left)
+    (skip _ _ _ _ _ _ (at-room-ok .room-ok .ensures) (at-if5 .if5 .left)
+    (skip _ _ _ _ _ _ (at-frees-ok .frees-ok .ensures) (at-if6 .if6 .left)
+    (skip _ _ _ _ _ _ (used-blocks a _ _ (at-bt-ok .bt-ok .ensures) (at-if2 .if2 .left) (at-blocks-ok .blocks-ok .ensures) wear marks) (at-if7 .if7 .left)
+    (skip _ _ _ _ _ _ (fst-entries a _ _ _ (at-bt-ok .bt-ok .ensures) (at-if2 .if2 .left) (at-blocks-ok .blocks-ok .ensures) (at-if7 .if7 .left) (at-fsts-ok .fsts-ok .ensures)
+    wear marks) (c .before .before .if8 .left)
+    (here _ _ _ _ _ (ct-entries a _ _ (at-bt-ok .bt-ok .ensures) (at-if2 .if2 .left) (c .before .cts-ok .ensures) wear marks) (c .if9 .taken))))))))) in
     told
 
 returns-10 : tie.Need-returns-10
 unfolding brokenRule rulesOf ruleNames
 returns-10 c =
-    let a = c .before .before .before .before .before .before .before .before .before .before .before .before .before .before .before .before .before .before .before .before .before .before .before in
+    let at-fsts-ok = c .before .before .before in
+    let at-if7 = at-fsts-ok .before in
+    let at-blocks-ok = at-if7 .before in
+    let at-if6 = at-blocks-ok .before in
+    let at-frees-ok = at-if6 .before in
+    let at-if5 = at-frees-ok .before in
+    let at-room-ok = at-if5 .before in
+    let at-if4 = at-room-ok .before in
+    let at-used-ok = at-if4 .before in
+    let at-if3 = at-used-ok .before in
+    let at-once-ok = at-if3 .before in
+    let at-if2 = at-once-ok .before in
+    let at-bt-ok = at-if2 .before in
+    let at-if1 = at-bt-ok .before in
+    let at-bst-ok = at-if1 .before in
+    let start = at-bst-ok .before .before .before .before .before .before in
+    let a = start in
     λ wear marks.
     let told : Marks ≡ brokenRule (a .args .p) (board a wear marks) =
-    skip _ _ _ _ _ _ (c .before .before .before .before .before .before .before .before .before .before .before .before .before .before .before .before .before .bst-ok .ensures) (c .before .before .before .before .before .before .before .before .before .before .before .before .before .before .before .before .if1 .left)
-    (skip _ _ _ _ _ _ (c .before .before .before .before .before .before .before .before .before .before .before .before .before .before .before .bt-ok .ensures) (c .before .before .before .before .before .before .before .before .before .before .before .before .before .before .if2 .left)
-    (skip _ _ _ _ _ _ (c .before .before .before .before .before .before .before .before .before .before .before .before .before .once-ok .ensures) (c .before .before .before .before .before .before .before .before .before .before .before .before .if3 .left)
-    (skip _ _ _ _ _ _ (c .before .before .before .before .before .before .before .before .before .before .before .used-ok .ensures) (c .before .before .before .before .before .before .before .before .before .before .if4 .left)
-    (skip _ _ _ _ _ _ (c .before .before .before .before .before .before .before .before .before .room-ok .ensures) (c .before .before .before .before .before .before .before .before .if5 .left)
-    (skip _ _ _ _ _ _ (c .before .before .before .before .before .before .before .frees-ok .ensures) (c .before .before .before .before .before .before .if6 .left)
-    (skip _ _ _ _ _ _ (used-blocks a _ _ (c .before .before .before .before .before .before .before .before .before .before .before .before .before .before .before .bt-ok .ensures) (c .before .before .before .before .before .before .before .before .before .before .before .before .before .before .if2 .left) (c .before .before .before .before .before .blocks-ok .ensures) wear marks) (c .before .before .before .before .if7 .left)
-    (skip _ _ _ _ _ _ (fst-entries a _ _ _ (c .before .before .before .before .before .before .before .before .before .before .before .before .before .before .before .bt-ok .ensures) (c .before .before .before .before .before .before .before .before .before .before .before .before .before .before .if2 .left) (c .before .before .before .before .before .blocks-ok .ensures) (c .before .before .before .before .if7 .left) (c .before .before .before .fsts-ok .ensures) wear marks) (c .before .before .if8 .left)
-    (skip _ _ _ _ _ _ (ct-entries a _ _ (c .before .before .before .before .before .before .before .before .before .before .before .before .before .before .before .bt-ok .ensures) (c .before .before .before .before .before .before .before .before .before .before .before .before .before .before .if2 .left) (c .before .cts-ok .ensures) wear marks) (c .if9 .left) (end _))))))))) in
+    skip _ _ _ _ _ _ (at-bst-ok .bst-ok .ensures) (at-if1 .if1 .left)
+    (skip _ _ _ _ _ _ (at-bt-ok .bt-ok .ensures) (at-if2 .if2 .left)
+    (skip _ _ _ _ _ _ (at-once-ok .once-ok .ensures) (at-if3 .if3 .left)
+    (skip _ _ _ _ _ _ (at-used-ok .used-ok .ensures) (at-if4 .if4 .left)
+    (skip _ _ _ _ _ _ (at-room-ok .room-ok .ensures) (at-if5 .if5 .left)
+    (skip _ _ _ _ _ _ (at-frees-ok .frees-ok .ensures) (at-if6 .if6 .left)
+    (skip _ _ _ _ _ _ (used-blocks a _ _ (at-bt-ok .bt-ok .ensures) (at-if2 .if2 .left) (at-blocks-ok .blocks-ok .ensures) wear marks) (at-if7 .if7 .left)
+    (skip _ _ _ _ _ _ (fst-entries a _ _ _ (at-bt-ok .bt-ok .ensures) (at-if2 .if2 .left) (at-blocks-ok .blocks-ok .ensures) (at-if7 .if7 .left) (at-fsts-ok .fsts-ok .ensures)
+    wear marks) (c .before .before .if8 .left)
+    (skip _ _ _ _ _ _ (ct-entries a _ _ (at-bt-ok .bt-ok .ensures) (at-if2 .if2 .left) (c .before .cts-ok .ensures) wear marks) (c .if9 .left) (end _))))))))) in
     told
 
 pub broken-rule-spec : {M : Type 1} → statement M

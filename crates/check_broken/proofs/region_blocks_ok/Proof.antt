@@ -21,11 +21,15 @@ loop-holds : tie.Need-loop-holds Inv-loop μ-loop
 loop-holds c = (omega arith, all-start _)
 
 block-ok-requires : tie.Need-block-ok-requires Inv-loop μ-loop
-block-ok-requires c κs = (c .before .before .before .before .pre .0, (c .before .before .before .before .pre .1, c .loop-test .taken))
+block-ok-requires c κs =
+    let start = c .before .before .before .before in
+    (start .pre .0, (start .pre .1, c .loop-test .taken))
 
 returns : tie.Need-returns Inv-loop μ-loop
 unfolding regionBlocksOk
-returns c = sym (all-fails _ (c .before .before .before .loop .v) _ (c .before .before .loop-test .taken) (sym (c .before .block-ok .ensures) ∙ not-true _ (c .if1 .taken)))
+returns c =
+    let at-loop = c .before .before .before in
+    sym (all-fails _ (at-loop .loop .v) _ (c .before .before .loop-test .taken) (sym (c .before .block-ok .ensures) ∙ not-true _ (c .if1 .taken)))
 
 add-v : tie.Need-add-v Inv-loop μ-loop
 add-v c = omega arith
@@ -34,7 +38,9 @@ loop-less : tie.Need-loop-less Inv-loop μ-loop
 loop-less c = omega arith
 
 loop-again : tie.Need-loop-again Inv-loop μ-loop
-loop-again c = (omega arith, all-more _ _ (c .before .before .before .loop .inv .1) (sym (c .before .block-ok .ensures) ∙ not-false _ (c .if1 .left)))
+loop-again c =
+    let at-loop = c .before .before .before in
+    (omega arith, all-more _ _ (at-loop .loop .inv .1) (sym (c .before .block-ok .ensures) ∙ not-false _ (c .if1 .left)))
 
 returns-2 : tie.Need-returns-2 Inv-loop μ-loop
 unfolding regionBlocksOk

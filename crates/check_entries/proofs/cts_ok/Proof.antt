@@ -24,14 +24,20 @@ loop-holds : tie.Need-loop-holds Inv-loop μ-loop
 loop-holds c = (omega arith, all-start _)
 
 region-of-requires : tie.Need-region-of-requires Inv-loop μ-loop
-region-of-requires c κs = (sizes _ (c .before .before .before .before .before .pre .0 .fine)) .regions
+region-of-requires c κs =
+    let start = c .before .before .before .before .before in
+    (sizes _ (start .pre .0 .fine)) .regions
 
 cluster-ok-requires : tie.Need-cluster-ok-requires Inv-loop μ-loop
-cluster-ok-requires c κs = let a = c .before .before .before .before .before .before .pre in (a .0, (rw (c .region-of .ensures) (mod-lt (c .before .before .loop .c) ((sizes _ (a .0 .fine)) .regions)), omega (arith, a .1, c .before .loop-test .taken)))
+cluster-ok-requires c κs =
+    let start = c .before .before .before .before .before .before in
+    let a = start .pre in (a .0, (rw (c .region-of .ensures) (mod-lt (c .before .before .loop .c) ((sizes _ (a .0 .fine)) .regions)), omega (arith, a .1, c .before .loop-test .taken)))
 
 returns : tie.Need-returns Inv-loop μ-loop
 returns c =
-    sym (all-fails _ (c .before .before .before .before .loop .c) _ (c .before .before .before .loop-test .taken) (rw (← (c .before .before .region-of .ensures)) (sym (c .before .cluster-ok .ensures) ∙ not-true _ (c .if1 .taken))))
+    let at-loop-test = c .before .before .before in
+    let at-loop = at-loop-test .before in
+    sym (all-fails _ (at-loop .loop .c) _ (at-loop-test .loop-test .taken) (rw (← (c .before .before .region-of .ensures)) (sym (c .before .cluster-ok .ensures) ∙ not-true _ (c .if1 .taken))))
 
 add-c : tie.Need-add-c Inv-loop μ-loop
 add-c c = omega arith
@@ -41,7 +47,8 @@ loop-less c = omega arith
 
 loop-again : tie.Need-loop-again Inv-loop μ-loop
 loop-again c =
-    (omega arith, all-more _ _ (c .before .before .before .before .loop .inv .1) (rw (← (c .before .before .region-of .ensures)) (sym (c .before .cluster-ok .ensures) ∙ not-false _ (c .if1 .left))))
+    let at-loop = c .before .before .before .before in
+    (omega arith, all-more _ _ (at-loop .loop .inv .1) (rw (← (c .before .before .region-of .ensures)) (sym (c .before .cluster-ok .ensures) ∙ not-false _ (c .if1 .left))))
 
 returns-2 : tie.Need-returns-2 Inv-loop μ-loop
 returns-2 c = sym (all-end _ _ _ (omega arith) (c .before .loop .inv .1))

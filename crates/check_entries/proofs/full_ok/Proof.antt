@@ -18,22 +18,32 @@ unfolding fullOk
 returns c = rw (eq-eqb _ _ (c .if1 .taken))
 
 bt-at-requires : tie.Need-bt-at-requires
-bt-at-requires c κs = let a = c .before .before .before .before .before in (a .pre .0 .btLength, (a .pre .1 .0, a .pre .1 .1))
+bt-at-requires c κs =
+    let start = c .before .before .before .before .before in
+    let a = start in (a .pre .0 .btLength, (a .pre .1 .0, a .pre .1 .1))
 
 returns-2 : tie.Need-returns-2
 unfolding fullOk
-returns-2 c = rw (ne-eqb _ _ (c .before .before .before .if1 .left), ← (c .before .before .bt-at .ensures .0), eq-eqb _ none (c .if2 .taken))
+returns-2 c =
+    let at-if1 = c .before .before .before in
+    rw (ne-eqb _ _ (at-if1 .if1 .left), ← (c .before .before .bt-at .ensures .0), eq-eqb _ none (c .if2 .taken))
 
 block-of-requires : tie.Need-block-of-requires
-block-of-requires c κs = let a = c .before .before .before .before .before .before .before .before in (a .pre .0 .fine, (a .pre .0 .chipLength, low a (c .before .before .bt-at .result .0) (c .before .before .bt-at .ensures .0) (c .if2 .left)))
+block-of-requires c κs =
+    let start = c .before .before .before .before .before .before .before .before in
+    let a = start in (a .pre .0 .fine, (a .pre .0 .chipLength, low a (c .before .before .bt-at .result .0) (c .before .before .bt-at .ensures .0) (c .if2 .left)))
 
 is-full-requires : tie.Need-is-full-requires
-is-full-requires c κs = (c .before .before .before .before .before .before .before .before .before .pre .0 .fine, c .block-of .ensures .1)
+is-full-requires c κs =
+    let start = c .before .before .before .before .before .before .before .before .before in
+    (start .pre .0 .fine, c .block-of .ensures .1)
 
 returns-3 : tie.Need-returns-3
 unfolding fullOk
 returns-3 c =
-    rw (ne-eqb _ _ (c .before .before .before .before .before .if1 .left), ← (c .before .before .before .before .bt-at .ensures .0), ne-eqb (c .before .before .before .before .bt-at .result .0) none (c .before .before .if2 .left), ← (c .before .block-of .ensures .0))
+    let at-bt-at = c .before .before .before .before in
+    let at-if1 = at-bt-at .before in
+    rw (ne-eqb _ _ (at-if1 .if1 .left), ← (at-bt-at .bt-at .ensures .0), ne-eqb (at-bt-at .bt-at .result .0) none (c .before .before .if2 .left), ← (c .before .block-of .ensures .0))
     (c .is-full .ensures)
 
 pub full-ok-spec : {M : Type 1} → statement M

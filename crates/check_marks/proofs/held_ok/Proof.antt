@@ -23,15 +23,23 @@ loop-holds : tie.Need-loop-holds Inv-loop μ-loop
 loop-holds c = (omega arith, λ vw s. all-start _)
 
 word-at-requires : tie.Need-word-at-requires Inv-loop μ-loop
-word-at-requires c κs = (c .before .before .before .before .before .pre .1, c .loop-test .taken)
+word-at-requires c κs =
+    let start = c .before .before .before .before .before in
+    (start .pre .1, c .loop-test .taken)
 
 word-ok-requires : tie.Need-word-ok-requires Inv-loop μ-loop
-word-ok-requires c κs = (c .before .before .before .before .before .before .pre .0, c .before .loop-test .taken)
+word-ok-requires c κs =
+    let start = c .before .before .before .before .before .before in
+    (start .pre .0, c .before .loop-test .taken)
 
 returns : tie.Need-returns Inv-loop μ-loop
 returns c =
-    λ vw s. sym (all-fails _ (c .before .before .before .before .loop .w) _ (c .before .before .before .loop-test .taken)
-    (ap (onlyIn (marked (c .before .before .before .before .before .before .before .before .args .p) vw (c .before .before .before .before .before .before .before .before .args .v .0)) (c .before .before .before .before .loop .w)) (sym (c .before .before .word-at .ensures)) ∙ sym (c .before .word-ok .ensures _ vw s) ∙ not-true _ (c .if1 .taken)))
+    let at-loop-test = c .before .before .before in
+    let at-loop = at-loop-test .before in
+    let start = at-loop .before .before .before .before in
+    λ vw s. sym (all-fails _ (at-loop .loop .w) _ (at-loop-test .loop-test .taken)
+    (ap (onlyIn (marked (start .args .p) vw (start .args .v .0)) (at-loop .loop .w)) (sym (c .before .before .word-at .ensures)) ∙ sym (c .before .word-ok .ensures _ vw s) ∙
+    not-true _ (c .if1 .taken)))
 
 add-w : tie.Need-add-w Inv-loop μ-loop
 add-w c = omega arith
@@ -40,12 +48,15 @@ loop-less : tie.Need-loop-less Inv-loop μ-loop
 loop-less c = omega arith
 
 loop-again : tie.Need-loop-again Inv-loop μ-loop
-loop-again c = (
-  omega arith,
-  λ vw s.
-      all-more _ _ (c .before .before .before .before .loop .inv .1 vw s)
-      (ap (onlyIn (marked (c .before .before .before .before .before .before .before .before .args .p) vw (c .before .before .before .before .before .before .before .before .args .v .0)) (c .before .before .before .before .loop .w)) (sym (c .before .before .word-at .ensures)) ∙ sym (c .before .word-ok .ensures _ vw s) ∙ not-false _ (c .if1 .left)),
-)
+loop-again c =
+    let at-loop = c .before .before .before .before in
+    let start = at-loop .before .before .before .before in (
+      omega arith,
+      λ vw s.
+          all-more _ _ (at-loop .loop .inv .1 vw s)
+          (ap (onlyIn (marked (start .args .p) vw (start .args .v .0)) (at-loop .loop .w)) (sym (c .before .before .word-at .ensures)) ∙ sym (c .before .word-ok .ensures _ vw s)
+          ∙ not-false _ (c .if1 .left)),
+    )
 
 returns-2 : tie.Need-returns-2 Inv-loop μ-loop
 returns-2 c = λ vw s. sym (all-end _ _ _ (omega arith) (c .before .loop .inv .1 vw s))

@@ -43,31 +43,45 @@ loop-holds : tie.Need-loop-holds Inv-loop μ-loop
 loop-holds c = (omega arith, λ j a b. absurd (omega arith))
 
 frame-of-requires : tie.Need-frame-of-requires Inv-loop μ-loop
-frame-of-requires c κs = (c .before .before .before .before .pre .fine, (c .before .before .before .before .pre .size, omega (arith, c .loop-test .taken, ends (c .before .before .before .before))))
+frame-of-requires c κs =
+    let start = c .before .before .before .before in
+    (start .pre .fine, (start .pre .size, omega (arith, c .loop-test .taken, ends start)))
 
 holds-requires : tie.Need-holds-requires Inv-loop μ-loop
-holds-requires c κs = (c .before .before .before .before .before .pre .fine, c .frame-of .ensures .1)
+holds-requires c κs =
+    let start = c .before .before .before .before .before in
+    (start .pre .fine, c .frame-of .ensures .1)
 
 returns : tie.Need-returns Inv-loop μ-loop
 returns c =
-    last-later _ _ _ _ _ (c .before .before .before .before .before .before .before .pre) (c .before .before .before .before .loop .g) (c .before .before .before .before .loop .inv .0) (c .before .before .before .loop-test .taken)
-    (ap (λ (x : List ℕ). holds (c .before .before .before .before .before .before .before .args .p) x (c .before .before .before .before .before .before .before .args .c .0)) (sym (c .before .before .frame-of .ensures .0)) ∙ sym (c .before .holds .ensures) ∙ c .if1 .taken)
+    let at-loop-test = c .before .before .before in
+    let at-loop = at-loop-test .before in
+    let start = at-loop .before .before .before in
+    last-later _ _ _ _ _ (start .pre) (at-loop .loop .g) (at-loop .loop .inv .0) (at-loop-test .loop-test .taken)
+    (ap (λ (x : List ℕ). holds (start .args .p) x (start .args .c .0)) (sym (c .before .before .frame-of .ensures .0)) ∙ sym (c .before .holds .ensures) ∙ c .if1 .taken)
 
 add-g-2 : tie.Need-add-g-2 Inv-loop μ-loop
-add-g-2 c = omega (arith, c .before .before .before .loop-test .taken, ends (c .before .before .before .before .before .before .before))
+add-g-2 c =
+    let at-loop-test = c .before .before .before in
+    let start = at-loop-test .before .before .before .before in
+    omega (arith, at-loop-test .loop-test .taken, ends start)
 
 loop-less : tie.Need-loop-less Inv-loop μ-loop
 loop-less c = omega arith
 
 loop-again : tie.Need-loop-again Inv-loop μ-loop
-loop-again c = (
-  omega (arith, c .before .before .before .before .loop .inv .0),
-  one-more (λ j. holds (c .before .before .before .before .before .before .before .args .p) (frame (c .before .before .before .before .before .before .before .args .p) (c .before .before .before .before .before .before .before .args .blk .now) j) (c .before .before .before .before .before .before .before .args .c .0)) _ (c .before .before .before .before .loop .g) (c .before .before .before .before .loop .inv .1)
-      (ap (λ (x : List ℕ). holds (c .before .before .before .before .before .before .before .args .p) x (c .before .before .before .before .before .before .before .args .c .0)) (sym (c .before .before .frame-of .ensures .0)) ∙ sym (c .before .holds .ensures) ∙ c .if1 .left),
-)
+loop-again c =
+    let at-loop = c .before .before .before .before in
+    let start = at-loop .before .before .before in (
+      omega (arith, at-loop .loop .inv .0),
+      one-more (λ j. holds (start .args .p) (frame (start .args .p) (start .args .blk .now) j) (start .args .c .0)) _ (at-loop .loop .g) (at-loop .loop .inv .1)
+          (ap (λ (x : List ℕ). holds (start .args .p) x (start .args .c .0)) (sym (c .before .before .frame-of .ensures .0)) ∙ sym (c .before .holds .ensures) ∙ c .if1 .left),
+    )
 
 returns-2 : tie.Need-returns-2 Inv-loop μ-loop
-returns-2 c = last-here _ _ _ _ _ (c .before .before .before .before .pre) (λ g a b. c .before .loop .inv .1 g a (omega (arith, c .loop-test .left)))
+returns-2 c =
+    let start = c .before .before .before .before in
+    last-here _ _ _ _ _ (start .pre) (λ g a b. c .before .loop .inv .1 g a (omega (arith, c .loop-test .left)))
 
 pub is-last-spec : {M : Type 1} → statement M
 is-last-spec = tie.close (tie.spec Inv-loop μ-loop add-end mul-end add-g loop-holds frame-of-requires holds-requires returns add-g-2 loop-less loop-again returns-2)

@@ -14,29 +14,58 @@ is-programmed-requires : tie.Need-is-programmed-requires
 is-programmed-requires c κs = search needs
 
 returns : tie.Need-returns
-returns c = λ r vw s. unprogrammed _ _ _ _ _ (c .before .before .before .before .before .pre .0) r vw s _ (c .before .before .frame-of .ensures .0) (sym (c .before .is-programmed .ensures) ∙ not-true _ (c .if1 .taken))
+returns c =
+    let start = c .before .before .before .before .before in
+    λ r vw s. unprogrammed _ _ _ _ _ (start .pre .0) r vw s _ (c .before .before .frame-of .ensures .0) (sym (c .before .is-programmed .ensures) ∙ not-true _ (c .if1 .taken))
 
 cluster-in-requires : tie.Need-cluster-in-requires
 cluster-in-requires c κs = search needs
 
 ct-at-requires : tie.Need-ct-at-requires
-ct-at-requires c κs = cluster-low _ _ _ _ _ (c .before .before .before .before .before .before .pre .0) _ (c .before .before .before .frame-of .ensures .0) (sym (c .before .before .is-programmed .ensures) ∙ not-false _ (c .before .if1 .left)) _ (c .cluster-in .ensures .0)
+ct-at-requires c κs =
+    let at-frame-of = c .before .before .before in
+    let start = at-frame-of .before .before .before in
+    cluster-low _ _ _ _ _ (start .pre .0) _ (at-frame-of .frame-of .ensures .0) (sym (c .before .before .is-programmed .ensures) ∙ not-false _ (c .before .if1 .left)) _ (c .cluster-in .ensures .0)
 
 segment-in-requires : tie.Need-segment-in-requires
-segment-in-requires c κs = let a = c .before .before .before .before .before .before .before .pre in (a .0 .block .fine, (a .0 .block .low, place-is-low _ _ _ _ _ (a .0) _ (a .1)))
+segment-in-requires c κs =
+    let start = c .before .before .before .before .before .before .before in
+    let a = start .pre in (a .0 .block .fine, (a .0 .block .low, place-is-low _ _ _ _ _ (a .0) _ (a .1)))
 
 returns-2 : tie.Need-returns-2
 returns-2 c =
-    λ r vw s. stale _ _ _ _ _ (c .before .before .before .before .before .before .before .before .before .before .before .pre .0) r vw s _ (c .before .before .before .before .before .before .before .before .frame-of .ensures .0) (sym (c .before .before .before .before .before .before .before .is-programmed .ensures) ∙ not-false _ (c .before .before .before .before .before .before .if1 .left)) _ (c .before .before .before .before .before .cluster-in .ensures .0) _ _ _ (c .before .before .before .before .before .before .before .before .before .before .before .pre .1) (c .before .before .before .before .ct-at .ensures .0) (c .before .before .before .segment-in .ensures) (c .if2 .taken)
+    let at-segment-in = c .before .before .before in
+    let at-ct-at = at-segment-in .before in
+    let at-cluster-in = at-ct-at .before in
+    let at-if1 = at-cluster-in .before in
+    let at-is-programmed = at-if1 .before in
+    let at-frame-of = at-is-programmed .before in
+    let start = at-frame-of .before .before .before in
+    λ r vw s. stale _ _ _ _ _ (start .pre .0) r vw s _ (at-frame-of .frame-of .ensures .0) (sym (at-is-programmed .is-programmed .ensures) ∙ not-false _ (at-if1 .if1 .left)) _
+    (at-cluster-in .cluster-in .ensures .0) _ _ _ (start .pre .1) (at-ct-at .ct-at .ensures .0) (at-segment-in .segment-in .ensures) (c .if2 .taken)
 
 is-last-requires : tie.Need-is-last-requires
 is-last-requires c κs =
-    holds-at _ _ _ _ _ (c .before .before .before .before .before .before .before .before .before .before .before .pre .0) _ (c .before .before .before .before .before .before .before .before .frame-of .ensures .0) (sym (c .before .before .before .before .before .before .before .is-programmed .ensures) ∙ not-false _ (c .before .before .before .before .before .before .if1 .left)) _ (c .before .before .before .before .before .cluster-in .ensures .0) _ (c .before .before .before .before .before .before .before .before .before .before .before .pre .1)
+    let at-cluster-in = c .before .before .before .before .before in
+    let at-if1 = at-cluster-in .before in
+    let at-is-programmed = at-if1 .before in
+    let at-frame-of = at-is-programmed .before in
+    let start = at-frame-of .before .before .before in
+    holds-at _ _ _ _ _ (start .pre .0) _ (at-frame-of .frame-of .ensures .0) (sym (at-is-programmed .is-programmed .ensures) ∙ not-false _ (at-if1 .if1 .left)) _
+    (at-cluster-in .cluster-in .ensures .0) _ (start .pre .1)
 
 returns-3 : tie.Need-returns-3
 returns-3 c =
-    λ r vw s. last _ _ _ _ _ (c .before .before .before .before .before .before .before .before .before .before .before .before .pre .0) r vw s _ (c .before .before .before .before .before .before .before .before .before .frame-of .ensures .0) (sym (c .before .before .before .before .before .before .before .before .is-programmed .ensures) ∙ not-false _ (c .before .before .before .before .before .before .before .if1 .left)) _ (c .before .before .before .before .before .before .cluster-in .ensures .0) _ _ _ _ (c .before .before .before .before .before .before .before .before .before .before .before .before .pre .1)
-    (c .before .before .before .before .before .ct-at .ensures .0) (c .before .before .before .before .segment-in .ensures) (c .before .if2 .left) (c .is-last .ensures)
+    let at-segment-in = c .before .before .before .before in
+    let at-ct-at = at-segment-in .before in
+    let at-cluster-in = at-ct-at .before in
+    let at-if1 = at-cluster-in .before in
+    let at-is-programmed = at-if1 .before in
+    let at-frame-of = at-is-programmed .before in
+    let start = at-frame-of .before .before .before in
+    λ r vw s. last _ _ _ _ _ (start .pre .0) r vw s _ (at-frame-of .frame-of .ensures .0) (sym (at-is-programmed .is-programmed .ensures) ∙ not-false _ (at-if1 .if1 .left)) _
+    (at-cluster-in .cluster-in .ensures .0) _ _ _ _ (start .pre .1)
+    (at-ct-at .ct-at .ensures .0) (at-segment-in .segment-in .ensures) (c .before .if2 .left) (c .is-last .ensures)
 
 pub is-valid-spec : {M : Type 1} → statement M
 is-valid-spec =

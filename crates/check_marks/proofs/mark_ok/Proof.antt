@@ -19,14 +19,23 @@ frames-requires c κs = search needs
 
 returns-2 : tie.Need-returns-2
 returns-2 c =
-    λ r vw s. rw (odd (c .before .before .before .before .before .args .word) (c .before .before .if1 .left), unmarked (c .before .before .before .before .before .args .p) vw (c .before .before .before .before .before .args .v .0) (c .before .before .before .before .before .args .f) (omega (arith, c .if2 .taken, c .before .frames .ensures)))
+    let start = c .before .before .before .before .before in
+    λ r vw s. rw (odd (start .args .word) (c .before .before .if1 .left), unmarked (start .args .p) vw (start .args .v .0) (start .args .f) (omega (arith, c .if2 .taken, c .before .frames .ensures)))
 
 is-valid-requires : tie.Need-is-valid-requires
-is-valid-requires c κs = (record { block = c .before .before .before .before .before .pre .0; low = omega (arith, c .if2 .left, c .before .frames .ensures) }, c .before .before .before .before .before .pre .1)
+is-valid-requires c κs =
+    let start = c .before .before .before .before .before in
+    (record { block = start .pre .0; low = omega (arith, c .if2 .left, c .before .frames .ensures) }, start .pre .1)
 
 returns-3 : tie.Need-returns-3
 returns-3 c =
-    λ r vw s. rw (odd (c .before .before .before .before .before .before .args .word) (c .before .before .before .if1 .left), marked-valid (c .before .before .before .before .before .before .args .p) vw (c .before .before .before .before .before .before .args .v .0) (c .before .before .before .before .before .before .args .f) (omega (arith, c .before .if2 .left, c .before .before .frames .ensures))) (c .is-valid .ensures r vw s)
+    let at-if1 = c .before .before .before in
+    let start = at-if1 .before .before .before in
+    λ r vw s. rw (
+      odd (start .args .word) (at-if1 .if1 .left),
+      marked-valid (start .args .p) vw (start .args .v .0) (start .args .f)
+          (omega (arith, c .before .if2 .left, c .before .before .frames .ensures)),
+    ) (c .is-valid .ensures r vw s)
 
 pub mark-ok-spec : {M : Type 1} → statement M
 mark-ok-spec = tie.close (tie.spec returns frames-requires returns-2 is-valid-requires returns-3)

@@ -22,12 +22,22 @@ loop-holds : tie.Need-loop-holds Inv-loop μ-loop
 loop-holds c = (omega arith, all-start _)
 
 word-at-requires : tie.Need-word-at-requires Inv-loop μ-loop
-word-at-requires c κs = (c .before .before .before .pre, c .loop-test .taken)
+word-at-requires c κs =
+    let start = c .before .before .before in
+    (start .pre, c .loop-test .taken)
 
 returns : tie.Need-returns Inv-loop μ-loop
 unfolding wordAt
 returns c =
-    sym (all-fails _ (c .before .before .before .loop .w) _ (c .before .before .loop-test .taken) (none-only (c .before .before .before .loop .w) _ (omega (arith, c .before .before .before .before .shared-slice-known .given (markIndex (c .before .before .before .before .before .args .p) (c .before .before .before .before .before .args .r) (c .before .before .before .before .before .args .v .0) (c .before .before .before .loop .w)))) (λ e. c .if1 .taken (c .before .word-at .ensures ∙ e))))
+    let at-loop = c .before .before .before in
+    let at-shared-slice-known = at-loop .before in
+    let start = at-shared-slice-known .before in
+    sym (all-fails _ (at-loop .loop .w) _ (c .before .before .loop-test .taken)
+    (none-only (at-loop .loop .w) _ (omega (
+      arith,
+      at-shared-slice-known .shared-slice-known .given
+          (markIndex (start .args .p) (start .args .r) (start .args .v .0) (at-loop .loop .w)),
+    )) (λ e. c .if1 .taken (c .before .word-at .ensures ∙ e))))
 
 add-w : tie.Need-add-w Inv-loop μ-loop
 add-w c = omega arith
@@ -36,7 +46,9 @@ loop-less : tie.Need-loop-less Inv-loop μ-loop
 loop-less c = omega arith
 
 loop-again : tie.Need-loop-again Inv-loop μ-loop
-loop-again c = (omega arith, all-more _ _ (c .before .before .before .loop .inv .1) (zero-only (λ f. false) (c .before .before .before .loop .w) _ (sym (c .before .word-at .ensures) ∙ c .if1 .left)))
+loop-again c =
+    let at-loop = c .before .before .before in
+    (omega arith, all-more _ _ (at-loop .loop .inv .1) (zero-only (λ f. false) (at-loop .loop .w) _ (sym (c .before .word-at .ensures) ∙ c .if1 .left)))
 
 returns-2 : tie.Need-returns-2 Inv-loop μ-loop
 returns-2 c = sym (all-end _ _ _ (omega arith) (c .before .loop .inv .1))

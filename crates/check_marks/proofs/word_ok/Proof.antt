@@ -25,55 +25,84 @@ abbrev μ-loop : tie.MeasureT-loop
 μ-loop p blk ct v w word k₀ i₀ rest₀ k i rest = 64 - i
 
 returns : tie.Need-returns Inv-loop μ-loop
-returns c = λ r vw s. sym (zero-only _ (c .before .before .before .args .w) _ (c .if1 .taken))
+returns c =
+    let start = c .before .before .before in
+    λ r vw s. sym (zero-only _ (start .args .w) _ (c .if1 .taken))
 
 first-place-requires : tie.Need-first-place-requires Inv-loop μ-loop
-first-place-requires c κs = (c .before .before .before .pre .0 .fine, c .before .before .before .pre .1)
+first-place-requires c κs =
+    let start = c .before .before .before in
+    (start .pre .0 .fine, start .pre .1)
 
 loop-holds : tie.Need-loop-holds Inv-loop μ-loop
 loop-holds c =
-    (omega arith, c .first-place .ensures ∙ ap (λ (x : ℕ). x / c .before .before .before .before .args .p .beta) (sym (add-zero (64 * c .before .before .before .before .args .w))), sym (div-one (c .before .before .before .before .args .word)), λ r vw s. all-start _)
+    let start = c .before .before .before .before in
+    (omega arith, c .first-place .ensures ∙ ap (λ (x : ℕ). x / start .args .p .beta) (sym (add-zero (64 * start .args .w))), sym (div-one (start .args .word)), λ r vw s. all-start _)
 
 -- a bit is left
 left : (c : tie.In-loop Inv-loop μ-loop) → c .before .loop .i < 64
-left c = turns _ _ _ (c .before .before .before .before .before .before .fits .word .fits) (c .before .loop .inv .0) (c .before .loop .inv .2) (omega (arith, c .loop-test .taken))
+left c =
+    let at-fits = c .before .before .before .before .before .before in
+    turns _ _ _ (at-fits .fits .word .fits) (c .before .loop .inv .0) (c .before .loop .inv .2) (omega (arith, c .loop-test .taken))
 
 mul-f : tie.Need-mul-f Inv-loop μ-loop
-mul-f c = omega (arith, c .before .before .before .before .before .before .pre .1)
+mul-f c =
+    let start = c .before .before .before .before .before .before in
+    omega (arith, start .pre .1)
 
 add-f : tie.Need-add-f Inv-loop μ-loop
-add-f c = omega (arith, c .before .before .before .before .before .before .pre .1, left c)
+add-f c =
+    let start = c .before .before .before .before .before .before in
+    omega (arith, start .pre .1, left c)
 
 mark-ok-requires : tie.Need-mark-ok-requires Inv-loop μ-loop
-mark-ok-requires c κs = (c .before .before .before .before .before .before .pre .0, c .before .loop .inv .1)
+mark-ok-requires c κs =
+    let start = c .before .before .before .before .before .before in
+    (start .pre .0, c .before .loop .inv .1)
 
 returns-2 : tie.Need-returns-2 Inv-loop μ-loop
 returns-2 c =
-    λ r vw s. sym (only-fails (marked (c .before .before .before .before .before .before .before .before .args .p) vw (c .before .before .before .before .before .before .before .before .args .v .0)) (c .before .before .before .before .before .before .before .before .args .w) (c .before .before .before .before .before .before .before .before .args .word) (c .before .before .before .loop .i) (left (c .before .before))
-    (ap (λ (x : ℕ). not (eqb (x % 2) 1) || marked (c .before .before .before .before .before .before .before .before .args .p) vw (c .before .before .before .before .before .before .before .before .args .v .0) (64 * c .before .before .before .before .before .before .before .before .args .w + c .before .before .before .loop .i)) (sym (c .before .before .before .loop .inv .2)) ∙ sym (c .before .mark-ok .ensures r vw s) ∙ not-true _ (c .if2 .taken)))
+    let at-loop = c .before .before .before in
+    let start = at-loop .before .before .before .before .before in
+    λ r vw s. sym (only-fails (marked (start .args .p) vw (start .args .v .0)) (start .args .w) (start .args .word) (at-loop .loop .i) (left (c .before .before))
+    (ap (λ (x : ℕ). not (eqb (x % 2) 1) || marked (start .args .p) vw (start .args .v .0) (64 * start .args .w + at-loop .loop .i)) (sym (at-loop .loop .inv .2)) ∙ sym
+    (c .before .mark-ok .ensures r vw s) ∙ not-true _ (c .if2 .taken)))
 
 next-place-requires : tie.Need-next-place-requires Inv-loop μ-loop
-next-place-requires c κs = (c .before .before .before .before .before .before .before .before .pre .0 .fine, (omega (arith, c .before .before .before .before .before .before .before .before .pre .1, left (c .before .before)), c .before .before .before .loop .inv .1))
+next-place-requires c κs =
+    let at-loop = c .before .before .before in
+    let start = at-loop .before .before .before .before .before in
+    (start .pre .0 .fine, (omega (arith, start .pre .1, left (c .before .before)), at-loop .loop .inv .1))
 
 add-i : tie.Need-add-i Inv-loop μ-loop
-add-i c = omega (arith, left (c .before .before .before))
+add-i c =
+    let start = c .before .before .before in
+    omega (arith, left start)
 
 loop-less : tie.Need-loop-less Inv-loop μ-loop
-loop-less c = omega (arith, left (c .before .before .before))
+loop-less c =
+    let start = c .before .before .before in
+    omega (arith, left start)
 
 loop-again : tie.Need-loop-again Inv-loop μ-loop
-loop-again c = (
-  omega (arith, left (c .before .before .before)),
-  c .next-place .ensures ∙ ap (λ (x : ℕ). x / c .before .before .before .before .before .before .before .before .before .args .p .beta) (add-assoc (64 * c .before .before .before .before .before .before .before .before .before .args .w) (c .before .before .before .before .loop .i) 1),
-  half _ _ _ (c .before .before .before .before .loop .inv .2),
-  λ r vw s.
-      all-more _ _ (c .before .before .before .before .loop .inv .3 r vw s)
-      (ap (λ (x : ℕ). not (eqb (x % 2) 1) || marked (c .before .before .before .before .before .before .before .before .before .args .p) vw (c .before .before .before .before .before .before .before .before .before .args .v .0) (64 * c .before .before .before .before .before .before .before .before .before .args .w + c .before .before .before .before .loop .i)) (sym (c .before .before .before .before .loop .inv .2)) ∙ sym (c .before .before .mark-ok .ensures r vw s) ∙ not-false _ (c .before .if2 .left)),
-)
+loop-again c =
+    let start = c .before .before .before in
+    let at-loop = start .before in
+    let start-then = at-loop .before .before .before .before .before in (
+      omega (arith, left start),
+      c .next-place .ensures ∙ ap (λ (x : ℕ). x / start-then .args .p .beta) (add-assoc (64 * start-then .args .w) (at-loop .loop .i) 1),
+      half _ _ _ (at-loop .loop .inv .2),
+      λ r vw s.
+          all-more _ _ (at-loop .loop .inv .3 r vw s)
+          (ap (λ (x : ℕ). not (eqb (x % 2) 1) || marked (start-then .args .p) vw (start-then .args .v .0) (64 * start-then .args .w + at-loop .loop .i))
+          (sym (at-loop .loop .inv .2)) ∙ sym (c .before .before .mark-ok .ensures r vw s) ∙ not-false _ (c .before .if2 .left)),
+    )
 
 returns-3 : tie.Need-returns-3 Inv-loop μ-loop
 returns-3 c =
-    λ r vw s. sym (only-done (marked (c .before .before .before .before .before .before .args .p) vw (c .before .before .before .before .before .before .args .v .0)) (c .before .before .before .before .before .before .args .w) (c .before .before .before .before .before .before .args .word) (c .before .loop .i) (sym (c .before .loop .inv .2) ∙ omega (arith, c .loop-test .left)) (c .before .loop .inv .3 r vw s))
+    let start = c .before .before .before .before .before .before in
+    λ r vw s. sym (only-done (marked (start .args .p) vw (start .args .v .0)) (start .args .w) (start .args .word) (c .before .loop .i)
+    (sym (c .before .loop .inv .2) ∙ omega (arith, c .loop-test .left)) (c .before .loop .inv .3 r vw s))
 
 pub word-ok-spec : {M : Type 1} → statement M
 word-ok-spec =

@@ -22,10 +22,15 @@ loop-holds : tie.Need-loop-holds Inv-loop μ-loop
 loop-holds c = (omega arith, all-start _)
 
 pair-ok-requires : tie.Need-pair-ok-requires Inv-loop μ-loop
-pair-ok-requires c κs = (omega (arith, c .before .before .before .pre .0, c .before .before .before .pre .1), omega arith)
+pair-ok-requires c κs =
+    let start = c .before .before .before in
+    (omega (arith, start .pre .0, start .pre .1), omega arith)
 
 returns : tie.Need-returns Inv-loop μ-loop
-returns c = sym (all-fails _ (c .before .before .before .loop .j) _ (omega (arith, c .before .before .before .before .before .pre .0)) (sym (c .before .pair-ok .ensures) ∙ not-true _ (c .if1 .taken)))
+returns c =
+    let at-loop = c .before .before .before in
+    let start = at-loop .before .before in
+    sym (all-fails _ (at-loop .loop .j) _ (omega (arith, start .pre .0)) (sym (c .before .pair-ok .ensures) ∙ not-true _ (c .if1 .taken)))
 
 add-j : tie.Need-add-j Inv-loop μ-loop
 add-j c = omega arith
@@ -34,10 +39,14 @@ loop-less : tie.Need-loop-less Inv-loop μ-loop
 loop-less c = omega arith
 
 loop-again : tie.Need-loop-again Inv-loop μ-loop
-loop-again c = (omega arith, all-more _ _ (c .before .before .before .loop .inv .1) (sym (c .before .pair-ok .ensures) ∙ not-false _ (c .if1 .left)))
+loop-again c =
+    let at-loop = c .before .before .before in
+    (omega arith, all-more _ _ (at-loop .loop .inv .1) (sym (c .before .pair-ok .ensures) ∙ not-false _ (c .if1 .left)))
 
 returns-2 : tie.Need-returns-2 Inv-loop μ-loop
-returns-2 c = sym (all-end _ _ _ (omega (arith, c .before .before .before .pre .0)) (c .before .loop .inv .1))
+returns-2 c =
+    let start = c .before .before .before in
+    sym (all-end _ _ _ (omega (arith, start .pre .0)) (c .before .loop .inv .1))
 
 pub entry-once-spec : {M : Type 1} → statement M
 entry-once-spec =

@@ -27,7 +27,11 @@ bt-entry-requires c κs = omega arith
 
 returns : tie.Need-returns Inv-loop μ-loop
 unfolding named
-returns c = ap not (sym (all-fails _ (c .before .before .before .before .before .loop .at) _ (omega (arith, c .before .before .before .before .before .before .before .pre)) (ap not (eq-eqb _ _ (sym (c .before .before .before .bt-entry .ensures .0) ∙ c .if1 .taken)))))
+returns c =
+    let at-bt-entry = c .before .before .before in
+    let at-loop = at-bt-entry .before .before in
+    let start = at-loop .before .before in
+    ap not (sym (all-fails _ (at-loop .loop .at) _ (omega (arith, start .pre)) (ap not (eq-eqb _ _ (sym (at-bt-entry .bt-entry .ensures .0) ∙ c .if1 .taken)))))
 
 add-at : tie.Need-add-at Inv-loop μ-loop
 add-at c = omega arith
@@ -36,11 +40,16 @@ loop-less : tie.Need-loop-less Inv-loop μ-loop
 loop-less c = omega arith
 
 loop-again : tie.Need-loop-again Inv-loop μ-loop
-loop-again c = (omega arith, all-more _ _ (c .before .before .before .before .before .loop .inv .1) (ap not (ne-eqb _ _ (λ e. c .if1 .left (c .before .before .before .bt-entry .ensures .0 ∙ e)))))
+loop-again c =
+    let at-bt-entry = c .before .before .before in
+    let at-loop = at-bt-entry .before .before in
+    (omega arith, all-more _ _ (at-loop .loop .inv .1) (ap not (ne-eqb _ _ (λ e. c .if1 .left (at-bt-entry .bt-entry .ensures .0 ∙ e)))))
 
 returns-2 : tie.Need-returns-2 Inv-loop μ-loop
 unfolding named
-returns-2 c = ap not (sym (all-end _ _ _ (omega (arith, c .before .before .before .pre)) (c .before .loop .inv .1)))
+returns-2 c =
+    let start = c .before .before .before in
+    ap not (sym (all-end _ _ _ (omega (arith, start .pre)) (c .before .loop .inv .1)))
 
 pub is-named-spec : {M : Type 1} → statement M
 is-named-spec =

@@ -23,11 +23,16 @@ loop-holds : tie.Need-loop-holds Inv-loop μ-loop
 loop-holds c = (omega arith, all-start _)
 
 entry-once-requires : tie.Need-entry-once-requires Inv-loop μ-loop
-entry-once-requires c κs = (c .before .before .before .pre, omega (arith, c .before .before .before .pre))
+entry-once-requires c κs =
+    let start = c .before .before .before in
+    (start .pre, omega (arith, start .pre))
 
 returns : tie.Need-returns Inv-loop μ-loop
 unfolding onceRule
-returns c = sym (all-fails _ (c .before .before .before .loop .i) _ (omega (arith, c .before .before .before .before .before .pre)) (sym (c .before .entry-once .ensures) ∙ not-true _ (c .if1 .taken)))
+returns c =
+    let at-loop = c .before .before .before in
+    let start = at-loop .before .before in
+    sym (all-fails _ (at-loop .loop .i) _ (omega (arith, start .pre)) (sym (c .before .entry-once .ensures) ∙ not-true _ (c .if1 .taken)))
 
 add-i : tie.Need-add-i Inv-loop μ-loop
 add-i c = omega arith
@@ -36,11 +41,15 @@ loop-less : tie.Need-loop-less Inv-loop μ-loop
 loop-less c = omega arith
 
 loop-again : tie.Need-loop-again Inv-loop μ-loop
-loop-again c = (omega arith, all-more _ _ (c .before .before .before .loop .inv .1) (sym (c .before .entry-once .ensures) ∙ not-false _ (c .if1 .left)))
+loop-again c =
+    let at-loop = c .before .before .before in
+    (omega arith, all-more _ _ (at-loop .loop .inv .1) (sym (c .before .entry-once .ensures) ∙ not-false _ (c .if1 .left)))
 
 returns-2 : tie.Need-returns-2 Inv-loop μ-loop
 unfolding onceRule
-returns-2 c = sym (all-end _ _ _ (omega (arith, c .before .before .before .pre)) (c .before .loop .inv .1))
+returns-2 c =
+    let start = c .before .before .before in
+    sym (all-end _ _ _ (omega (arith, start .pre)) (c .before .loop .inv .1))
 
 pub once-ok-spec : {M : Type 1} → statement M
 once-ok-spec =

@@ -23,13 +23,20 @@ bt-entry-requires : tie.Need-bt-entry-requires
 bt-entry-requires c κs = search needs
 
 returns-2 : tie.Need-returns-2
-returns-2 c = rw (ne-eqb _ _ (c .before .before .before .if1 .left), ← (c .before .before .bt-entry .ensures .0), eq-eqb _ none (c .if2 .taken))
+returns-2 c =
+    let at-if1 = c .before .before .before in
+    rw (ne-eqb _ _ (at-if1 .if1 .left), ← (c .before .before .bt-entry .ensures .0), eq-eqb _ none (c .if2 .taken))
 
 bt-entry-requires-2 : tie.Need-bt-entry-requires-2
 bt-entry-requires-2 c κs = search needs
 
 returns-3 : tie.Need-returns-3
-returns-3 c = let a = c .before .before .before .before .before .before .before .before in differ (a .args .bt .now) (a .args .i) (a .args .j) _ _ (c .before .before .before .before .before .before .if1 .left) (c .before .before .before .before .before .bt-entry .ensures .0) (c .before .before .before .if2 .left) (c .before .before .bt-entry2 .ensures .0)
+returns-3 c =
+    let at-if2 = c .before .before .before in
+    let at-bt-entry = at-if2 .before .before in
+    let at-if1 = at-bt-entry .before in
+    let start = at-if1 .before .before in
+    let a = start in differ (a .args .bt .now) (a .args .i) (a .args .j) _ _ (at-if1 .if1 .left) (at-bt-entry .bt-entry .ensures .0) (at-if2 .if2 .left) (c .before .before .bt-entry2 .ensures .0)
 
 pub pair-ok-spec : {M : Type 1} → statement M
 pair-ok-spec =

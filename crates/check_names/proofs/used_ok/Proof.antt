@@ -23,11 +23,15 @@ loop-holds : tie.Need-loop-holds Inv-loop μ-loop
 loop-holds c = (omega arith, all-start _)
 
 used-if-named-requires : tie.Need-used-if-named-requires Inv-loop μ-loop
-used-if-named-requires c κs = (c .before .before .before .before .pre .0, omega (arith, c .before .before .before .before .pre .1))
+used-if-named-requires c κs =
+    let start = c .before .before .before .before in
+    (start .pre .0, omega (arith, start .pre .1))
 
 returns : tie.Need-returns Inv-loop μ-loop
 unfolding usedRule
-returns c = sym (all-fails _ (c .before .before .before .loop .n) _ (c .before .before .loop-test .taken) (sym (c .before .used-if-named .ensures) ∙ not-true _ (c .if1 .taken)))
+returns c =
+    let at-loop = c .before .before .before in
+    sym (all-fails _ (at-loop .loop .n) _ (c .before .before .loop-test .taken) (sym (c .before .used-if-named .ensures) ∙ not-true _ (c .if1 .taken)))
 
 add-n : tie.Need-add-n Inv-loop μ-loop
 add-n c = omega arith
@@ -36,7 +40,9 @@ loop-less : tie.Need-loop-less Inv-loop μ-loop
 loop-less c = omega arith
 
 loop-again : tie.Need-loop-again Inv-loop μ-loop
-loop-again c = (omega arith, all-more _ _ (c .before .before .before .loop .inv .1) (sym (c .before .used-if-named .ensures) ∙ not-false _ (c .if1 .left)))
+loop-again c =
+    let at-loop = c .before .before .before in
+    (omega arith, all-more _ _ (at-loop .loop .inv .1) (sym (c .before .used-if-named .ensures) ∙ not-false _ (c .if1 .left)))
 
 returns-2 : tie.Need-returns-2 Inv-loop μ-loop
 unfolding usedRule

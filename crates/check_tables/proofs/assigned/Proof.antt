@@ -37,16 +37,19 @@ loop-less c = omega arith
 
 loop-again : tie.Need-loop-again Inv-loop μ-loop
 loop-again c =
-    let l = c .before .before .before .before .loop in
+    let at-loop = c .before .before .before .before in
+    let l = at-loop .loop in
     let d = c .before .before .bt-entry .ensures .0 in (
       omega arith,
       ⊎-elim (λ w. omega arith) (λ w. omega arith) (c .if1 .came),
-      ⊎-elim (λ w. rw (w .1) (count-yes _ _ _ (l .inv .2) (ap not (ne-eqb _ _ (λ e. w .0 .taken (d ∙ e)))))) (λ w. rw (w .1) (count-no _ _ _ (l .inv .2) (ap not (eq-eqb _ _ (sym d ∙ w .0 .left))))) (c .if1 .came),
+      ⊎-elim (λ w. rw (w .1) (count-yes _ _ _ (l .inv .2) (ap not (ne-eqb _ _ (λ e. w .0 .taken (d ∙ e))))))
+          (λ w. rw (w .1) (count-no _ _ _ (l .inv .2) (ap not (eq-eqb _ _ (sym d ∙ w .0 .left))))) (c .if1 .came),
     )
 
 returns : tie.Need-returns Inv-loop μ-loop
 returns c =
-    let e : c .before .loop .i ≡ length (c .before .before .before .args .bt .now) = omega arith in
+    let start = c .before .before .before in
+    let e : c .before .loop .i ≡ length (start .args .bt .now) = omega arith in
     rw (← e) (c .before .loop .inv .2)
 
 pub assigned-spec : {M : Type 1} → statement M

@@ -28,7 +28,10 @@ bst-at-requires c κs = omega arith
 
 returns : tie.Need-returns Inv-loop μ-loop
 unfolding bstRule
-returns c = sym (all-fails _ (c .before .before .before .loop .n) _ (omega (arith, c .before .before .loop-test .taken, c .before .before .before .before .before .pre)) (rw (c .before .bst-at .ensures) at (lt-leb _ _ (c .if1 .taken))))
+returns c =
+    let at-loop = c .before .before .before in
+    let start = at-loop .before .before in
+    sym (all-fails _ (at-loop .loop .n) _ (omega (arith, c .before .before .loop-test .taken, start .pre)) (rw (c .before .bst-at .ensures) at (lt-leb _ _ (c .if1 .taken))))
 
 add-n : tie.Need-add-n Inv-loop μ-loop
 add-n c = omega arith
@@ -37,11 +40,15 @@ loop-less : tie.Need-loop-less Inv-loop μ-loop
 loop-less c = omega arith
 
 loop-again : tie.Need-loop-again Inv-loop μ-loop
-loop-again c = (omega arith, all-more _ _ (c .before .before .before .loop .inv .1) (rw (c .before .bst-at .ensures) at (le-leb _ _ (c .if1 .left))))
+loop-again c =
+    let at-loop = c .before .before .before in
+    (omega arith, all-more _ _ (at-loop .loop .inv .1) (rw (c .before .bst-at .ensures) at (le-leb _ _ (c .if1 .left))))
 
 returns-2 : tie.Need-returns-2 Inv-loop μ-loop
 unfolding bstRule
-returns-2 c = sym (all-end _ _ _ (omega (arith, c .before .before .before .pre)) (c .before .loop .inv .1))
+returns-2 c =
+    let start = c .before .before .before in
+    sym (all-end _ _ _ (omega (arith, start .pre)) (c .before .loop .inv .1))
 
 pub bst-ok-spec : {M : Type 1} → statement M
 bst-ok-spec =

@@ -27,7 +27,10 @@ bt-entry-ok-requires c κs = omega arith
 
 returns : tie.Need-returns Inv-loop μ-loop
 unfolding btRule
-returns c = sym (all-fails _ (c .before .before .before .loop .i) _ (omega (arith, c .before .before .before .before .before .pre)) (sym (c .before .bt-entry-ok .ensures) ∙ not-true _ (c .if1 .taken)))
+returns c =
+    let at-loop = c .before .before .before in
+    let start = at-loop .before .before in
+    sym (all-fails _ (at-loop .loop .i) _ (omega (arith, start .pre)) (sym (c .before .bt-entry-ok .ensures) ∙ not-true _ (c .if1 .taken)))
 
 add-i : tie.Need-add-i Inv-loop μ-loop
 add-i c = omega arith
@@ -36,11 +39,15 @@ loop-less : tie.Need-loop-less Inv-loop μ-loop
 loop-less c = omega arith
 
 loop-again : tie.Need-loop-again Inv-loop μ-loop
-loop-again c = (omega arith, all-more _ _ (c .before .before .before .loop .inv .1) (sym (c .before .bt-entry-ok .ensures) ∙ not-false _ (c .if1 .left)))
+loop-again c =
+    let at-loop = c .before .before .before in
+    (omega arith, all-more _ _ (at-loop .loop .inv .1) (sym (c .before .bt-entry-ok .ensures) ∙ not-false _ (c .if1 .left)))
 
 returns-2 : tie.Need-returns-2 Inv-loop μ-loop
 unfolding btRule
-returns-2 c = sym (all-end _ _ _ (omega (arith, c .before .before .before .pre)) (c .before .loop .inv .1))
+returns-2 c =
+    let start = c .before .before .before in
+    sym (all-end _ _ _ (omega (arith, start .pre)) (c .before .loop .inv .1))
 
 pub bt-ok-spec : {M : Type 1} → statement M
 bt-ok-spec =

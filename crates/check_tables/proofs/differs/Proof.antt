@@ -26,11 +26,18 @@ loop-holds : tie.Need-loop-holds Inv-loop μ-loop
 loop-holds c = (omega arith, all-start _)
 
 bt-at-requires-2 : tie.Need-bt-at-requires-2 Inv-loop μ-loop
-bt-at-requires-2 c κs = (c .before .before .before .before .pre .0, (c .before .before .before .before .pre .1 .0, omega (arith, c .loop-test .taken, c .before .before .before .before .pre .1 .1)))
+bt-at-requires-2 c κs =
+    let start = c .before .before .before .before in
+    (start .pre .0, (start .pre .1 .0, omega (arith, c .loop-test .taken, start .pre .1 .1)))
 
 returns : tie.Need-returns Inv-loop μ-loop
 unfolding differs
-returns c = rw (← (c .before .before .before .before .before .before .bt-at .ensures .0)) (sym (all-fails _ (c .before .before .before .before .before .loop .u) _ (c .before .before .before .before .loop-test .taken) (ap not (eq-eqb _ _ (sym (c .before .before .before .bt-at2 .ensures .0) ∙ c .if1 .taken)))))
+returns c =
+    let at-bt-at2 = c .before .before .before in
+    let at-loop-test = at-bt-at2 .before in
+    let at-loop = at-loop-test .before in
+    let at-bt-at = at-loop .before in
+    rw (← (at-bt-at .bt-at .ensures .0)) (sym (all-fails _ (at-loop .loop .u) _ (at-loop-test .loop-test .taken) (ap not (eq-eqb _ _ (sym (at-bt-at2 .bt-at2 .ensures .0) ∙ c .if1 .taken)))))
 
 add-u : tie.Need-add-u Inv-loop μ-loop
 add-u c = omega arith
@@ -39,7 +46,10 @@ loop-less : tie.Need-loop-less Inv-loop μ-loop
 loop-less c = omega arith
 
 loop-again : tie.Need-loop-again Inv-loop μ-loop
-loop-again c = (omega arith, all-more _ _ (c .before .before .before .before .before .loop .inv .1) (ap not (ne-eqb _ _ (λ e. c .if1 .left (c .before .before .before .bt-at2 .ensures .0 ∙ e)))))
+loop-again c =
+    let at-bt-at2 = c .before .before .before in
+    let at-loop = at-bt-at2 .before .before in
+    (omega arith, all-more _ _ (at-loop .loop .inv .1) (ap not (ne-eqb _ _ (λ e. c .if1 .left (at-bt-at2 .bt-at2 .ensures .0 ∙ e)))))
 
 returns-2 : tie.Need-returns-2 Inv-loop μ-loop
 unfolding differs

@@ -23,11 +23,16 @@ loop-holds : tie.Need-loop-holds Inv-loop μ-loop
 loop-holds c = (omega arith, all-start _)
 
 bt-at-requires : tie.Need-bt-at-requires Inv-loop μ-loop
-bt-at-requires c κs = (c .before .before .before .pre .0, (c .before .before .before .pre .1, c .loop-test .taken))
+bt-at-requires c κs =
+    let start = c .before .before .before in
+    (start .pre .0, (start .pre .1, c .loop-test .taken))
 
 returns : tie.Need-returns Inv-loop μ-loop
 unfolding emptyAt
-returns c = sym (all-fails _ (c .before .before .before .before .loop .v) _ (c .before .before .before .loop-test .taken) (ne-eqb _ _ (λ e. c .if1 .taken (c .before .before .bt-at .ensures .0 ∙ e))))
+returns c =
+    let at-loop-test = c .before .before .before in
+    let at-loop = at-loop-test .before in
+    sym (all-fails _ (at-loop .loop .v) _ (at-loop-test .loop-test .taken) (ne-eqb _ _ (λ e. c .if1 .taken (c .before .before .bt-at .ensures .0 ∙ e))))
 
 add-v : tie.Need-add-v Inv-loop μ-loop
 add-v c = omega arith
@@ -36,7 +41,9 @@ loop-less : tie.Need-loop-less Inv-loop μ-loop
 loop-less c = omega arith
 
 loop-again : tie.Need-loop-again Inv-loop μ-loop
-loop-again c = (omega arith, all-more _ _ (c .before .before .before .before .loop .inv .1) (eq-eqb _ _ (sym (c .before .before .bt-at .ensures .0) ∙ c .if1 .left)))
+loop-again c =
+    let at-loop = c .before .before .before .before in
+    (omega arith, all-more _ _ (at-loop .loop .inv .1) (eq-eqb _ _ (sym (c .before .before .bt-at .ensures .0) ∙ c .if1 .left)))
 
 returns-2 : tie.Need-returns-2 Inv-loop μ-loop
 unfolding emptyAt

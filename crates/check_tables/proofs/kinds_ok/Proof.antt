@@ -44,19 +44,27 @@ bst-at-requires c κs = omega arith
 
 returns : tie.Need-returns Inv-loop μ-loop
 unfolding kindsOk bstRule
-returns c = rw (all-fails (c .before .before .before .before .before .args .p .N) (c .before .before .before .loop .n) (λ n. leb (bstAt (c .before .before .before .before .before .args .bst .now) n) 2) (omega (arith, c .before .before .loop-test .taken, c .before .before .before .before .before .pre .1)) (rw (c .before .bst-at .ensures) at (lt-leb _ _ (c .if1 .taken))))
+returns c =
+    let at-loop = c .before .before .before in
+    let start = at-loop .before .before in
+    rw (all-fails (start .args .p .N) (at-loop .loop .n) (λ n. leb (bstAt (start .args .bst .now) n) 2) (omega (arith, c .before .before .loop-test .taken, start .pre .1))
+    (rw (c .before .bst-at .ensures) at (lt-leb _ _ (c .if1 .taken))))
 
 one-if-requires : tie.Need-one-if-requires Inv-loop μ-loop
 one-if-requires c κs = search needs
 
 add-used : tie.Need-add-used Inv-loop μ-loop
-add-used c = omega (arith, c .before .before .before .before .loop .inv .1, c .one-if .ensures .1)
+add-used c =
+    let at-loop = c .before .before .before .before in
+    omega (arith, at-loop .loop .inv .1, c .one-if .ensures .1)
 
 one-if-requires-2 : tie.Need-one-if-requires-2 Inv-loop μ-loop
 one-if-requires-2 c κs = search needs
 
 add-kept : tie.Need-add-kept Inv-loop μ-loop
-add-kept c = omega (arith, c .before .before .before .before .before .loop .inv .2, c .one-if2 .ensures .1)
+add-kept c =
+    let at-loop = c .before .before .before .before .before in
+    omega (arith, at-loop .loop .inv .2, c .one-if2 .ensures .1)
 
 add-n : tie.Need-add-n Inv-loop μ-loop
 add-n c = omega arith
@@ -66,30 +74,38 @@ loop-less c = omega arith
 
 loop-again : tie.Need-loop-again Inv-loop μ-loop
 loop-again c =
-    let i = c .before .before .before .before .before .loop .inv in
-    let e = c .before .before .before .bst-at .ensures in (
+    let at-bst-at = c .before .before .before in
+    let at-loop = at-bst-at .before .before in
+    let start = at-loop .before .before in
+    let i = at-loop .loop .inv in
+    let e = at-bst-at .bst-at .ensures in (
       omega arith,
       omega (arith, i .1, c .before .one-if .ensures .1),
       omega (arith, i .2, c .one-if2 .ensures .1),
       all-more _ _ (i .3) (rw e at (le-leb _ _ (c .before .before .if1 .left))),
-      count-if (λ n. eqb (bstAt (c .before .before .before .before .before .before .before .args .bst .now) n) 1) _ _ _ (i .4) (rw e at (c .before .one-if .ensures .0)),
-      count-if (λ n. not (eqb (bstAt (c .before .before .before .before .before .before .before .args .bst .now) n) 2)) _ _ _ (i .5) (rw e at (c .one-if2 .ensures .0)),
+      count-if (λ n. eqb (bstAt (start .args .bst .now) n) 1) _ _ _ (i .4) (rw e at (c .before .one-if .ensures .0)),
+      count-if (λ n. not (eqb (bstAt (start .args .bst .now) n) 2)) _ _ _ (i .5) (rw e at (c .one-if2 .ensures .0)),
     )
 
 mul-result : tie.Need-mul-result Inv-loop μ-loop
-mul-result c = omega (arith, sizes _ (c .before .before .before .before .pre .0))
+mul-result c =
+    let start = c .before .before .before .before in
+    omega (arith, sizes _ (start .pre .0))
 
 add-result : tie.Need-add-result Inv-loop μ-loop
-add-result c = omega (arith, sizes _ (c .before .before .before .before .pre .0))
+add-result c =
+    let start = c .before .before .before .before in
+    omega (arith, sizes _ (start .pre .0))
 
 returns-2 : tie.Need-returns-2 Inv-loop μ-loop
 unfolding kindsOk bstRule roomRule
 returns-2 c =
-    let e : c .before .before .loop .n ≡ c .before .before .before .before .args .p .N = omega (arith, c .before .before .before .before .pre .1, c .before .loop-test .left, c .before .before .loop .inv .0) in
+    let start = c .before .before .before .before in
+    let e : c .before .before .loop .n ≡ start .args .p .N = omega (arith, start .pre .1, c .before .loop-test .left, c .before .before .loop .inv .0) in
     let i = c .before .before .loop .inv in
-    let a = all-end (c .before .before .before .before .args .p .N) _ _ e (i .3) in
-    let u : c .before .before .loop .used ≡ countBelow (c .before .before .before .before .args .p .N) (λ n. eqb (bstAt (c .before .before .before .before .args .bst .now) n) 1) = rw e at (i .4) in
-    let k : c .before .before .loop .kept ≡ countBelow (c .before .before .before .before .args .p .N) (λ n. not (eqb (bstAt (c .before .before .before .before .args .bst .now) n) 2)) = rw e at (i .5) in
+    let a = all-end (start .args .p .N) _ _ e (i .3) in
+    let u : c .before .before .loop .used ≡ countBelow (start .args .p .N) (λ n. eqb (bstAt (start .args .bst .now) n) 1) = rw e at (i .4) in
+    let k : c .before .before .loop .kept ≡ countBelow (start .args .p .N) (λ n. not (eqb (bstAt (start .args .bst .now) n) 2)) = rw e at (i .5) in
     rw (u, k, a)
 
 pub kinds-ok-spec : {M : Type 1} → statement M

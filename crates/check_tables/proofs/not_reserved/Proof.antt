@@ -37,16 +37,19 @@ loop-less c = omega arith
 
 loop-again : tie.Need-loop-again Inv-loop μ-loop
 loop-again c =
-    let i = c .before .before .before .loop .inv in
+    let at-loop = c .before .before .before in
+    let i = at-loop .loop .inv in
     let e = c .before .bst-at .ensures in (
       omega arith,
       ⊎-elim (λ w. omega arith) (λ w. omega arith) (c .if1 .came),
-      ⊎-elim (λ w. rw (w .1) (count-yes _ _ _ (i .2) (ap not (ne-eqb _ _ (λ x. w .0 .taken (e ∙ x)))))) (λ w. rw (w .1) (count-no _ _ _ (i .2) (ap not (eq-eqb _ _ (sym e ∙ w .0 .left))))) (c .if1 .came),
+      ⊎-elim (λ w. rw (w .1) (count-yes _ _ _ (i .2) (ap not (ne-eqb _ _ (λ x. w .0 .taken (e ∙ x))))))
+          (λ w. rw (w .1) (count-no _ _ _ (i .2) (ap not (eq-eqb _ _ (sym e ∙ w .0 .left))))) (c .if1 .came),
     )
 
 returns : tie.Need-returns Inv-loop μ-loop
 returns c =
-    let e : c .before .loop .n ≡ length (c .before .before .before .args .bst .now) = omega arith in
+    let start = c .before .before .before in
+    let e : c .before .loop .n ≡ length (start .args .bst .now) = omega arith in
     rw (← e) (c .before .loop .inv .2)
 
 pub not-reserved-spec : {M : Type 1} → statement M

@@ -18,7 +18,9 @@ not-reserved-requires c κs = search needs
 
 returns : tie.Need-returns
 unfolding roomRule
-returns c = rw (← (c .before .before .before .pre .1), ← (c .not-reserved .ensures))
+returns c =
+    let start = c .before .before .before in
+    rw (← (start .pre .1), ← (c .not-reserved .ensures))
 
 pub room-ok-spec : {M : Type 1} → statement M
 room-ok-spec = tie.close (tie.spec mul-least add-least not-reserved-requires returns)

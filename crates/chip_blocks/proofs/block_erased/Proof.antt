@@ -17,12 +17,15 @@ frames-requires c κs = search needs
 
 mul-k : tie.Need-mul-k
 mul-k c =
-    let b = sizes _ (c .before .before .before .before .pre .0) in
+    let start = c .before .before .before .before in
+    let b = sizes _ (start .pre .0) in
     let h : c .before .frames .result ≤ 256 = omega (arith, b .short, c .before .frames .ensures) in
     omega (arith, mul-le-mul (b .alphaHigh) h)
 
 are-erased-requires : tie.Need-are-erased-requires
-are-erased-requires c κs = block-pages (c .before .before .before .before .args .p) (c .before .frames .result) (c .before .before .page-bytes .result) _ (c .before .before .before .before .pre .1) (c .before .frames .ensures) (c .before .before .page-bytes .ensures)
+are-erased-requires c κs =
+    let start = c .before .before .before .before in
+    block-pages (start .args .p) (c .before .frames .result) (c .before .before .page-bytes .result) _ (start .pre .1) (c .before .frames .ensures) (c .before .before .page-bytes .ensures)
 
 returns : tie.Need-returns
 returns c = search needs

@@ -19,10 +19,14 @@ block-bytes-requires : tie.Need-block-bytes-requires
 block-bytes-requires c κs = search needs
 
 mul-a : tie.Need-mul-a
-mul-a c = omega (arith, end (c .before .before .before) (c .before .block-bytes .result) (c .before .block-bytes .ensures))
+mul-a c =
+    let start = c .before .before .before in
+    omega (arith, end start (c .before .block-bytes .result) (c .before .block-bytes .ensures))
 
 add-b : tie.Need-add-b
-add-b c = omega (arith, end (c .before .before .before) (c .before .block-bytes .result) (c .before .block-bytes .ensures))
+add-b c =
+    let start = c .before .before .before in
+    omega (arith, end start (c .before .block-bytes .result) (c .before .block-bytes .ensures))
 
 sub-result : tie.Need-sub-result
 sub-result c = search needs
@@ -31,13 +35,16 @@ part-result-start : tie.Need-part-result-start
 part-result-start c = search needs
 
 part-result-end : tie.Need-part-result-end
-part-result-end c = omega (arith, end (c .before .before .before) (c .before .block-bytes .result) (c .before .block-bytes .ensures))
+part-result-end c =
+    let start = c .before .before .before in
+    omega (arith, end start (c .before .block-bytes .result) (c .before .block-bytes .ensures))
 
 returns : tie.Need-returns
 returns c =
-    let a = c .before .before .before .before .args in
+    let start = c .before .before .before .before in
+    let a = start .args in
     let w = c .before .before .block-bytes in
-    (block-lent (a .p) (a .chip .now) (a .n .0) (w .result) (w .ensures), lent-length (w .result) (a .n .0) (a .chip .now) (end (c .before .before .before .before) (w .result) (w .ensures)) ∙ w .ensures)
+    (block-lent (a .p) (a .chip .now) (a .n .0) (w .result) (w .ensures), lent-length (w .result) (a .n .0) (a .chip .now) (end start (w .result) (w .ensures)) ∙ w .ensures)
 
 pub block-of-spec : {M : Type 1} → statement M
 block-of-spec =

@@ -23,10 +23,14 @@ loop-holds : tie.Need-loop-holds Inv-loop μ-loop
 loop-holds c = (omega arith, omega arith, count-start _)
 
 frame-of-requires : tie.Need-frame-of-requires Inv-loop μ-loop
-frame-of-requires c κs = (c .before .before .before .before .pre .0, (c .before .before .before .before .pre .1, omega (arith, c .loop-test .taken, c .before .before .frames .ensures)))
+frame-of-requires c κs =
+    let start = c .before .before .before .before in
+    (start .pre .0, (start .pre .1, omega (arith, c .loop-test .taken, c .before .before .frames .ensures)))
 
 is-programmed-requires : tie.Need-is-programmed-requires Inv-loop μ-loop
-is-programmed-requires c κs = (c .before .before .before .before .before .pre .0, c .frame-of .ensures .1)
+is-programmed-requires c κs =
+    let start = c .before .before .before .before .before in
+    (start .pre .0, c .frame-of .ensures .1)
 
 add-k : tie.Need-add-k Inv-loop μ-loop
 add-k c = omega arith
@@ -39,8 +43,10 @@ loop-less c = omega arith
 
 loop-again : tie.Need-loop-again Inv-loop μ-loop
 loop-again c =
-    let i = c .before .before .before .before .loop .inv in
-    let e = c .before .is-programmed .ensures ∙ ap (programmed (c .before .before .before .before .before .before .before .args .p)) (c .before .before .frame-of .ensures .0) in (
+    let at-loop = c .before .before .before .before in
+    let start = at-loop .before .before .before in
+    let i = at-loop .loop .inv in
+    let e = c .before .is-programmed .ensures ∙ ap (programmed (start .args .p)) (c .before .before .frame-of .ensures .0) in (
       omega arith,
       ⊎-elim (λ w. omega arith) (λ w. omega arith) (c .if1 .came),
       ⊎-elim (λ w. rw (w .1) (count-yes _ _ _ (i .2) (sym e ∙ w .0 .taken))) (λ w. rw (w .1) (count-no _ _ _ (i .2) (sym e ∙ w .0 .left))) (c .if1 .came),

@@ -35,9 +35,10 @@ part-result-end c = omega (arith, end (c .before .before) (c .frame-bytes .resul
 
 returns : tie.Need-returns
 returns c =
-    let a = c .before .before .before .args in
+    let start = c .before .before .before in
+    let a = start .args in
     let w = c .before .frame-bytes in
-    (frame-lent (a .p) (a .blk .now) (a .f) (w .result) (w .ensures), lent-length (w .result) (a .f) (a .blk .now) (end (c .before .before .before) (w .result) (w .ensures)) ∙ w .ensures)
+    (frame-lent (a .p) (a .blk .now) (a .f) (w .result) (w .ensures), lent-length (w .result) (a .f) (a .blk .now) (end start (w .result) (w .ensures)) ∙ w .ensures)
 
 pub frame-of-spec : {M : Type 1} → statement M
 frame-of-spec =

@@ -23,28 +23,43 @@ cluster-in-requires : tie.Need-cluster-in-requires Inv-loop μ-loop
 cluster-in-requires c κs = c .before .pre
 
 returns : tie.Need-returns Inv-loop μ-loop
-returns c = good-high _ _ _ _ (c .before .before .before .cluster-in .ensures .0) (c .if1 .taken)
+returns c =
+    let at-cluster-in = c .before .before .before in
+    good-high _ _ _ _ (at-cluster-in .cluster-in .ensures .0) (c .if1 .taken)
 
 region-of-requires : tie.Need-region-of-requires Inv-loop μ-loop
-region-of-requires c κs = (c .before .before .before .before .before .pre .0, c .before .before .before .cluster-in .ensures .1)
+region-of-requires c κs =
+    let at-cluster-in = c .before .before .before in
+    let start = at-cluster-in .before .before in
+    (start .pre .0, at-cluster-in .cluster-in .ensures .1)
 
 returns-2 : tie.Need-returns-2 Inv-loop μ-loop
-returns-2 c = good-other _ _ _ _ (c .before .before .before .before .before .cluster-in .ensures .0) (c .before .before .if1 .left) (λ e. c .if2 .taken (c .before .region-of .ensures ∙ e))
+returns-2 c =
+    let at-cluster-in = c .before .before .before .before .before in
+    good-other _ _ _ _ (at-cluster-in .cluster-in .ensures .0) (c .before .before .if1 .left) (λ e. c .if2 .taken (c .before .region-of .ensures ∙ e))
 
 loop-holds : tie.Need-loop-holds Inv-loop μ-loop
 loop-holds c = (omega arith, all-start _)
 
 is-marked-requires : tie.Need-is-marked-requires Inv-loop μ-loop
-is-marked-requires c κs = (c .before .before .before .before .before .before .before .before .before .pre .0, (c .before .before .before .before .before .before .before .before .before .pre .1, c .loop-test .taken))
+is-marked-requires c κs =
+    let start = c .before .before .before .before .before .before .before .before .before in
+    (start .pre .0, (start .pre .1, c .loop-test .taken))
 
 returns-3 : tie.Need-returns-3 Inv-loop μ-loop
 returns-3 c =
-    let p = c .before .before .before .before .before .before .before .before .before .before .before .args .p in
-    let fr = c .before .before .before .before .before .before .before .before .before .before .before .args .fr .now in
-    let k = c .before .before .before .before .before .before .before .before .before .cluster-in .result .0 in
-    let e : sameList (spare p fr (c .before .before .before .loop .j)) (spareBytes k (c .before .before .before .loop .j)) ≡ false = sym (c .before .is-marked .ensures) ∙ not-true _ (c .if3 .taken) in
-    sym (all-fails _ (c .before .before .before .loop .j) (λ i. sameList (spare p fr i) (spareBytes k i)) (c .before .before .loop-test .taken) e)
-    ∙ good-is _ _ _ _ (c .before .before .before .before .before .before .before .before .before .cluster-in .ensures .0) (c .before .before .before .before .before .before .if1 .left) (sym (c .before .before .before .before .before .region-of .ensures) ∙ c .before .before .before .before .if2 .left)
+    let at-loop = c .before .before .before in
+    let at-if2 = at-loop .before in
+    let at-region-of = at-if2 .before in
+    let at-if1 = at-region-of .before in
+    let at-cluster-in = at-if1 .before .before .before in
+    let start = at-cluster-in .before .before in
+    let p = start .args .p in
+    let fr = start .args .fr .now in
+    let k = at-cluster-in .cluster-in .result .0 in
+    let e : sameList (spare p fr (at-loop .loop .j)) (spareBytes k (at-loop .loop .j)) ≡ false = sym (c .before .is-marked .ensures) ∙ not-true _ (c .if3 .taken) in
+    sym (all-fails _ (at-loop .loop .j) (λ i. sameList (spare p fr i) (spareBytes k i)) (c .before .before .loop-test .taken) e)
+    ∙ good-is _ _ _ _ (at-cluster-in .cluster-in .ensures .0) (at-if1 .if1 .left) (sym (at-region-of .region-of .ensures) ∙ at-if2 .if2 .left)
 
 add-j : tie.Need-add-j Inv-loop μ-loop
 add-j c = omega arith
@@ -53,12 +68,17 @@ loop-less : tie.Need-loop-less Inv-loop μ-loop
 loop-less c = omega arith
 
 loop-again : tie.Need-loop-again Inv-loop μ-loop
-loop-again c = (omega arith, all-more _ _ (c .before .before .before .loop .inv .1) (sym (c .before .is-marked .ensures) ∙ not-false _ (c .if3 .left)))
+loop-again c =
+    let at-loop = c .before .before .before in
+    (omega arith, all-more _ _ (at-loop .loop .inv .1) (sym (c .before .is-marked .ensures) ∙ not-false _ (c .if3 .left)))
 
 returns-4 : tie.Need-returns-4 Inv-loop μ-loop
 returns-4 c =
+    let at-region-of = c .before .before .before in
+    let at-if1 = at-region-of .before in
+    let at-cluster-in = at-if1 .before .before .before in
     sym (all-end _ _ _ (omega arith) (c .before .loop .inv .1))
-    ∙ good-is _ _ _ _ (c .before .before .before .before .before .before .before .cluster-in .ensures .0) (c .before .before .before .before .if1 .left) (sym (c .before .before .before .region-of .ensures) ∙ c .before .before .if2 .left)
+    ∙ good-is _ _ _ _ (at-cluster-in .cluster-in .ensures .0) (at-if1 .if1 .left) (sym (at-region-of .region-of .ensures) ∙ c .before .before .if2 .left)
 
 pub good-frame-spec : {M : Type 1} → statement M
 good-frame-spec =

@@ -25,16 +25,24 @@ loop-holds : tie.Need-loop-holds Inv-loop μ-loop
 loop-holds c = (omega arith, all-start _)
 
 frame-of-requires : tie.Need-frame-of-requires Inv-loop μ-loop
-frame-of-requires c κs = (c .before .before .before .before .pre .0, (c .before .before .before .before .pre .1, omega (arith, c .loop-test .taken, c .before .before .frames .ensures)))
+frame-of-requires c κs =
+    let start = c .before .before .before .before in
+    (start .pre .0, (start .pre .1, omega (arith, c .loop-test .taken, c .before .before .frames .ensures)))
 
 good-frame-requires : tie.Need-good-frame-requires Inv-loop μ-loop
-good-frame-requires c κs = (c .before .before .before .before .before .pre .0, c .frame-of .ensures .1)
+good-frame-requires c κs =
+    let start = c .before .before .before .before .before in
+    (start .pre .0, c .frame-of .ensures .1)
 
 returns : tie.Need-returns Inv-loop μ-loop
 returns c =
-    let a = c .before .before .before .before .before .before .before in
+    let at-loop-test = c .before .before .before in
+    let at-loop = at-loop-test .before in
+    let at-frames = at-loop .before in
+    let start = at-frames .before .before in
+    let a = start in
     let e = c .before .good-frame .ensures ∙ ap (goodFrame (a .args .p) (a .args .r)) (c .before .before .frame-of .ensures .0) in
-    (omega (arith, c .before .before .before .loop-test .taken, c .before .before .before .before .before .frames .ensures), (c .before .before .before .before .loop .inv .1, λ h. sym e ∙ not-true _ (c .if1 .taken)))
+    (omega (arith, at-loop-test .loop-test .taken, at-frames .frames .ensures), (at-loop .loop .inv .1, λ h. sym e ∙ not-true _ (c .if1 .taken)))
 
 add-f : tie.Need-add-f Inv-loop μ-loop
 add-f c = omega arith
@@ -44,9 +52,11 @@ loop-less c = omega arith
 
 loop-again : tie.Need-loop-again Inv-loop μ-loop
 loop-again c =
-    let a = c .before .before .before .before .before .before .before in
+    let at-loop = c .before .before .before .before in
+    let start = at-loop .before .before .before in
+    let a = start in
     let e = c .before .good-frame .ensures ∙ ap (goodFrame (a .args .p) (a .args .r)) (c .before .before .frame-of .ensures .0) in
-    (omega arith, all-more _ _ (c .before .before .before .before .loop .inv .1) (sym e ∙ not-false _ (c .if1 .left)))
+    (omega arith, all-more _ _ (at-loop .loop .inv .1) (sym e ∙ not-false _ (c .if1 .left)))
 
 returns-2 : tie.Need-returns-2 Inv-loop μ-loop
 returns-2 c =

@@ -12,14 +12,20 @@ cluster-in-requires c κs = search needs
 
 returns : tie.Need-returns
 unfolding holds
-returns c = rw (← (c .before .before .before .cluster-in .ensures .0), ne-eqb (c .before .before .before .cluster-in .result .0) (c .before .before .before .before .before .args .c .0) (c .if1 .taken), and-false)
+returns c =
+    let at-cluster-in = c .before .before .before in
+    let start = at-cluster-in .before .before in
+    rw (← (at-cluster-in .cluster-in .ensures .0), ne-eqb (at-cluster-in .cluster-in .result .0) (start .args .c .0) (c .if1 .taken), and-false)
 
 is-programmed-requires : tie.Need-is-programmed-requires
 is-programmed-requires c κs = search needs
 
 returns-2 : tie.Need-returns-2
 unfolding holds
-returns-2 c = rw (← (c .before .before .before .before .cluster-in .ensures .0), eq-eqb (c .before .before .before .before .cluster-in .result .0) (c .before .before .before .before .before .before .args .c .0) (c .before .if1 .left), and-true) (c .is-programmed .ensures)
+returns-2 c =
+    let at-cluster-in = c .before .before .before .before in
+    let start = at-cluster-in .before .before in
+    rw (← (at-cluster-in .cluster-in .ensures .0), eq-eqb (at-cluster-in .cluster-in .result .0) (start .args .c .0) (c .before .if1 .left), and-true) (c .is-programmed .ensures)
 
 pub holds-spec : {M : Type 1} → statement M
 holds-spec = tie.close (tie.spec cluster-in-requires returns is-programmed-requires returns-2)

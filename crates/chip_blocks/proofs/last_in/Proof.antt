@@ -27,22 +27,29 @@ mul-lo : tie.Need-mul-lo Inv-loop μ-loop
 mul-lo c = omega (arith, seg (c .before .before))
 
 add-i : tie.Need-add-i Inv-loop μ-loop
-add-i c = omega (arith, seg (c .before .before .before))
+add-i c =
+    let entered = c .before .before .before in
+    omega (arith, seg entered)
 
 loop-holds : tie.Need-loop-holds Inv-loop μ-loop
-loop-holds c = λ z. start _ z _ _ _ (c .before .before .before .pre .1 .1)
+loop-holds c =
+    let entered = c .before .before .before in
+    λ z. start _ z _ _ _ (entered .pre .1 .1)
 
 sub-f : tie.Need-sub-f Inv-loop μ-loop
 sub-f c = omega (arith, c .loop-test .taken)
 
 frame-of-requires : tie.Need-frame-of-requires Inv-loop μ-loop
 frame-of-requires c κs =
-    let a = c .before .before .before .before .before in
+    let entered = c .before .before .before .before .before in
+    let a = entered in
     let s = c .before .loop .inv (sizes _ (a .pre .0)) in
     (a .pre .0, (a .pre .1 .0, omega (arith, seg a, c .loop-test .taken, s .few)))
 
 looked-requires : tie.Need-looked-requires Inv-loop μ-loop
-looked-requires c κs = (c .before .before .before .before .before .before .pre .0, c .frame-of .ensures .1)
+looked-requires c κs =
+    let entered = c .before .before .before .before .before .before in
+    (entered .pre .0, c .frame-of .ensures .1)
 
 -- what was looked at in the frame itself
 seen : (a : tie.Start Inv-loop μ-loop) (n f : ℕ) (fr : List ℕ) → n ≡ cond (programmed (a .args .p) fr) 1 0 → fr ≡ frame (a .args .p) (a .args .blk .now) f
@@ -51,38 +58,54 @@ seen a n f fr e is = e ∙ ap (λ (x : List ℕ). cond (programmed (a .args .p) 
 
 add-looks : tie.Need-add-looks Inv-loop μ-loop
 add-looks c =
-    let a = c .before .before .before .before .before .before .before in
+    let at-loop = c .before .before .before in
+    let entered = at-loop .before .before .before .before in
+    let a = entered in
     let z = sizes _ (a .pre .0) in
-    let s = c .before .before .before .loop .inv z in
+    let s = at-loop .loop .inv z in
     omega (arith, z .betaHigh, looks-few _ z _ _ _ _ _ s (c .before .before .loop-test .taken) _ (seen a _ _ _ (c .looked .ensures) (c .before .frame-of .ensures .0)))
 
 holds-requires : tie.Need-holds-requires Inv-loop μ-loop
-holds-requires c κs = (c .before .before .before .before .before .before .before .pre .0, c .before .frame-of .ensures .1)
+holds-requires c κs =
+    let entered = c .before .before .before .before .before .before .before in
+    (entered .pre .0, c .before .frame-of .ensures .1)
 
 returns : tie.Need-returns Inv-loop μ-loop
 returns c =
-    let a = c .before .before .before .before .before .before .before .before .before in
+    let at-frame-of = c .before .before .before in
+    let at-loop-test = at-frame-of .before in
+    let at-loop = at-loop-test .before in
+    let entered = at-loop .before .before .before .before in
+    let a = entered in
     let z = sizes _ (a .pre .0) in
-    let s = c .before .before .before .before .before .loop .inv z in
-    let t = c .before .before .before .before .loop-test .taken in
-    let n = seen a _ _ _ (c .before .before .looked .ensures) (c .before .before .before .frame-of .ensures .0) in
-    let h = sym (c .before .holds .ensures ∙ ap (λ (x : List ℕ). holds (a .args .p) x (a .args .c .0)) (c .before .before .before .frame-of .ensures .0)) ∙ c .if1 .taken in
+    let s = at-loop .loop .inv z in
+    let t = at-loop-test .loop-test .taken in
+    let n = seen a _ _ _ (c .before .before .looked .ensures) (at-frame-of .frame-of .ensures .0) in
+    let h = sym (c .before .holds .ensures ∙ ap (λ (x : List ℕ). holds (a .args .p) x (a .args .c .0)) (at-frame-of .frame-of .ensures .0)) ∙ c .if1 .taken in
     (found _ z _ _ _ _ _ s t _ n h, (looks-few _ z _ _ _ _ _ s t _ n, looked _ z _ _ _ _ _ s t _ n h))
 
 loop-less : tie.Need-loop-less Inv-loop μ-loop
-loop-less c = omega (arith, c .before .before .before .before .loop-test .taken)
+loop-less c =
+    let at-loop-test = c .before .before .before .before in
+    omega (arith, at-loop-test .loop-test .taken)
 
 loop-again : tie.Need-loop-again Inv-loop μ-loop
-loop-again c = λ z.
-    let a = c .before .before .before .before .before .before .before .before .before in
-    let s = c .before .before .before .before .before .loop .inv z in
-    let t = c .before .before .before .before .loop-test .taken in
-    let n = seen a _ _ _ (c .before .before .looked .ensures) (c .before .before .before .frame-of .ensures .0) in
-    turn _ z _ _ _ _ _ s t _ n (sym (c .before .holds .ensures ∙ ap (λ (x : List ℕ). holds (a .args .p) x (a .args .c .0)) (c .before .before .before .frame-of .ensures .0)) ∙ c .if1 .left)
+loop-again c =
+    let at-frame-of = c .before .before .before in
+    let at-loop-test = at-frame-of .before in
+    let at-loop = at-loop-test .before in
+    let entered = at-loop .before .before .before .before in
+    λ z.
+    let a = entered in
+    let s = at-loop .loop .inv z in
+    let t = at-loop-test .loop-test .taken in
+    let n = seen a _ _ _ (c .before .before .looked .ensures) (at-frame-of .frame-of .ensures .0) in
+    turn _ z _ _ _ _ _ s t _ n (sym (c .before .holds .ensures ∙ ap (λ (x : List ℕ). holds (a .args .p) x (a .args .c .0)) (at-frame-of .frame-of .ensures .0)) ∙ c .if1 .left)
 
 returns-2 : tie.Need-returns-2 Inv-loop μ-loop
 returns-2 c =
-    let a = c .before .before .before .before .before in
+    let entered = c .before .before .before .before .before in
+    let a = entered in
     let z = sizes _ (a .pre .0) in
     let s = c .before .loop .inv z in
     (nothing _ z _ _ _ _ _ s (omega (arith, c .loop-test .left)), (omega (arith, s .few, s .low), λ l. absurd (omega (arith, l, z .short))))

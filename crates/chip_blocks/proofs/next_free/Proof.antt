@@ -28,19 +28,27 @@ loop-holds : tie.Need-loop-holds Inv-loop μ-loop
 loop-holds c = (omega (arith, c .before .before .pre .1 .1, c .frames .ensures), λ k h e. h)
 
 frame-of-requires : tie.Need-frame-of-requires Inv-loop μ-loop
-frame-of-requires c κs = (c .before .before .before .before .pre .0, (c .before .before .before .before .pre .1 .0, omega (arith, c .loop-test .taken, c .before .before .frames .ensures)))
+frame-of-requires c κs =
+    let start = c .before .before .before .before in
+    (start .pre .0, (start .pre .1 .0, omega (arith, c .loop-test .taken, c .before .before .frames .ensures)))
 
 is-programmed-requires : tie.Need-is-programmed-requires Inv-loop μ-loop
-is-programmed-requires c κs = (c .before .before .before .before .before .pre .0, c .frame-of .ensures .1)
+is-programmed-requires c κs =
+    let start = c .before .before .before .before .before in
+    (start .pre .0, c .frame-of .ensures .1)
 
 returns : tie.Need-returns Inv-loop μ-loop
 returns c =
-    let a = c .before .before .before .before .before .before .before in
-    let f = c .before .before .before .before .loop .f in
+    let at-loop-test = c .before .before .before in
+    let at-loop = at-loop-test .before in
+    let at-frames = at-loop .before in
+    let start = at-frames .before .before in
+    let a = start in
+    let f = at-loop .loop .f in
     let e = c .before .is-programmed .ensures ∙ ap (programmed (a .args .p)) (c .before .before .frame-of .ensures .0) in
-    let here : f < frames (a .args .p) = omega (arith, c .before .before .before .loop-test .taken, c .before .before .before .before .before .frames .ensures) in
+    let here : f < frames (a .args .p) = omega (arith, at-loop-test .loop-test .taken, at-frames .frames .ensures) in
     λ k h w.
-    let le : f ≤ k = c .before .before .before .before .loop .inv .1 k h w in
+    let le : f ≤ k = at-loop .loop .inv .1 k h w in
     let out : k ≤ f = ltb-false f k (sym (w .are f here) ∙ sym e ∙ not-true _ (c .if1 .taken)) in
     omega (arith, le, out)
 
@@ -52,10 +60,14 @@ loop-less c = omega arith
 
 loop-again : tie.Need-loop-again Inv-loop μ-loop
 loop-again c =
-    let a = c .before .before .before .before .before .before .before in
-    let f = c .before .before .before .before .loop .f in
+    let at-loop-test = c .before .before .before in
+    let at-loop = at-loop-test .before in
+    let at-frames = at-loop .before in
+    let start = at-frames .before .before in
+    let a = start in
+    let f = at-loop .loop .f in
     let e = c .before .is-programmed .ensures ∙ ap (programmed (a .args .p)) (c .before .before .frame-of .ensures .0) in
-    let here : f < frames (a .args .p) = omega (arith, c .before .before .before .loop-test .taken, c .before .before .before .before .before .frames .ensures) in (
+    let here : f < frames (a .args .p) = omega (arith, at-loop-test .loop-test .taken, at-frames .frames .ensures) in (
       omega arith,
       λ k h w.
           let less : f < k = ltb-true f k (sym (w .are f here) ∙ sym e ∙ not-false _ (c .if1 .left)) in

@@ -45,19 +45,29 @@ unfolding allAre
 loop-holds c = (omega arith, rw zero-mul refl, rw zero-mul refl)
 
 mul-a : tie.Need-mul-a Inv-loop μ-loop
-mul-a c = omega (arith, ends (c .before .before .before) (c .before .loop .i) (c .loop-test .taken))
+mul-a c =
+    let start = c .before .before .before in
+    omega (arith, ends start (c .before .loop .i) (c .loop-test .taken))
 
 add-b : tie.Need-add-b Inv-loop μ-loop
-add-b c = omega (arith, ends (c .before .before .before) (c .before .loop .i) (c .loop-test .taken))
+add-b c =
+    let start = c .before .before .before in
+    omega (arith, ends start (c .before .loop .i) (c .loop-test .taken))
 
 add-x : tie.Need-add-x Inv-loop μ-loop
-add-x c = omega (arith, ends (c .before .before .before) (c .before .loop .i) (c .loop-test .taken))
+add-x c =
+    let start = c .before .before .before in
+    omega (arith, ends start (c .before .loop .i) (c .loop-test .taken))
 
 mul-x : tie.Need-mul-x Inv-loop μ-loop
-mul-x c = omega (arith, ends (c .before .before .before) (c .before .loop .i) (c .loop-test .taken))
+mul-x c =
+    let start = c .before .before .before in
+    omega (arith, ends start (c .before .loop .i) (c .loop-test .taken))
 
 add-y : tie.Need-add-y Inv-loop μ-loop
-add-y c = omega (arith, ends (c .before .before .before) (c .before .loop .i) (c .loop-test .taken))
+add-y c =
+    let start = c .before .before .before in
+    omega (arith, ends start (c .before .loop .i) (c .loop-test .taken))
 
 sub-both-erased : tie.Need-sub-both-erased Inv-loop μ-loop
 sub-both-erased c = search needs
@@ -66,7 +76,9 @@ part-both-erased-start : tie.Need-part-both-erased-start Inv-loop μ-loop
 part-both-erased-start c = search needs
 
 part-both-erased-end : tie.Need-part-both-erased-end Inv-loop μ-loop
-part-both-erased-end c = omega (arith, ends (c .before .before .before) (c .before .loop .i) (c .loop-test .taken))
+part-both-erased-end c =
+    let start = c .before .before .before in
+    omega (arith, ends start (c .before .loop .i) (c .loop-test .taken))
 
 sub-both-erased-2 : tie.Need-sub-both-erased-2 Inv-loop μ-loop
 sub-both-erased-2 c = search needs
@@ -75,13 +87,17 @@ part-both-erased-start-2 : tie.Need-part-both-erased-start-2 Inv-loop μ-loop
 part-both-erased-start-2 c = search needs
 
 part-both-erased-end-2 : tie.Need-part-both-erased-end-2 Inv-loop μ-loop
-part-both-erased-end-2 c = omega (arith, ends (c .before .before .before .before) (c .before .before .loop .i) (c .before .loop-test .taken))
+part-both-erased-end-2 c =
+    let start = c .before .before .before .before in
+    omega (arith, ends start (c .before .before .loop .i) (c .before .loop-test .taken))
 
 both-erased-requires : tie.Need-both-erased-requires Inv-loop μ-loop
 both-erased-requires c κs =
-    let a = c .before .before .before .before .before in
-    let e = ends a (c .before .before .before .loop .i) (c .before .before .loop-test .taken) in
-    lent-length (a .args .w) (c .before .before .before .loop .i) (a .args .pages .now) (e .first) ∙ sym (lent-length (a .args .w) (a .args .k / 2 + c .before .before .before .loop .i) (a .args .pages .now) (e .second))
+    let at-loop = c .before .before .before in
+    let start = at-loop .before .before in
+    let a = start in
+    let e = ends a (at-loop .loop .i) (c .before .before .loop-test .taken) in
+    lent-length (a .args .w) (at-loop .loop .i) (a .args .pages .now) (e .first) ∙ sym (lent-length (a .args .w) (a .args .k / 2 + at-loop .loop .i) (a .args .pages .now) (e .second))
 
 -- what the two pages say
 said : (w h i : ℕ) (l : List ℕ) (ok : Bool) → ok ≡ allAre 255 (take (i * w + w - i * w) (drop (i * w) l)) && allAre 255 (take ((h + i) * w + w - (h + i) * w) (drop ((h + i) * w) l))
@@ -97,8 +113,10 @@ fails w h i l e = go (so (allAre 255 (part w i l)))
 
 returns : tie.Need-returns Inv-loop μ-loop
 returns c =
-    let a = c .before .before .before .before .before .before .before .args in
-    fails (a .w) (a .k / 2) (c .before .before .before .before .before .loop .i) (a .pages .now) (sym (said (a .w) (a .k / 2) (c .before .before .before .before .before .loop .i) (a .pages .now) _ (c .before .both-erased .ensures)) ∙ not-true _ (c .if1 .taken))
+    let at-loop = c .before .before .before .before .before in
+    let start = at-loop .before .before in
+    let a = start .args in
+    fails (a .w) (a .k / 2) (at-loop .loop .i) (a .pages .now) (sym (said (a .w) (a .k / 2) (at-loop .loop .i) (a .pages .now) _ (c .before .both-erased .ensures)) ∙ not-true _ (c .if1 .taken))
 
 add-i : tie.Need-add-i Inv-loop μ-loop
 add-i c = omega arith
@@ -108,14 +126,16 @@ loop-less c = search needs
 
 loop-again : tie.Need-loop-again Inv-loop μ-loop
 loop-again c =
-    let a = c .before .before .before .before .before .before .before .args in
-    let i = c .before .before .before .before .before .loop .i in
+    let at-loop = c .before .before .before .before .before in
+    let start = at-loop .before .before in
+    let a = start .args in
+    let i = at-loop .loop .i in
     let l = a .pages .now in
     let e : allAre 255 (part (a .w) i l) && allAre 255 (part (a .w) (a .k / 2 + i) l) ≡ true =
     sym (said (a .w) (a .k / 2) i l _ (c .before .both-erased .ensures)) ∙ not-false _ (c .if1 .left) in (
       omega arith,
-      parts-more 255 (a .w) i l (c .before .before .before .before .before .loop .inv .1) (and-left (allAre 255 (part (a .w) i l)) _ e),
-      parts-more 255 (a .w) i (drop (a .k / 2 * a .w) l) (c .before .before .before .before .before .loop .inv .2) (rw (part-from (a .w) (a .k / 2) i l) (and-right (allAre 255 (part (a .w) i l)) e)),
+      parts-more 255 (a .w) i l (at-loop .loop .inv .1) (and-left (allAre 255 (part (a .w) i l)) _ e),
+      parts-more 255 (a .w) i (drop (a .k / 2 * a .w) l) (at-loop .loop .inv .2) (rw (part-from (a .w) (a .k / 2) i l) (and-right (allAre 255 (part (a .w) i l)) e)),
     )
 
 -- the halves end in what is lent
@@ -123,16 +143,24 @@ rest : (a : tie.Start Inv-loop μ-loop) → (a .args .k / 2 + a .args .k / 2) * 
 rest a = rw (a .pre) (mul-le-mul-right (a .args .w) (half (a .args .k)))
 
 add-z : tie.Need-add-z Inv-loop μ-loop
-add-z c = omega (arith, half (c .before .before .before .args .k))
+add-z c =
+    let start = c .before .before .before in
+    omega (arith, half (start .args .k))
 
 mul-z : tie.Need-mul-z Inv-loop μ-loop
-mul-z c = omega (arith, rest (c .before .before .before))
+mul-z c =
+    let start = c .before .before .before in
+    omega (arith, rest start)
 
 sub-is-erased : tie.Need-sub-is-erased Inv-loop μ-loop
-sub-is-erased c = omega (arith, rest (c .before .before .before))
+sub-is-erased c =
+    let start = c .before .before .before in
+    omega (arith, rest start)
 
 part-is-erased-start : tie.Need-part-is-erased-start Inv-loop μ-loop
-part-is-erased-start c = omega (arith, rest (c .before .before .before))
+part-is-erased-start c =
+    let start = c .before .before .before in
+    omega (arith, rest start)
 
 part-is-erased-end : tie.Need-part-is-erased-end Inv-loop μ-loop
 part-is-erased-end c = search needs
@@ -142,14 +170,16 @@ is-erased-requires c κs = search needs
 
 returns-2 : tie.Need-returns-2 Inv-loop μ-loop
 returns-2 c =
-    let a = c .before .before .before .before .before in
+    let at-loop = c .before .before .before in
+    let start = at-loop .before .before in
+    let a = start in
     let l = a .args .pages .now in
     let n = a .args .k / 2 * a .args .w in
     let z : ℕ = (a .args .k / 2 + a .args .k / 2) * a .args .w in
-    let i : c .before .before .before .loop .i ≡ a .args .k / 2 = omega (arith, c .before .before .loop-test .left, c .before .before .before .loop .inv .0) in
+    let i : at-loop .loop .i ≡ a .args .k / 2 = omega (arith, c .before .before .loop-test .left, at-loop .loop .inv .0) in
     let m : n + n ≡ (a .args .k / 2 + a .args .k / 2) * a .args .w = sym (add-mul (a .args .k / 2) (a .args .k / 2) (a .args .w)) in
     let t : take (length l - z) (drop z l) ≡ drop z l = take-all (length l - z) (drop z l) (simp length-drop (omega arith)) in
-    c .is-erased .ensures ∙ ap (allAre 255) t ∙ sym (rw m at (halves 255 n l (rw i at (c .before .before .before .loop .inv .1)) (rw i at (c .before .before .before .loop .inv .2))))
+    c .is-erased .ensures ∙ ap (allAre 255) t ∙ sym (rw m at (halves 255 n l (rw i at (at-loop .loop .inv .1)) (rw i at (at-loop .loop .inv .2))))
 
 pub are-erased-spec : {M : Type 1} → statement M
 are-erased-spec =

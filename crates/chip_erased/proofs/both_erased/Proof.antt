@@ -36,7 +36,8 @@ loop-less c = search needs
 
 loop-again : tie.Need-loop-again Inv-loop μ-loop
 loop-again c =
-    let at = c .before .before .before in
+    let start = c .before .before .before in
+    let at = start in
     let s = at .before .args .a .now in
     let t = at .before .args .b .now in
     let i = at .loop .i in

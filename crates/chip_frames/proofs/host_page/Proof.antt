@@ -12,13 +12,19 @@ add-end : tie.Need-add-end
 add-end c = search needs
 
 sub-a : tie.Need-sub-a
-sub-a c = let a = c .before .before .before in (given-in _ _ (a .args .count) (c .if1 .taken)) .0
+sub-a c =
+    let start = c .before .before .before in
+    let a = start in (given-in _ _ (a .args .count) (c .if1 .taken)) .0
 
 mul-a : tie.Need-mul-a
-mul-a c = let a = c .before .before .before in omega (arith, given-fits (a .args .s) (a .args .off) (a .args .j) (a .args .count) (a .args .bytes .now) (c .if1 .taken) (a .pre .given))
+mul-a c =
+    let start = c .before .before .before in
+    let a = start in omega (arith, given-fits (a .args .s) (a .args .off) (a .args .j) (a .args .count) (a .args .bytes .now) (c .if1 .taken) (a .pre .given))
 
 add-b : tie.Need-add-b
-add-b c = let a = c .before .before .before in omega (arith, given-fits (a .args .s) (a .args .off) (a .args .j) (a .args .count) (a .args .bytes .now) (c .if1 .taken) (a .pre .given))
+add-b c =
+    let start = c .before .before .before in
+    let a = start in omega (arith, given-fits (a .args .s) (a .args .off) (a .args .j) (a .args .count) (a .args .bytes .now) (c .if1 .taken) (a .pre .given))
 
 sub-program-at : tie.Need-sub-program-at
 sub-program-at c = search needs
@@ -27,19 +33,26 @@ part-program-at-start : tie.Need-part-program-at-start
 part-program-at-start c = search needs
 
 part-program-at-end : tie.Need-part-program-at-end
-part-program-at-end c = let a = c .before .before .before .before in given-fits (a .args .s) (a .args .off) (a .args .j) (a .args .count) (a .args .bytes .now) (c .before .if1 .taken) (a .pre .given)
+part-program-at-end c =
+    let start = c .before .before .before .before in
+    let a = start in given-fits (a .args .s) (a .args .off) (a .args .j) (a .args .count) (a .args .bytes .now) (c .before .if1 .taken) (a .pre .given)
 
 cast-program-at : tie.Need-cast-program-at
 cast-program-at c = search needs
 
 program-at-requires : tie.Need-program-at-requires
-program-at-requires c κs = given-asked _ _ _ _ _ _ _ _ _ _ (c .before .before .before .before .before .pre) (c .before .before .if1 .taken)
+program-at-requires c κs =
+    let start = c .before .before .before .before .before in
+    given-asked _ _ _ _ _ _ _ _ _ _ (start .pre) (c .before .before .if1 .taken)
 
 same-length : tie.Need-same-length
 same-length c = search needs
 
 returns : tie.Need-returns
-returns c = given-done _ _ _ _ _ _ _ _ _ _ (c .before .before .before .before .before .before .before .before .pre) _ (c .before .before .before .before .before .if1 .taken) (c .before .before .program-at .ensures)
+returns c =
+    let at-if1 = c .before .before .before .before .before in
+    let start = at-if1 .before .before .before in
+    given-done _ _ _ _ _ _ _ _ _ _ (start .pre) _ (at-if1 .if1 .taken) (c .before .before .program-at .ensures)
 
 add-copy-at : tie.Need-add-copy-at
 add-copy-at c = search needs
@@ -52,7 +65,10 @@ same-length-2 c = search needs
 
 returns-2 : tie.Need-returns-2
 returns-2 c =
-    kept-done _ _ _ _ _ _ _ _ _ _ (c .before .before .before .before .before .before .before .before .pre) _ (c .before .before .before .before .before .if1 .left) (c .before .before .before .before .if2 .taken) (c .before .before .copy-at .ensures)
+    let at-if2 = c .before .before .before .before in
+    let at-if1 = at-if2 .before in
+    let start = at-if1 .before .before .before in
+    kept-done _ _ _ _ _ _ _ _ _ _ (start .pre) _ (at-if1 .if1 .left) (at-if2 .if2 .taken) (c .before .before .copy-at .ensures)
 
 cast-program-blank-at : tie.Need-cast-program-blank-at
 cast-program-blank-at c = search needs
@@ -65,7 +81,10 @@ same-length-3 c = search needs
 
 returns-3 : tie.Need-returns-3
 returns-3 c =
-    blank-done _ _ _ _ _ _ _ _ _ _ (c .before .before .before .before .before .before .before .before .pre) _ (c .before .before .before .before .before .if1 .left) (c .before .before .before .before .if2 .left) (c .before .before .program-blank-at .ensures)
+    let at-if2 = c .before .before .before .before in
+    let at-if1 = at-if2 .before in
+    let start = at-if1 .before .before .before in
+    blank-done _ _ _ _ _ _ _ _ _ _ (start .pre) _ (at-if1 .if1 .left) (at-if2 .if2 .left) (c .before .before .program-blank-at .ensures)
 
 pub host-page-spec : {M : Type 1} → statement M
 host-page-spec =

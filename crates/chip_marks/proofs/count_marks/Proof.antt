@@ -43,7 +43,9 @@ loop-less c = search needs
 
 loop-again : tie.Need-loop-again Inv-loop μ-loop
 loop-again c =
-    let at = c .before .before .before .before in
+    let at-loop-test = c .before .before .before in
+    let start = at-loop-test .before in
+    let at = start in
     let a = at .before .before in
     let x = a .args in
     let w = at .loop .w in
@@ -53,7 +55,7 @@ loop-again c =
       λ m e.
           count-word (m (x .r) (x .v .0)) w (at .loop .n) (c .count .result) (at .loop .inv .2 m e)
           (c .count .ensures .1 (λ j. m (x .r) (x .v .0) (64 * w + j))
-          (word-read (x .p) m (x .marks .now) (x .r) (x .v .0) w (i .result) e (a .pre .region) (a .pre .vblock) (omega (arith, c .before .before .before .loop-test .taken)) (i .ensures .0))),
+          (word-read (x .p) m (x .marks .now) (x .r) (x .v .0) w (i .result) e (a .pre .region) (a .pre .vblock) (omega (arith, at-loop-test .loop-test .taken)) (i .ensures .0))),
     )
 
 returns : tie.Need-returns Inv-loop μ-loop

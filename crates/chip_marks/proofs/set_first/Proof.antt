@@ -44,7 +44,9 @@ loop-less c = search needs
 
 loop-again : tie.Need-loop-again Inv-loop μ-loop
 loop-again c =
-    let at = c .before .before .before .before in
+    let at-loop-test = c .before .before .before in
+    let start = at-loop-test .before in
+    let at = start in
     let a = at .before .before in
     let x = a .args in
     let i = c .before .before .word-index in (
@@ -52,7 +54,7 @@ loop-again c =
       simp length-set (at .loop .inv .1),
       λ m e.
           first-stored (x .p) m (at .loop .marks) (x .r) (x .v .0) (x .k) (at .loop .j) (i .result) (c .before .in-word .result) (c .first-bits .result)
-          (at .loop .inv .2 m e) (a .pre .region) (a .pre .vblock) (omega (arith, c .before .before .before .loop-test .taken)) (i .ensures .0) (c .before .in-word .ensures) (c .first-bits .ensures),
+          (at .loop .inv .2 m e) (a .pre .region) (a .pre .vblock) (omega (arith, at-loop-test .loop-test .taken)) (i .ensures .0) (c .before .in-word .ensures) (c .first-bits .ensures),
     )
 
 same-length : tie.Need-same-length Inv-loop μ-loop

@@ -14,8 +14,11 @@ use Rattle.chip_pages.proofs.copy_at.Tie as tie
 mul-x : tie.Need-mul-x
 mul-x c = search needs
 
-page-held : (c : tie.After-hold) → take (c .before .before .before .before .args .w) (c .hold .result) ≡ part (c .before .before .before .before .args .w) (c .before .before .before .before .args .from) (c .before .before .before .before .args .chip .now)
-page-held c = held-part _ _ _ _ (c .before .before .before .before .pre .source) (c .hold .ensures)
+page-held : (c : tie.After-hold) → take (c .before .before .before .before .args .w) (c .hold .result) ≡ part (c .before .before .before .before .args .w)
+    (c .before .before .before .before .args .from) (c .before .before .before .before .args .chip .now)
+page-held c =
+    let start = c .before .before .before .before in
+    held-part _ _ _ _ (start .pre .source) (c .hold .ensures)
 
 add-y : tie.Need-add-y
 add-y c = search needs
@@ -51,19 +54,23 @@ array-share-prefix-buf : tie.Need-array-share-prefix-buf
 array-share-prefix-buf c = search needs
 
 slice-aggregate-program-copy : tie.Need-slice-aggregate-program-copy
-slice-aggregate-program-copy c = sym (ap length (page-held (c .before .before)) ∙ part-length _ _ _ (c .before .before .before .before .before .before .pre .source))
+slice-aggregate-program-copy c =
+    let start = c .before .before .before .before .before .before in
+    sym (ap length (page-held (c .before .before)) ∙ part-length _ _ _ (start .pre .source))
 
 program-copy-requires : tie.Need-program-copy-requires
 unfolding part
 program-copy-requires c κs =
-    rw width (c .before .before .before .before .before .before .pre .page .clean ∙ ap (λ (n : ℕ). replicate n 255) (slice-aggregate-program-copy c))
+    let start = c .before .before .before .before .before .before in
+    rw width (start .pre .page .clean ∙ ap (λ (n : ℕ). replicate n 255) (slice-aggregate-program-copy c))
 
 same-length : tie.Need-same-length
 same-length c = search needs
 
 returns : tie.Need-returns
 returns c =
-    rw (width, c .before .before .program-copy .ensures, page-held (c .before .before .before .before .before)) (back _ _ _ _)
+    let start = c .before .before .before .before .before in
+    rw (width, c .before .before .program-copy .ensures, page-held start) (back _ _ _ _)
 
 pub copy-at-spec : {M : Type 1} → statement M
 copy-at-spec =

@@ -33,7 +33,8 @@ same-length c = search needs
 returns : tie.Need-returns
 unfolding part
 returns c =
-    let a = c .before .before .before .before .before .before in
+    let start = c .before .before .before .before .before .before in
+    let a = start in
     let n : length (part (a .args .w) (a .args .n .0) (a .args .chip .now)) ≡ a .args .w = part-length _ _ _ (a .pre) in
     rw (width, c .before .before .erase .ensures, width) (rw n (back (a .args .w) (a .args .n .0) _ (a .args .chip .now)))
 

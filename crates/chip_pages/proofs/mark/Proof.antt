@@ -17,7 +17,9 @@ slice-aggregate-put c = search needs
 
 put-requires : tie.Need-put-requires
 unfolding spareBytes bytes32
-put-requires c κs = omega (arith, ap length (c .before .before .before .before .pre), ap length (c .before .before .spare-bytes .ensures))
+put-requires c κs =
+    let start = c .before .before .before .before in
+    omega (arith, ap length (start .pre), ap length (c .before .before .spare-bytes .ensures))
 
 same-length : tie.Need-same-length
 same-length c = search needs
@@ -25,8 +27,10 @@ same-length c = search needs
 returns : tie.Need-returns
 unfolding spareBytes bytes32
 returns c =
-    let e : length (c .before .before .before .before .before .before .before .args .spare .now) ≡ length (c .before .before .before .before .before .spare-bytes .result) = ap length (c .before .before .before .before .before .before .before .pre) ∙ sym (ap length (c .before .before .before .before .before .spare-bytes .ensures)) in
-    c .before .before .put .ensures ∙ put-whole _ _ e ∙ c .before .before .before .before .before .spare-bytes .ensures
+    let at-spare-bytes = c .before .before .before .before .before in
+    let start = at-spare-bytes .before .before in
+    let e : length (start .args .spare .now) ≡ length (at-spare-bytes .spare-bytes .result) = ap length (start .pre) ∙ sym (ap length (at-spare-bytes .spare-bytes .ensures)) in
+    c .before .before .put .ensures ∙ put-whole _ _ e ∙ at-spare-bytes .spare-bytes .ensures
 
 pub mark-spec : {M : Type 1} → statement M
 mark-spec = tie.close (tie.spec spare-bytes-requires slice-aggregate-put put-requires same-length returns)

@@ -10,16 +10,20 @@ use Rattle.chip_pages.proofs.program.Statement.{statement}
 use Rattle.chip_pages.proofs.program.Tie as tie
 
 put-requires : tie.Need-put-requires
-put-requires c κs = let a = c .before .before .before in omega (arith, ap length (a .pre) ∙ length-replicate {A = ℕ} (length (a .args .bytes .now) + 16) 255)
+put-requires c κs =
+    let start = c .before .before .before in
+    let a = start in omega (arith, ap length (a .pre) ∙ length-replicate {A = ℕ} (length (a .args .bytes .now) + 16) 255)
 
 sub-mark : tie.Need-sub-mark
 sub-mark c =
-    let a = c .before .before .before .before .before .before in
+    let start = c .before .before .before .before .before .before in
+    let a = start in
     omega (arith, c .before .before .put .kept .0, ap length (a .pre) ∙ length-replicate {A = ℕ} (length (a .args .bytes .now) + 16) 255)
 
 part-mark-start : tie.Need-part-mark-start
 part-mark-start c =
-    let a = c .before .before .before .before .before .before in
+    let start = c .before .before .before .before .before .before in
+    let a = start in
     omega (arith, c .before .before .put .kept .0, ap length (a .pre) ∙ length-replicate {A = ℕ} (length (a .args .bytes .now) + 16) 255)
 
 part-mark-end : tie.Need-part-mark-end
@@ -27,16 +31,20 @@ part-mark-end c = search needs
 
 mark-requires : tie.Need-mark-requires
 mark-requires c κs =
-    let a = c .before .before .before .before .before .before .before in
-    spare-left (a .args .bytes .now) _ _ refl (put-erased (a .args .bytes .now) (a .args .page .now) _ (a .pre) (c .before .before .before .put .ensures))
+    let at-put = c .before .before .before in
+    let start = at-put .before .before .before .before in
+    let a = start in
+    spare-left (a .args .bytes .now) _ _ refl (put-erased (a .args .bytes .now) (a .args .page .now) _ (a .pre) (at-put .put .ensures))
 
 same-length : tie.Need-same-length
 same-length c = search needs
 
 returns : tie.Need-returns
 returns c =
-    let a = c .before .before .before .before .before .before .before .before .before .before in
-    rw (c .before .before .mark .ensures) (page-done (a .args .bytes .now) _ _ refl (put-erased (a .args .bytes .now) (a .args .page .now) _ (a .pre) (c .before .before .before .before .before .before .put .ensures)) _)
+    let at-put = c .before .before .before .before .before .before in
+    let start = at-put .before .before .before .before in
+    let a = start in
+    rw (c .before .before .mark .ensures) (page-done (a .args .bytes .now) _ _ refl (put-erased (a .args .bytes .now) (a .args .page .now) _ (a .pre) (at-put .put .ensures)) _)
 
 pub program-spec : {M : Type 1} → statement M
 program-spec =

@@ -26,7 +26,9 @@ part-program-end c = search needs
 
 program-requires : tie.Need-program-requires
 unfolding part
-program-requires c κs = rw width (c .before .before .before .pre .clean)
+program-requires c κs =
+    let start = c .before .before .before in
+    rw width (start .pre .clean)
 
 same-length : tie.Need-same-length
 same-length c = search needs

@@ -10,14 +10,17 @@ use Rattle.chip_pages.proofs.program_copy.Statement.{statement}
 use Rattle.chip_pages.proofs.program_copy.Tie as tie
 
 put-requires : tie.Need-put-requires
-put-requires c κs = let a = c .before .before .before in omega (arith, ap length (a .pre) ∙ length-replicate {A = ℕ} (length (a .args .bytes .now)) 255)
+put-requires c κs =
+    let start = c .before .before .before in
+    let a = start in omega (arith, ap length (a .pre) ∙ length-replicate {A = ℕ} (length (a .args .bytes .now)) 255)
 
 same-length : tie.Need-same-length
 same-length c = search needs
 
 returns : tie.Need-returns
 returns c =
-    let a = c .before .before .before .before .before .before in
+    let start = c .before .before .before .before .before .before in
+    let a = start in
     c .before .before .put .ensures ∙ put-whole _ _ (ap length (a .pre) ∙ length-replicate {A = ℕ} (length (a .args .bytes .now)) 255)
 
 pub program-copy-spec : {M : Type 1} → statement M

@@ -20,25 +20,37 @@ unfolding tied pages frames
 returns c = rw (lt-leb _ _ (c .if1 .taken))
 
 sub-result : tie.Need-sub-result
-sub-result c = omega (arith, ranged _ (c .before .before .before .before .pre))
+sub-result c =
+    let start = c .before .before .before .before in
+    omega (arith, ranged _ (start .pre))
 
 add-result : tie.Need-add-result
-add-result c = omega (arith, ranged _ (c .before .before .before .before .before .pre))
+add-result c =
+    let start = c .before .before .before .before .before in
+    omega (arith, ranged _ (start .pre))
 
 div-result : tie.Need-div-result
-div-result c = omega (arith, ranged _ (c .before .before .before .before .before .before .pre))
+div-result c =
+    let start = c .before .before .before .before .before .before in
+    omega (arith, ranged _ (start .pre))
 
 mul-result : tie.Need-mul-result
-mul-result c = omega (arith, ranged _ (c .before .before .before .before .before .before .before .pre))
+mul-result c =
+    let start = c .before .before .before .before .before .before .before in
+    omega (arith, ranged _ (start .pre))
 
 sub-result-2 : tie.Need-sub-result-2
-sub-result-2 c = omega (arith, ranged _ (c .before .before .before .before .before .before .before .pre))
+sub-result-2 c =
+    let start = c .before .before .before .before .before .before .before in
+    omega (arith, ranged _ (start .pre))
 
 returns-2 : tie.Need-returns-2
 unfolding tied pages frames perRegion
 returns-2 c =
-    let p = c .before .before .before .before .before .before .before .args .p in
-    rw (le-leb (p .alpha * (p .beta * p .d)) 256 (c .before .before .before .before .if1 .left))
+    let at-if1 = c .before .before .before .before in
+    let start = at-if1 .before .before .before in
+    let p = start .args .p in
+    rw (le-leb (p .alpha * (p .beta * p .d)) 256 (at-if1 .if1 .left))
 
 pub are-tied-spec : {M : Type 1} → statement M
 are-tied-spec =

@@ -17,16 +17,22 @@ mul-all : tie.Need-mul-all
 mul-all c = let z = sizes _ (c .before .before .pre) in rw (c .before .block-bytes .ensures) (omega (arith, z .chipHigh))
 
 mul-named : tie.Need-mul-named
-mul-named c = let z = sizes _ (c .before .before .before .pre) in omega (arith, z .tableHigh)
+mul-named c =
+    let start = c .before .before .before in
+    let z = sizes _ (start .pre) in omega (arith, z .tableHigh)
 
 mul-result : tie.Need-mul-result
-mul-result c = let z = sizes _ (c .before .before .before .before .before .before .before .pre) in omega (arith, z .tableHigh)
+mul-result c =
+    let start = c .before .before .before .before .before .before .before in
+    let z = sizes _ (start .pre) in omega (arith, z .tableHigh)
 
 returns : tie.Need-returns
 unfolding lengthsFit allTrue
 returns c =
-    let a = c .before .before .before .before .before .before .before in
-    λ b h t n l k w m. rw (h, t, n, l, k, w, m, c .before .before .before .before .before .before .block-bytes .ensures, chip-size (a .args .p)) (simp (and-assoc, and-true))
+    let at-block-bytes = c .before .before .before .before .before .before in
+    let start = at-block-bytes .before in
+    let a = start in
+    λ b h t n l k w m. rw (h, t, n, l, k, w, m, at-block-bytes .block-bytes .ensures, chip-size (a .args .p)) (simp (and-assoc, and-true))
 
 pub lengths-fit-spec : {M : Type 1} → statement M
 lengths-fit-spec = tie.close (tie.spec block-bytes-requires mul-all mul-named mul-result returns)

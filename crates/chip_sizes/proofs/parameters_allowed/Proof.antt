@@ -16,8 +16,9 @@ are-tied-requires c κs = cc
 
 returns : tie.Need-returns
 returns c =
-    let e : inRanges (c .before .before .before .args .p) ≡ true = cc in
-    rw (← (allowed-is (c .before .before .before .args .p)), e) (c .are-tied .ensures)
+    let start = c .before .before .before in
+    let e : inRanges (start .args .p) ≡ true = cc in
+    rw (← (allowed-is (start .args .p)), e) (c .are-tied .ensures)
 
 returns-2 : tie.Need-returns-2
 returns-2 c =

@@ -59,11 +59,14 @@ add-result-3 c = search needs
 
 returns : tie.Need-returns
 returns c =
-    let at = c .before .before .before .before .before .before .before .before .before in
+    let at-wide2 = c .before .before .before .before in
+    let at-wide = at-wide2 .before .before in
+    let start = at-wide .before .before .before in
+    let at = start in
     let w4 = c .wide4 .ensures in
     let w3 = c .before .before .wide3 .ensures in
-    let w2 = c .before .before .before .before .wide2 .ensures in
-    let w1 = c .before .before .before .before .before .before .wide .ensures in
+    let w2 = at-wide2 .wide2 .ensures in
+    let w1 = at-wide .wide .ensures in
     (omega (arith, four-bytes (at .args .a) (at .args .part .now)), omega arith)
 
 pub half-spec : {M : Type 1} → statement M

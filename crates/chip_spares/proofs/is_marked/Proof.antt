@@ -22,13 +22,19 @@ mul-a : tie.Need-mul-a
 mul-a c = omega (arith, end (c .before .before) (c .page-bytes .result) (c .page-bytes .ensures))
 
 add-a : tie.Need-add-a
-add-a c = omega (arith, end (c .before .before .before) (c .before .page-bytes .result) (c .before .page-bytes .ensures))
+add-a c =
+    let start = c .before .before .before in
+    omega (arith, end start (c .before .page-bytes .result) (c .before .page-bytes .ensures))
 
 add-b : tie.Need-add-b
-add-b c = omega (arith, end (c .before .before .before) (c .before .page-bytes .result) (c .before .page-bytes .ensures))
+add-b c =
+    let start = c .before .before .before in
+    omega (arith, end start (c .before .page-bytes .result) (c .before .page-bytes .ensures))
 
 cast-spare-bytes : tie.Need-cast-spare-bytes
-cast-spare-bytes c = let z = sizes _ (c .before .before .before .pre .0) in omega (arith, z .alphaHigh, c .before .before .before .pre .1 .1)
+cast-spare-bytes c =
+    let start = c .before .before .before in
+    let z = sizes _ (start .pre .0) in omega (arith, z .alphaHigh, start .pre .1 .1)
 
 spare-bytes-requires : tie.Need-spare-bytes-requires
 spare-bytes-requires c κs = search needs
@@ -40,7 +46,9 @@ part-same-start : tie.Need-part-same-start
 part-same-start c = search needs
 
 part-same-end : tie.Need-part-same-end
-part-same-end c = omega (arith, end (c .before .before .before .before) (c .before .before .page-bytes .result) (c .before .before .page-bytes .ensures))
+part-same-end c =
+    let start = c .before .before .before .before in
+    omega (arith, end start (c .before .before .page-bytes .result) (c .before .before .page-bytes .ensures))
 
 slice-aggregate-same : tie.Need-slice-aggregate-same
 slice-aggregate-same c = search needs
@@ -49,7 +57,10 @@ same-requires : tie.Need-same-requires
 same-requires c κs = search needs
 
 returns : tie.Need-returns
-returns c = cc (spare-lent (c .before .before .before .before .before .before .before .args .p) (c .before .before .before .before .before .before .before .args .frame .now) (c .before .before .before .before .before .before .before .args .j) (c .before .before .before .before .before .page-bytes .result) (c .before .before .before .before .before .page-bytes .ensures))
+returns c =
+    let at-page-bytes = c .before .before .before .before .before in
+    let start = at-page-bytes .before .before in
+    cc (spare-lent (start .args .p) (start .args .frame .now) (start .args .j) (at-page-bytes .page-bytes .result) (at-page-bytes .page-bytes .ensures))
 
 pub is-marked-spec : {M : Type 1} → statement M
 is-marked-spec =

@@ -9,16 +9,24 @@ use Rattle.chip_spares.proofs.same.Statement.{statement}
 use Rattle.chip_spares.proofs.same.Tie as tie
 
 slice-aggregate-word : tie.Need-slice-aggregate-word
-slice-aggregate-word c = sym (length-take-le 8 (c .before .before .before .args .a .now) (omega (arith, c .before .before .before .pre .0)))
+slice-aggregate-word c =
+    let start = c .before .before .before in
+    sym (length-take-le 8 (start .args .a .now) (omega (arith, start .pre .0)))
 
 word-requires : tie.Need-word-requires
-word-requires c κs = length-take-le 8 (c .before .before .before .args .a .now) (omega (arith, c .before .before .before .pre .0))
+word-requires c κs =
+    let start = c .before .before .before in
+    length-take-le 8 (start .args .a .now) (omega (arith, start .pre .0))
 
 slice-aggregate-word-2 : tie.Need-slice-aggregate-word-2
-slice-aggregate-word-2 c = sym (length-take-le 8 (c .before .before .before .before .before .args .b .now) (omega (arith, c .before .before .before .before .before .pre .1)))
+slice-aggregate-word-2 c =
+    let start = c .before .before .before .before .before in
+    sym (length-take-le 8 (start .args .b .now) (omega (arith, start .pre .1)))
 
 word-requires-2 : tie.Need-word-requires-2
-word-requires-2 c κs = length-take-le 8 (c .before .before .before .before .before .args .b .now) (omega (arith, c .before .before .before .before .before .pre .1))
+word-requires-2 c κs =
+    let start = c .before .before .before .before .before in
+    length-take-le 8 (start .args .b .now) (omega (arith, start .pre .1))
 
 sub-word : tie.Need-sub-word
 sub-word c = search needs
@@ -46,9 +54,15 @@ word-requires-4 c κs = search needs
 
 returns : tie.Need-returns
 returns c =
-    let at = c .before .before .before .before .before .before .before .before .before .before in
-    same-words (at .args .a .now) (at .args .b .now) _ _ _ _ (at .pre .0) (at .pre .1) (λ i. omega (arith, c .before .before .before .before .before .before .before .before .before .shared-slice-known .given i)) (λ i. omega (arith, c .before .before .before .before .before .before .before .before .shared-slice-known2 .given i))
-    (c .before .before .before .before .before .before .word .ensures) (c .before .before .before .before .word2 .ensures) (c .before .before .word3 .ensures) (c .word4 .ensures)
+    let at-word2 = c .before .before .before .before in
+    let at-word = at-word2 .before .before in
+    let at-shared-slice-known2 = at-word .before .before in
+    let at-shared-slice-known = at-shared-slice-known2 .before in
+    let start = at-shared-slice-known .before in
+    let at = start in
+    same-words (at .args .a .now) (at .args .b .now) _ _ _ _ (at .pre .0) (at .pre .1) (λ i. omega (arith, at-shared-slice-known .shared-slice-known .given i))
+    (λ i. omega (arith, at-shared-slice-known2 .shared-slice-known2 .given i))
+    (at-word .word .ensures) (at-word2 .word2 .ensures) (c .before .before .word3 .ensures) (c .word4 .ensures)
 
 pub same-spec : {M : Type 1} → statement M
 same-spec =

@@ -19,7 +19,9 @@ add-result : tie.Need-add-result
 add-result c = search needs
 
 returns : tie.Need-returns
-returns c = omega (arith, two-halves (c .before .before .before .args .part .now) (c .before .before .before .pre))
+returns c =
+    let start = c .before .before .before in
+    omega (arith, two-halves (start .args .part .now) (start .pre))
 
 pub word-spec : {M : Type 1} → statement M
 word-spec = tie.close (tie.spec half-requires half-requires-2 mul-result add-result returns)

@@ -15,10 +15,14 @@ mul-i : tie.Need-mul-i
 mul-i c = omega (arith, inside (c .before .before))
 
 add-i : tie.Need-add-i
-add-i c = omega (arith, inside (c .before .before .before))
+add-i c =
+    let start = c .before .before .before in
+    omega (arith, inside start)
 
 bt-entry-requires : tie.Need-bt-entry-requires
-bt-entry-requires c κs = omega (arith, inside (c .before .before .before))
+bt-entry-requires c κs =
+    let start = c .before .before .before in
+    omega (arith, inside start)
 
 returns : tie.Need-returns
 unfolding btAt

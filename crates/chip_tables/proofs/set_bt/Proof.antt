@@ -21,10 +21,14 @@ cast-bt : tie.Need-cast-bt
 cast-bt c = search needs
 
 mul-bt : tie.Need-mul-bt
-mul-bt c = omega (arith, inside (c .before .before .before))
+mul-bt c =
+    let start = c .before .before .before in
+    omega (arith, inside start)
 
 slice-write-bt : tie.Need-slice-write-bt
-slice-write-bt c = inside (c .before .before .before)
+slice-write-bt c =
+    let start = c .before .before .before in
+    inside start
 
 same-length : tie.Need-same-length
 same-length c = search needs

@@ -43,8 +43,11 @@ same-length-8 c = search needs
 
 returns : tie.Need-returns
 returns c =
-    let a = c .before .before .before .before .before .before .before .before .before .before .before .before .before .before .before .before .before .before .before .before .before .before .before .before .before .before .before .before .before .before .before .before .before .before .before .before in
-    c .before .before .before .before .before .before .before .before .before .before .before .before .before .before .before .before .queue .ensures ∙ ap (λ (p : Params). flatCall p (board a) (a .args .requests .now) (a .args .bytes .now) (a .args .answers .now)) (c .before .before .before .before .before .before .before .before .before .before .before .before .before .before .before .before .before .before .before .before .before .before .before .before .before .params .ensures)
+    let at-queue = c .before .before .before .before .before .before .before .before .before .before .before .before .before .before .before .before in
+    let at-params = at-queue .before .before .before .before .before .before .before .before .before in
+    let start = at-params .before .before .before .before .before .before .before .before .before .before .before in
+    let a = start in
+    at-queue .queue .ensures ∙ ap (λ (p : Params). flatCall p (board a) (a .args .requests .now) (a .args .bytes .now) (a .args .answers .now)) (at-params .params .ensures)
 
 pub cnftl-queue-spec : {M : Type 1} → statement M
 cnftl-queue-spec =

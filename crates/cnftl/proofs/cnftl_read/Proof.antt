@@ -16,13 +16,20 @@ read-requires : tie.Need-read-requires
 read-requires c κs = search needs
 
 pack-requires : tie.Need-pack-requires
-pack-requires c κs = few _ _ (c .before .before .before .before .params .ensures) _ _ (board (c .before .before .before .before .before .before .before .before .before .before .before .before .before)) _ _ (c .before .before .read .ensures)
+pack-requires c κs =
+    let at-params = c .before .before .before .before in
+    let start = at-params .before .before .before .before .before .before .before .before .before in
+    few _ _ (at-params .params .ensures) _ _ (board start) _ _ (c .before .before .read .ensures)
 
 same-length : tie.Need-same-length
 same-length c = search needs
 
 returns : tie.Need-returns
-returns c = given _ _ (c .before .before .before .before .before .params .ensures) _ _ (board (c .before .before .before .before .before .before .before .before .before .before .before .before .before .before)) _ _ (c .before .before .before .read .ensures) _ (c .pack .ensures)
+returns c =
+    let at-read = c .before .before .before in
+    let at-params = at-read .before .before in
+    let start = at-params .before .before .before .before .before .before .before .before .before in
+    given _ _ (at-params .params .ensures) _ _ (board start) _ _ (at-read .read .ensures) _ (c .pack .ensures)
 
 pub cnftl-read-spec : {M : Type 1} → statement M
 cnftl-read-spec = tie.close (tie.spec params-requires read-requires pack-requires same-length returns)

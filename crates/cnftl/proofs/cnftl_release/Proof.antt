@@ -16,16 +16,26 @@ release-requires : tie.Need-release-requires
 release-requires c κs = search needs
 
 pack-requires : tie.Need-pack-requires
-pack-requires c κs = few _ _ (c .before .before .before .before .before .before .before .params .ensures) _ _ (board (c .before .before .before .before .before .before .before .before .before .before .before .before .before .before .before)) _ _ (c .before .before .before .before .release .ensures)
+pack-requires c κs =
+    let at-release = c .before .before .before .before in
+    let at-params = at-release .before .before .before in
+    let start = at-params .before .before .before .before .before .before .before .before in
+    few _ _ (at-params .params .ensures) _ _ (board start) _ _ (at-release .release .ensures)
 
 same-length : tie.Need-same-length
-same-length c = c .before .before .before .before .ct .given
+same-length c =
+    let at-ct = c .before .before .before .before in
+    at-ct .ct .given
 
 same-length-2 : tie.Need-same-length-2
 same-length-2 c = c .before .before .marks .given
 
 returns : tie.Need-returns
-returns c = given _ _ (c .before .before .before .before .before .before .before .before .params .ensures) _ _ (board (c .before .before .before .before .before .before .before .before .before .before .before .before .before .before .before .before)) _ _ (c .before .before .before .before .before .release .ensures) _ (c .pack .ensures)
+returns c =
+    let at-release = c .before .before .before .before .before in
+    let at-params = at-release .before .before .before in
+    let start = at-params .before .before .before .before .before .before .before .before in
+    given _ _ (at-params .params .ensures) _ _ (board start) _ _ (at-release .release .ensures) _ (c .pack .ensures)
 
 pub cnftl-release-spec : {M : Type 1} → statement M
 cnftl-release-spec = tie.close (tie.spec params-requires release-requires pack-requires same-length same-length-2 returns)

@@ -16,10 +16,16 @@ parameters-allowed-requires : tie.Need-parameters-allowed-requires
 parameters-allowed-requires c κs = search needs
 
 returns : tie.Need-returns
-returns c = unlisted _ (board (c .before .before .before .before .before .before .before .before .before .before .before .before)) _ _ (c .before .before .if1 .taken) _ (rw (c .before .before .before .params .ensures) at (c .before .parameters-allowed .ensures)) _ (rw (c .if2 .taken))
+returns c =
+    let at-params = c .before .before .before in
+    let start = at-params .before .before .before .before .before .before .before .before .before in
+    unlisted _ (board start) _ _ (c .before .before .if1 .taken) _ (rw (at-params .params .ensures) at (c .before .parameters-allowed .ensures)) _ (rw (c .if2 .taken))
 
 returns-2 : tie.Need-returns-2
-returns-2 c = unlisted _ (board (c .before .before .before .before .before .before .before .before .before .before .before .before)) _ _ (c .before .before .if1 .taken) _ (rw (c .before .before .before .params .ensures) at (c .before .parameters-allowed .ensures)) _ (rw (c .if2 .left))
+returns-2 c =
+    let at-params = c .before .before .before in
+    let start = at-params .before .before .before .before .before .before .before .before .before in
+    unlisted _ (board start) _ _ (c .before .before .if1 .taken) _ (rw (at-params .params .ensures) at (c .before .parameters-allowed .ensures)) _ (rw (c .if2 .left))
 
 explain-requires : tie.Need-explain-requires
 explain-requires c κs = search needs
@@ -31,7 +37,13 @@ same-length : tie.Need-same-length
 same-length c = search needs
 
 returns-3 : tie.Need-returns-3
-returns-3 c = listed _ (board (c .before .before .before .before .before .before .before .before .before .before .before .before .before .before .before)) _ _ (c .before .before .before .before .before .if1 .left) _ (rw (c .before .before .before .before .before .before .params .ensures) at (c .before .before .before .before .explain .ensures .0)) _ (c .before .before .tell .ensures .0) _ (c .before .before .tell .ensures .1)
+returns-3 c =
+    let at-explain = c .before .before .before .before in
+    let at-if1 = at-explain .before in
+    let at-params = at-if1 .before in
+    let start = at-params .before .before .before .before .before .before .before .before .before in
+    listed _ (board start) _ _ (at-if1 .if1 .left) _ (rw (at-params .params .ensures) at (at-explain .explain .ensures .0)) _ (c .before .before .tell .ensures .0) _
+    (c .before .before .tell .ensures .1)
 
 pub cnftl-why-spec : {M : Type 1} → statement M
 cnftl-why-spec = tie.close (tie.spec params-requires parameters-allowed-requires returns returns-2 explain-requires tell-requires same-length returns-3)

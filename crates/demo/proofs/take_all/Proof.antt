@@ -9,7 +9,8 @@ use Rattle.demo.proofs.take_all.Statement.{statement}
 use Rattle.demo.proofs.take_all.Tie as tie
 
 abbrev Inv-loop : tie.InvT-loop
-Inv-loop chip₀ ct₀ bt₀ fst₀ bst₀ wear₀ marks₀ s h₀ i₀ chip ct bt fst bst wear marks h i = (length chip ≡ length chip₀) × (length ct ≡ length ct₀) × (length bt ≡ length bt₀) × (length fst ≡ length fst₀) × (length bst ≡ length bst₀) × (length wear ≡ length wear₀) × (length marks ≡ length marks₀)
+Inv-loop chip₀ ct₀ bt₀ fst₀ bst₀ wear₀ marks₀ s h₀ i₀ chip ct bt fst bst wear marks h i = (length chip ≡ length chip₀) × (length ct ≡ length ct₀) × (length bt ≡ length bt₀)
+    × (length fst ≡ length fst₀) × (length bst ≡ length bst₀) × (length wear ≡ length wear₀) × (length marks ≡ length marks₀)
 
 abbrev μ-loop : tie.MeasureT-loop
 μ-loop chip₀ ct₀ bt₀ fst₀ bst₀ wear₀ marks₀ s h₀ i₀ chip ct bt fst bst wear marks h i = length s - i
@@ -24,14 +25,24 @@ take-requires : tie.Need-take-requires Inv-loop μ-loop
 take-requires c κs = search needs
 
 add-i : tie.Need-add-i Inv-loop μ-loop
-add-i c = omega (arith, c .before .before .before .before .before .before .before .before .before .before .before .before .before .before .before .before .before .before .before .before .before .before .before .loop-test .taken, c .before .before .before .before .before .before .before .before .before .before .before .before .before .before .before .before .before .before .before .before .before .before .before .before .before .before .before .before .before .before .before .before .before)
+add-i c =
+    let at-loop-test = c .before .before .before .before .before .before .before .before .before .before .before
+    .before .before .before .before .before .before .before .before .before .before .before .before in
+    let start = at-loop-test .before .before .before .before .before .before .before .before .before .before in
+    omega (arith, at-loop-test .loop-test .taken, start)
 
 loop-less : tie.Need-loop-less Inv-loop μ-loop
-loop-less c = omega (arith, c .before .before .before .before .before .before .before .before .before .before .before .before .before .before .before .before .before .before .before .before .before .before .before .loop-test .taken)
+loop-less c =
+    let at-loop-test = c .before .before .before .before .before .before .before .before .before .before .before
+    .before .before .before .before .before .before .before .before .before .before .before .before in
+    omega (arith, at-loop-test .loop-test .taken)
 
 loop-again : tie.Need-loop-again Inv-loop μ-loop
-loop-again c = let w = c .before .before .before .before .before .before .before .before .before .before .before .before .before .before .before .before .before .before .before .before .before .before .before .before .loop .inv in
-    let k = c .before .before .before .before .before .before .before .before .before .before .before .before .before .before .take .kept in
+loop-again c =
+    let at-take = c .before .before .before .before .before .before .before .before .before .before .before .before .before .before in
+    let at-loop = at-take .before .before .before .before .before .before .before .before .before .before in
+    let w = at-loop .loop .inv in
+    let k = at-take .take .kept in
     (k .0 ∙ w .0, k .1 .0 ∙ w .1, k .1 .1 .0 ∙ w .2, k .1 .1 .1 .0 ∙ w .3, k .1 .1 .1 .1 .0 ∙ w .4, k .1 .1 .1 .1 .1 .0 ∙ w .5, k .1 .1 .1 .1 .1 .1 .0 ∙ w .6)
 
 same-length : tie.Need-same-length Inv-loop μ-loop

@@ -8,7 +8,8 @@ use Rattle.demo.proofs.take_input.Statement.{statement}
 use Rattle.demo.proofs.take_input.Tie as tie
 
 abbrev Inv-loop : tie.InvT-loop
-Inv-loop chip₀ ct₀ bt₀ fst₀ bst₀ wear₀ marks₀ held₀ chunk₀ turns₀ chip ct bt fst bst wear marks held chunk turns = (length chip ≡ length chip₀) × (length ct ≡ length ct₀) × (length bt ≡ length bt₀) × (length fst ≡ length fst₀) × (length bst ≡ length bst₀) × (length wear ≡ length wear₀) × (length marks ≡ length marks₀)
+Inv-loop chip₀ ct₀ bt₀ fst₀ bst₀ wear₀ marks₀ held₀ chunk₀ turns₀ chip ct bt fst bst wear marks held chunk turns = (length chip ≡ length chip₀) × (length ct ≡ length ct₀)
+    × (length bt ≡ length bt₀) × (length fst ≡ length fst₀) × (length bst ≡ length bst₀) × (length wear ≡ length wear₀) × (length marks ≡ length marks₀)
 
 abbrev μ-loop : tie.MeasureT-loop
 μ-loop chip₀ ct₀ bt₀ fst₀ bst₀ wear₀ marks₀ held₀ chunk₀ turns₀ chip ct bt fst bst wear marks held chunk turns = turns
@@ -32,25 +33,39 @@ count-requires : tie.Need-count-requires Inv-loop μ-loop
 count-requires c κs = search needs
 
 same-length : tie.Need-same-length Inv-loop μ-loop
-same-length c = c .before .before .before .before .before .before .before .before .before .loop .inv .0
+same-length c =
+    let at-loop = c .before .before .before .before .before .before .before .before .before in
+    at-loop .loop .inv .0
 
 same-length-2 : tie.Need-same-length-2 Inv-loop μ-loop
-same-length-2 c = c .before .before .before .before .before .before .before .before .before .loop .inv .1
+same-length-2 c =
+    let at-loop = c .before .before .before .before .before .before .before .before .before in
+    at-loop .loop .inv .1
 
 same-length-3 : tie.Need-same-length-3 Inv-loop μ-loop
-same-length-3 c = c .before .before .before .before .before .before .before .before .before .loop .inv .2
+same-length-3 c =
+    let at-loop = c .before .before .before .before .before .before .before .before .before in
+    at-loop .loop .inv .2
 
 same-length-4 : tie.Need-same-length-4 Inv-loop μ-loop
-same-length-4 c = c .before .before .before .before .before .before .before .before .before .loop .inv .3
+same-length-4 c =
+    let at-loop = c .before .before .before .before .before .before .before .before .before in
+    at-loop .loop .inv .3
 
 same-length-5 : tie.Need-same-length-5 Inv-loop μ-loop
-same-length-5 c = c .before .before .before .before .before .before .before .before .before .loop .inv .4
+same-length-5 c =
+    let at-loop = c .before .before .before .before .before .before .before .before .before in
+    at-loop .loop .inv .4
 
 same-length-6 : tie.Need-same-length-6 Inv-loop μ-loop
-same-length-6 c = c .before .before .before .before .before .before .before .before .before .loop .inv .5
+same-length-6 c =
+    let at-loop = c .before .before .before .before .before .before .before .before .before in
+    at-loop .loop .inv .5
 
 same-length-7 : tie.Need-same-length-7 Inv-loop μ-loop
-same-length-7 c = c .before .before .before .before .before .before .before .before .before .loop .inv .6
+same-length-7 c =
+    let at-loop = c .before .before .before .before .before .before .before .before .before in
+    at-loop .loop .inv .6
 
 returns : tie.Need-returns Inv-loop μ-loop
 returns c = search needs
@@ -65,14 +80,23 @@ take-all-requires : tie.Need-take-all-requires Inv-loop μ-loop
 take-all-requires c κs = search needs
 
 sub-turns : tie.Need-sub-turns Inv-loop μ-loop
-sub-turns c = omega (arith, c .before .before .before .before .before .before .before .before .before .before .before .before .before .before .before .before .before .before .before .before .before .before .before .before .before .before .before .before .before .before .loop-test .taken)
+sub-turns c =
+    let at-loop-test = c .before .before .before .before .before .before .before .before .before .before .before .before .before .before .before
+    .before .before .before .before .before .before .before .before .before .before .before .before .before .before .before in
+    omega (arith, at-loop-test .loop-test .taken)
 
 loop-less : tie.Need-loop-less Inv-loop μ-loop
-loop-less c = omega (arith, c .before .before .before .before .before .before .before .before .before .before .before .before .before .before .before .before .before .before .before .before .before .before .before .before .before .before .before .before .before .before .loop-test .taken)
+loop-less c =
+    let at-loop-test = c .before .before .before .before .before .before .before .before .before .before .before .before .before .before .before
+    .before .before .before .before .before .before .before .before .before .before .before .before .before .before .before in
+    omega (arith, at-loop-test .loop-test .taken)
 
 loop-again : tie.Need-loop-again Inv-loop μ-loop
-loop-again c = let w = c .before .before .before .before .before .before .before .before .before .before .before .before .before .before .before .before .before .before .before .before .before .before .before .before .before .before .before .before .before .before .before .loop .inv in
-    let k = c .before .before .before .before .before .before .before .before .before .before .before .before .before .before .take-all .kept in
+loop-again c =
+    let at-take-all = c .before .before .before .before .before .before .before .before .before .before .before .before .before .before in
+    let at-loop = at-take-all .before .before .before .before .before .before .before .before .before .before .before .before .before .before .before .before .before in
+    let w = at-loop .loop .inv in
+    let k = at-take-all .take-all .kept in
     (k .0 ∙ w .0, k .1 .0 ∙ w .1, k .1 .1 .0 ∙ w .2, k .1 .1 .1 .0 ∙ w .3, k .1 .1 .1 .1 .0 ∙ w .4, k .1 .1 .1 .1 .1 .0 ∙ w .5, k .1 .1 .1 .1 .1 .1 .0 ∙ w .6)
 
 same-length-8 : tie.Need-same-length-8 Inv-loop μ-loop

@@ -16,15 +16,19 @@ array-share-prefix-kept c = let w : length (c .before .before .args .h .bytes) �
     omega arith
 
 slice-aggregate-parse : tie.Need-slice-aggregate-parse
-slice-aggregate-parse c = let w : length (c .before .before .before .args .h .bytes) ≡ 64 = search needs in
+slice-aggregate-parse c =
+    let start = c .before .before .before in
+    let w : length (start .args .h .bytes) ≡ 64 = search needs in
     sym (length-take-le _ _ (omega arith))
 
 parse-requires : tie.Need-parse-requires
 parse-requires c κs = search needs
 
 returns : tie.Need-returns
-returns c = λ l k.
-    let h = c .before .before .before .before .args .h in
+returns c =
+    let start = c .before .before .before .before in
+    λ l k.
+    let h = start .args .h in
     let e = short h l k (c .before .before .if1 .taken) in
     c .parse .ensures ∙ ap lineOf (rw e at (k .bytes (omega arith)))
 

@@ -40,9 +40,13 @@ loop-less : tie.Need-loop-less Inv-loop μ-loop
 loop-less c = search needs
 
 loop-again : tie.Need-loop-again Inv-loop μ-loop
-loop-again c = let w = c .before .before .before .before .loop in
-    let s = c .before .before .before .before .before .before .args .s .now in
-    (omega arith, rw (c .one-if-tab .ensures .0) (field-turn s (w .i) (w .k) _ (c .before .before .before .loop-test .taken) (omega arith) (w .inv .1)))
+loop-again c =
+    let at-loop-test = c .before .before .before in
+    let at-loop = at-loop-test .before in
+    let start = at-loop .before .before in
+    let w = at-loop .loop in
+    let s = start .args .s .now in
+    (omega arith, rw (c .one-if-tab .ensures .0) (field-turn s (w .i) (w .k) _ (at-loop-test .loop-test .taken) (omega arith) (w .inv .1)))
 
 returns-2 : tie.Need-returns-2 Inv-loop μ-loop
 returns-2 c = let w = c .before .loop in

@@ -36,13 +36,18 @@ loop-less : tie.Need-loop-less Inv-loop μ-loop
 loop-less c = search needs
 
 loop-again : tie.Need-loop-again Inv-loop μ-loop
-loop-again c = let w = c .before .before .before .loop in
-    let s = c .before .before .before .before .before .args .s .now in
+loop-again c =
+    let at-loop = c .before .before .before in
+    let start = at-loop .before .before in
+    let w = at-loop .loop in
+    let s = start .args .s .now in
     (omega arith, omega arith, omega (arith, w .inv .2, count-turn s (w .i) (c .before .before .loop-test .taken), c .one-if-tab .ensures .0))
 
 returns : tie.Need-returns Inv-loop μ-loop
-returns c = let w = c .before .loop in
-    omega (arith, w .inv .2, count-end (c .before .before .before .args .s .now) (w .i) (omega arith))
+returns c =
+    let start = c .before .before .before in
+    let w = c .before .loop in
+    omega (arith, w .inv .2, count-end (start .args .s .now) (w .i) (omega arith))
 
 pub count-spec : {M : Type 1} → statement M
 count-spec =

@@ -6,7 +6,22 @@ use Prim.Native.Nat.{_-_, _^_, _≤_, _<_}
 use lib.ListN.{length, drop}
 use borrow.Author.Tests.{not-true, not-false}
 use Rattle.demo_lines.specs.Grammar.{allDigits, valueFrom, valueOf}
-use Rattle.demo_lines.proofs.Numerals.{digit-low, digit-high, digits-turn, digits-stop, digits-end, value-turn, value-end, bound, bound-turn, too-short, too-long, no-digits, too-large, accepted}
+use Rattle.demo_lines.proofs.Numerals.{
+  digit-low,
+  digit-high,
+  digits-turn,
+  digits-stop,
+  digits-end,
+  value-turn,
+  value-end,
+  bound,
+  bound-turn,
+  too-short,
+  too-long,
+  no-digits,
+  too-large,
+  accepted,
+}
 use borrow.Author.Needs.{needs}
 use native.Mathlib.Omega.{arith}
 use Rattle.demo_lines.proofs.decimal_in.Statement.{statement}
@@ -35,11 +50,16 @@ is-digit-requires : tie.Need-is-digit-requires Inv-loop μ-loop
 is-digit-requires c κs = search needs
 
 returns-3 : tie.Need-returns-3 Inv-loop μ-loop
-returns-3 c = let w = c .before .before .before .before .loop in
-    no-digits _ _ (w .inv .1 ∙ digits-stop _ (w .i) (c .before .before .before .loop-test .taken) (sym (c .before .is-digit .ensures) ∙ not-true _ (c .if3 .taken)))
+returns-3 c =
+    let at-loop-test = c .before .before .before in
+    let at-loop = at-loop-test .before in
+    let w = at-loop .loop in
+    no-digits _ _ (w .inv .1 ∙ digits-stop _ (w .i) (at-loop-test .loop-test .taken) (sym (c .before .is-digit .ensures) ∙ not-true _ (c .if3 .taken)))
 
 mul-v : tie.Need-mul-v Inv-loop μ-loop
-mul-v c = let w = c .before .before .before .before .loop in
+mul-v c =
+    let at-loop = c .before .before .before .before in
+    let w = at-loop .loop in
     omega (arith, bound (w .v) (w .i) (w .inv .3) (omega arith))
 
 sub-wide : tie.Need-sub-wide Inv-loop μ-loop
@@ -49,7 +69,9 @@ wide-requires : tie.Need-wide-requires Inv-loop μ-loop
 wide-requires c κs = search needs
 
 add-v : tie.Need-add-v Inv-loop μ-loop
-add-v c = let w = c .before .before .before .before .before .loop in
+add-v c =
+    let at-loop = c .before .before .before .before .before in
+    let w = at-loop .loop in
     omega (arith, bound (w .v) (w .i) (w .inv .3) (omega arith), digit-high _ (sym (c .before .before .is-digit .ensures) ∙ not-false _ (c .before .if3 .left)))
 
 add-i : tie.Need-add-i Inv-loop μ-loop
@@ -59,17 +81,27 @@ loop-less : tie.Need-loop-less Inv-loop μ-loop
 loop-less c = search needs
 
 loop-again : tie.Need-loop-again Inv-loop μ-loop
-loop-again c = let w = c .before .before .before .before .before .loop in
-    let h = c .before .before .before .before .loop-test .taken in
-    let d = sym (c .before .before .is-digit .ensures) ∙ not-false _ (c .before .if3 .left) in
-    (omega arith, w .inv .1 ∙ digits-turn _ (w .i) h d, rw (c .wide .ensures) (w .inv .2 ∙ value-turn _ (w .i) (w .v) h), rw (c .wide .ensures) (bound-turn (w .v) _ (w .i) (w .inv .3) (omega (arith, digit-high _ d))))
+loop-again c =
+    let at-loop-test = c .before .before .before .before in
+    let at-loop = at-loop-test .before in
+    let w = at-loop .loop in
+    let h = at-loop-test .loop-test .taken in
+    let d = sym (c .before .before .is-digit .ensures) ∙ not-false _ (c .before .if3 .left) in (
+      omega arith,
+      w .inv .1 ∙ digits-turn _ (w .i) h d,
+      rw (c .wide .ensures) (w .inv .2 ∙ value-turn _ (w .i) (w .v) h),
+      rw (c .wide .ensures)
+          (bound-turn (w .v) _ (w .i) (w .inv .3) (omega (arith, digit-high _ d))),
+    )
 
 cast-t18 : tie.Need-cast-t18 Inv-loop μ-loop
 cast-t18 c = search needs
 
 returns-4 : tie.Need-returns-4 Inv-loop μ-loop
-returns-4 c = let w = c .before .before .loop in
-    let e : length (c .before .before .before .before .before .before .args .f .now) ≤ w .i = omega arith in
+returns-4 c =
+    let start = c .before .before .before .before .before .before in
+    let w = c .before .before .loop in
+    let e : length (start .args .f .now) ≤ w .i = omega arith in
     accepted _ _ (w .v) (omega arith) (omega arith) (w .inv .1 ∙ digits-end _ (w .i) e) (w .inv .2 ∙ value-end _ (w .i) (w .v) e) (c .if4 .taken)
 
 returns-5 : tie.Need-returns-5 Inv-loop μ-loop

@@ -27,8 +27,11 @@ slice-aggregate-result : tie.Need-slice-aggregate-result
 slice-aggregate-result c = sym (length-take-le _ _ (c .before .width .ensures .0))
 
 returns : tie.Need-returns
-returns c = let s = c .before .before .before .before .before .args .s .now in
-    let b = c .before .before .before .begins in
+returns c =
+    let at-begins = c .before .before .before in
+    let start = at-begins .before .before in
+    let s = start .args .s .now in
+    let b = at-begins .begins in
     c .before .width .ensures .1 ∙ ap firstField (to-end s (b .result)) ∙ b .ensures .1
 
 pub field-spec : {M : Type 1} → statement M

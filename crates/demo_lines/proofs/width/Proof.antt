@@ -26,8 +26,11 @@ shared-slice-read-if1 : tie.Need-shared-slice-read-if1 Inv-loop μ-loop
 shared-slice-read-if1 c = search needs
 
 returns : tie.Need-returns Inv-loop μ-loop
-returns c = let w = c .before .before .before .loop in
-    let s = c .before .before .before .before .args .s .now in
+returns c =
+    let at-loop = c .before .before .before in
+    let start = at-loop .before in
+    let w = at-loop .loop in
+    let s = start .args .s .now in
     (w .inv .0, first-stop s (w .i) (c .before .before .loop-test .taken) (eq-eqb _ _ (c .if1 .taken)) ∙ w .inv .1)
 
 add-i : tie.Need-add-i Inv-loop μ-loop
@@ -37,8 +40,11 @@ loop-less : tie.Need-loop-less Inv-loop μ-loop
 loop-less c = search needs
 
 loop-again : tie.Need-loop-again Inv-loop μ-loop
-loop-again c = let w = c .before .before .before .loop in
-    let s = c .before .before .before .before .args .s .now in
+loop-again c =
+    let at-loop = c .before .before .before in
+    let start = at-loop .before in
+    let w = at-loop .loop in
+    let s = start .args .s .now in
     (omega arith, first-turn s (w .i) (c .before .before .loop-test .taken) (ne-eqb _ _ (c .if1 .left)) ∙ w .inv .1)
 
 returns-2 : tie.Need-returns-2 Inv-loop μ-loop

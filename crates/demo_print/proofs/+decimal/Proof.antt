@@ -103,7 +103,14 @@ decimal-slice-write-out-2 : (t : ℕ) → decimal-lts.Need-slice-write-out-2 (
   decimal.Post,
 ) (decimal-at t) decimal.Post
 decimal-slice-write-out-2 t c = let d = c .before .before .before .decimal .ensures in
-    omega (arith, put-length d, d .next, tenth-length (c .before .before .before .before .before .before .before .args .n) (omega (arith, c .before .before .before .before .before .before .before .fits .n)), c .before .before .before .before .before .before .before .pre .1)
+    omega (
+      arith,
+      put-length d,
+      d .next,
+      tenth-length (c .before .before .before .before .before .before .before .args .n)
+          (omega (arith, c .before .before .before .before .before .before .before .fits .n)),
+      c .before .before .before .before .before .before .before .pre .1,
+    )
 
 decimal-add-result-2 : (t : ℕ) → decimal-lts.Need-add-result-2 (
   digit-reads.Asked,
@@ -112,7 +119,14 @@ decimal-add-result-2 : (t : ℕ) → decimal-lts.Need-add-result-2 (
   decimal.Post,
 ) (decimal-at t) decimal.Post
 decimal-add-result-2 t c = let d = c .before .before .before .decimal .ensures in
-    omega (arith, d .next, tenth-length (c .before .before .before .before .before .before .before .args .n) (omega (arith, c .before .before .before .before .before .before .before .fits .n)), c .before .before .before .before .before .before .before .pre .1, c .before .before .before .before .before .before .before .good .0 .0)
+    omega (
+      arith,
+      d .next,
+      tenth-length (c .before .before .before .before .before .before .before .args .n)
+          (omega (arith, c .before .before .before .before .before .before .before .fits .n)),
+      c .before .before .before .before .before .before .before .pre .1,
+      c .before .before .before .before .before .before .before .good .0 .0,
+    )
 
 decimal-same-length-2 : (t : ℕ) → decimal-lts.Need-same-length-2 (
   digit-reads.Asked,
@@ -128,7 +142,11 @@ decimal-returns-2 : (t : ℕ) → decimal-lts.Need-returns-2 (
   decimal-below t,
   decimal.Post,
 ) (decimal-at t) decimal.Post
-decimal-returns-2 t c = rw (decimal-large _ (c .before .before .before .before .before .if1 .left) (omega (arith, c .before .before .before .before .before .before .before .fits .n)), c .digit2 .ensures) (then (c .before .before .before .decimal .ensures) (one _ _ _))
+decimal-returns-2 t c = rw (
+  decimal-large _ (c .before .before .before .before .before .if1 .left)
+      (omega (arith, c .before .before .before .before .before .before .before .fits .n)),
+  c .digit2 .ensures,
+) (then (c .before .before .before .decimal .ensures) (one _ _ _))
 
 pub +decimal-spec : {M : Type 1} → statement M
 +decimal-spec = close μ-decimal λ t. decimal-lts.spec (

@@ -30,7 +30,9 @@ digit-requires : tie.Need-digit-requires Inv-loop μ-loop
 digit-requires c κs = omega (arith, c .shared-slice-known2 .given (c .before .before .loop .i))
 
 slice-write-out : tie.Need-slice-write-out Inv-loop μ-loop
-slice-write-out c = omega (arith, put-length (c .before .before .before .loop .inv .2))
+slice-write-out c =
+    let at-loop = c .before .before .before in
+    omega (arith, put-length (at-loop .loop .inv .2))
 
 shared-slice-read-digit-2 : tie.Need-shared-slice-read-digit-2 Inv-loop μ-loop
 shared-slice-read-digit-2 c = search needs
@@ -39,13 +41,19 @@ digit-requires-2 : tie.Need-digit-requires-2 Inv-loop μ-loop
 digit-requires-2 c κs = omega arith
 
 add-out : tie.Need-add-out Inv-loop μ-loop
-add-out c = omega (arith, put-length (c .before .before .before .before .before .loop .inv .2))
+add-out c =
+    let at-loop = c .before .before .before .before .before in
+    omega (arith, put-length (at-loop .loop .inv .2))
 
 slice-write-out-2 : tie.Need-slice-write-out-2 Inv-loop μ-loop
-slice-write-out-2 c = simp length-set (omega (arith, put-length (c .before .before .before .before .before .loop .inv .2)))
+slice-write-out-2 c =
+    let at-loop = c .before .before .before .before .before in
+    simp length-set (omega (arith, put-length (at-loop .loop .inv .2)))
 
 add-e : tie.Need-add-e Inv-loop μ-loop
-add-e c = omega (arith, put-length (c .before .before .before .before .before .loop .inv .2))
+add-e c =
+    let at-loop = c .before .before .before .before .before in
+    omega (arith, put-length (at-loop .loop .inv .2))
 
 add-i : tie.Need-add-i Inv-loop μ-loop
 add-i c = search needs
@@ -54,16 +62,22 @@ loop-less : tie.Need-loop-less Inv-loop μ-loop
 loop-less c = search needs
 
 loop-again : tie.Need-loop-again Inv-loop μ-loop
-loop-again c = let w = c .before .before .before .before .before .loop in
-    let s = c .before .before .before .before .before .before .before .before .args .s .now in
-    (omega arith, omega arith, rw (hex-turn s (w .i) (c .before .before .before .before .loop-test .taken), c .before .before .digit .ensures, c .digit2 .ensures) (then (w .inv .2) (two (w .out) (w .e) _ _)))
+loop-again c =
+    let at-loop-test = c .before .before .before .before in
+    let at-loop = at-loop-test .before in
+    let start = at-loop .before .before .before in
+    let w = at-loop .loop in
+    let s = start .args .s .now in
+    (omega arith, omega arith, rw (hex-turn s (w .i) (at-loop-test .loop-test .taken), c .before .before .digit .ensures, c .digit2 .ensures) (then (w .inv .2) (two (w .out) (w .e) _ _)))
 
 same-length : tie.Need-same-length Inv-loop μ-loop
 same-length c = put-length (c .before .loop .inv .2)
 
 returns : tie.Need-returns Inv-loop μ-loop
-returns c = let w = c .before .loop in
-    let s = c .before .before .before .before .args .s .now in
+returns c =
+    let start = c .before .before .before .before in
+    let w = c .before .loop in
+    let s = start .args .s .now in
     let h : length s ≤ w .i = omega arith in
     rw (take-all (w .i) s h) at (w .inv .2)
 

@@ -24,8 +24,9 @@ same-length c = search needs
 returns : tie.Need-returns
 unfolding formatLine
 returns c =
+    let start = c .before .before .before .before .before in
     let t = c .before .before .put-counts .ensures in
-    printed (then (t .0) (one _ _ 10)) (omega (arith, t .1, c .before .before .before .before .before .pre))
+    printed (then (t .0) (one _ _ 10)) (omega (arith, t .1, start .pre))
 
 pub print-format-spec : {M : Type 1} → statement M
 print-format-spec = tie.close (tie.spec put-counts-requires slice-write-out add-result same-length returns)

@@ -20,30 +20,45 @@ tabbed-requires : tie.Need-tabbed-requires
 tabbed-requires c κs = simp length-set (omega arith)
 
 sectors-if-requires : tie.Need-sectors-if-requires
-sectors-if-requires c κs = let t = c .before .before .before .tabbed .ensures in
-    omega (arith, t .1, simp length-set at (put-length (t .0)), c .before .before .before .before .before .before .before .before .pre)
+sectors-if-requires c κs =
+    let at-tabbed = c .before .before .before in
+    let start = at-tabbed .before .before .before .before .before in
+    let t = at-tabbed .tabbed .ensures in
+    omega (arith, t .1, simp length-set at (put-length (t .0)), start .pre)
 
 slice-write-out-2 : tie.Need-slice-write-out-2
-slice-write-out-2 c = let t = c .before .before .before .before .before .before .tabbed .ensures in
+slice-write-out-2 c =
+    let at-tabbed = c .before .before .before .before .before .before in
+    let start = at-tabbed .before .before .before .before .before in
+    let t = at-tabbed .tabbed .ensures in
     let u = c .before .before .sectors-if .ensures in
-    omega (arith, t .1, u .1, simp length-set at (put-length (t .0)), put-length (u .0), c .before .before .before .before .before .before .before .before .before .before .before .pre)
+    omega (arith, t .1, u .1, simp length-set at (put-length (t .0)), put-length (u .0), start .pre)
 
 add-result : tie.Need-add-result
-add-result c = let t = c .before .before .before .before .before .before .tabbed .ensures in
+add-result c =
+    let at-tabbed = c .before .before .before .before .before .before in
+    let start = at-tabbed .before .before .before .before .before in
+    let t = at-tabbed .tabbed .ensures in
     let u = c .before .before .sectors-if .ensures in
-    omega (arith, t .1, u .1, c .before .before .before .before .before .before .before .before .before .before .before .pre, c .before .before .before .before .before .before .before .before .before .before .before .good .0 .0)
+    omega (arith, t .1, u .1, start .pre, start .good .0 .0)
 
 same-length : tie.Need-same-length
-same-length c = let t = c .before .before .before .before .before .before .tabbed .ensures in
+same-length c =
+    let at-tabbed = c .before .before .before .before .before .before in
+    let t = at-tabbed .tabbed .ensures in
     let u = c .before .before .sectors-if .ensures in
     simp length-set (put-length (u .0) ∙ (simp length-set at (put-length (t .0))))
 
 returns : tie.Need-returns
 unfolding readLine isAccepted
-returns c = let t = c .before .before .before .before .before .before .tabbed .ensures in
+returns c =
+    let at-tabbed = c .before .before .before .before .before .before in
+    let at-number = at-tabbed .before .before in
+    let start = at-number .before .before .before in
+    let t = at-tabbed .tabbed .ensures in
     let u = c .before .before .sectors-if .ensures in
-    rw (← c .before .before .before .before .before .before .before .before .number .ensures)
-    (printed (then (one _ 0 _) (then (t .0) (then (u .0) (one _ _ 10)))) (omega (arith, t .1, u .1, c .before .before .before .before .before .before .before .before .before .before .before .pre)))
+    rw (← at-number .number .ensures)
+    (printed (then (one _ 0 _) (then (t .0) (then (u .0) (one _ _ 10)))) (omega (arith, t .1, u .1, start .pre)))
 
 pub print-read-spec : {M : Type 1} → statement M
 print-read-spec =

@@ -14,30 +14,37 @@ put-counts-requires c κs = search needs
 
 tabbed-requires : tie.Need-tabbed-requires
 tabbed-requires c κs =
-    let t = c .before .before .before .put-counts .ensures in
-    omega (arith, t .1, put-length (t .0), c .before .before .before .before .before .before .pre)
+    let at-put-counts = c .before .before .before in
+    let start = at-put-counts .before .before .before in
+    let t = at-put-counts .put-counts .ensures in
+    omega (arith, t .1, put-length (t .0), start .pre)
 
 slice-write-out : tie.Need-slice-write-out
 slice-write-out c =
-    let t = c .before .before .before .before .before .before .put-counts .ensures in
+    let at-put-counts = c .before .before .before .before .before .before in
+    let start = at-put-counts .before .before .before in
+    let t = at-put-counts .put-counts .ensures in
     let u = c .before .before .tabbed .ensures in
-    omega (arith, t .1, u .1, put-length (t .0), put-length (u .0), c .before .before .before .before .before .before .before .before .before .pre)
+    omega (arith, t .1, u .1, put-length (t .0), put-length (u .0), start .pre)
 
 add-result : tie.Need-add-result
 add-result c = search needs
 
 same-length : tie.Need-same-length
 same-length c =
-    let t = c .before .before .before .before .before .before .put-counts .ensures in
+    let at-put-counts = c .before .before .before .before .before .before in
+    let t = at-put-counts .put-counts .ensures in
     let u = c .before .before .tabbed .ensures in
     simp length-set (put-length (u .0) ∙ put-length (t .0))
 
 returns : tie.Need-returns
 unfolding writeLine
 returns c =
-    let t = c .before .before .before .before .before .before .put-counts .ensures in
+    let at-put-counts = c .before .before .before .before .before .before in
+    let start = at-put-counts .before .before .before in
+    let t = at-put-counts .put-counts .ensures in
     let u = c .before .before .tabbed .ensures in
-    printed (then (t .0) (then (u .0) (one _ _ 10))) (omega (arith, t .1, u .1, c .before .before .before .before .before .before .before .before .before .pre))
+    printed (then (t .0) (then (u .0) (one _ _ 10))) (omega (arith, t .1, u .1, start .pre))
 
 pub print-write-spec : {M : Type 1} → statement M
 print-write-spec = tie.close (tie.spec put-counts-requires tabbed-requires slice-write-out add-result same-length returns)

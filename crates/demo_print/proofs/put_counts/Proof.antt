@@ -20,29 +20,39 @@ tabbed-requires c κs = simp length-set (omega arith)
 
 tabbed-requires-2 : tie.Need-tabbed-requires-2
 tabbed-requires-2 c κs =
-    let t = c .before .before .before .tabbed .ensures in
-    omega (arith, t .1, simp length-set at (put-length (t .0)), c .before .before .before .before .before .before .before .pre)
+    let at-tabbed = c .before .before .before in
+    let start = at-tabbed .before .before .before .before in
+    let t = at-tabbed .tabbed .ensures in
+    omega (arith, t .1, simp length-set at (put-length (t .0)), start .pre)
 
 tabbed-requires-3 : tie.Need-tabbed-requires-3
 tabbed-requires-3 c κs =
-    let t = c .before .before .before .before .before .before .before .tabbed .ensures in
-    let u = c .before .before .before .tabbed2 .ensures in
-    omega (arith, t .1, u .1, simp length-set at (put-length (t .0)), put-length (u .0), c .before .before .before .before .before .before .before .before .before .before .before .pre)
+    let at-tabbed2 = c .before .before .before in
+    let at-tabbed = at-tabbed2 .before .before .before .before in
+    let start = at-tabbed .before .before .before .before in
+    let t = at-tabbed .tabbed .ensures in
+    let u = at-tabbed2 .tabbed2 .ensures in
+    omega (arith, t .1, u .1, simp length-set at (put-length (t .0)), put-length (u .0), start .pre)
 
 same-length : tie.Need-same-length
 same-length c =
-    let t = c .before .before .before .before .before .before .before .before .before .before .tabbed .ensures in
-    let u = c .before .before .before .before .before .before .tabbed2 .ensures in
+    let at-tabbed2 = c .before .before .before .before .before .before in
+    let at-tabbed = at-tabbed2 .before .before .before .before in
+    let t = at-tabbed .tabbed .ensures in
+    let u = at-tabbed2 .tabbed2 .ensures in
     let v = c .before .before .tabbed3 .ensures in
     put-length (v .0) ∙ put-length (u .0) ∙ (simp length-set at (put-length (t .0)))
 
 returns : tie.Need-returns
 unfolding counts
 returns c =
-    let t = c .before .before .before .before .before .before .before .before .before .before .tabbed .ensures in
-    let u = c .before .before .before .before .before .before .tabbed2 .ensures in
+    let at-tabbed2 = c .before .before .before .before .before .before in
+    let at-tabbed = at-tabbed2 .before .before .before .before in
+    let at-number = at-tabbed .before in
+    let t = at-tabbed .tabbed .ensures in
+    let u = at-tabbed2 .tabbed2 .ensures in
     let v = c .before .before .tabbed3 .ensures in
-    (rw (← c .before .before .before .before .before .before .before .before .before .before .before .number .ensures) (then (one _ 0 _) (then (t .0) (then (u .0) (v .0)))), omega (arith, t .1, u .1, v .1))
+    (rw (← at-number .number .ensures) (then (one _ 0 _) (then (t .0) (then (u .0) (v .0)))), omega (arith, t .1, u .1, v .1))
 
 pub put-counts-spec : {M : Type 1} → statement M
 put-counts-spec = tie.close (tie.spec slice-write-out number-requires tabbed-requires tabbed-requires-2 tabbed-requires-3 same-length returns)

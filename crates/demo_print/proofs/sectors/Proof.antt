@@ -44,8 +44,11 @@ part-hex-end : tie.Need-part-hex-end Inv-loop μ-loop
 part-hex-end c = search needs
 
 hex-requires : tie.Need-hex-requires Inv-loop μ-loop
-hex-requires c κs = let w = c .before .before .before .loop in
-    simp length-set (omega (arith, put-length (w .inv .3), sector-bytes (c .before .before .before .before .before .before .args .bytes .now) (w .j) (omega arith)))
+hex-requires c κs =
+    let at-loop = c .before .before .before in
+    let start = at-loop .before .before .before in
+    let w = at-loop .loop in
+    simp length-set (omega (arith, put-length (w .inv .3), sector-bytes (start .args .bytes .now) (w .j) (omega arith)))
 
 add-j : tie.Need-add-j Inv-loop μ-loop
 add-j c = search needs
@@ -54,8 +57,11 @@ loop-less : tie.Need-loop-less Inv-loop μ-loop
 loop-less c = search needs
 
 loop-again : tie.Need-loop-again Inv-loop μ-loop
-loop-again c = let w = c .before .before .before .before .before .before .loop in
-    let l = c .before .before .before .before .before .before .before .before .before .args .bytes .now in
+loop-again c =
+    let at-loop = c .before .before .before .before .before .before in
+    let start = at-loop .before .before .before in
+    let w = at-loop .loop in
+    let l = start .args .bytes .now in
     let h : w .j + 1 ≤ length l / 16 = omega (arith, w .inv .1) in
     let p = rw (← sectors-turn (w .j) l) at (then (w .inv .3) (then (one (w .out) (w .e) 9) (c .before .before .hex .ensures))) in
     (omega arith, w .inv .1, omega (arith, p .next, sectors-length (w .j + 1) l h), p)
@@ -64,8 +70,10 @@ same-length : tie.Need-same-length Inv-loop μ-loop
 same-length c = put-length (c .before .loop .inv .3)
 
 returns : tie.Need-returns Inv-loop μ-loop
-returns c = let w = c .before .loop in
-    let e : w .j ≡ length (c .before .before .before .before .args .bytes .now) / 16 = omega (arith, w .inv .1) in
+returns c =
+    let start = c .before .before .before .before in
+    let w = c .before .loop in
+    let e : w .j ≡ length (start .args .bytes .now) / 16 = omega (arith, w .inv .1) in
     rw e at (w .inv .3)
 
 pub sectors-spec : {M : Type 1} → statement M

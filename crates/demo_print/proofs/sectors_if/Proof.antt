@@ -18,9 +18,12 @@ same-length : tie.Need-same-length
 same-length c = put-length (c .before .before .sectors .ensures)
 
 returns : tie.Need-returns
-returns c = let p = c .before .before .sectors .ensures in
-    let l = c .before .before .before .before .before .before .before .args .bytes .now in
-    (rw (eq-eqb _ _ (c .before .before .before .before .if1 .taken)) p, omega (arith, p .next, sectors-length (length l / 16) l (le-refl _)))
+returns c =
+    let at-if1 = c .before .before .before .before in
+    let start = at-if1 .before .before .before in
+    let p = c .before .before .sectors .ensures in
+    let l = start .args .bytes .now in
+    (rw (eq-eqb _ _ (at-if1 .if1 .taken)) p, omega (arith, p .next, sectors-length (length l / 16) l (le-refl _)))
 
 returns-2 : tie.Need-returns-2
 returns-2 c = (rw (ne-eqb _ _ (c .if1 .left)) (nothing _ _), omega arith)

@@ -22,8 +22,10 @@ same-length : tie.Need-same-length
 same-length c = put-length (c .before .before .decimal .ensures) ∙ simp length-set
 
 returns : tie.Need-returns
-returns c = let d = c .before .before .decimal .ensures in
-    (then (one _ _ _) d, omega (arith, d .next, decimal-length (c .before .before .before .before .before .args .n)))
+returns c =
+    let start = c .before .before .before .before .before in
+    let d = c .before .before .decimal .ensures in
+    (then (one _ _ _) d, omega (arith, d .next, decimal-length (start .args .n)))
 
 pub tabbed-spec : {M : Type 1} → statement M
 tabbed-spec = tie.close (tie.spec slice-write-out add-decimal decimal-requires same-length returns)

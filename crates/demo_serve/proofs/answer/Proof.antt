@@ -45,7 +45,10 @@ same-length-7 : tie.Need-same-length-7
 same-length-7 c = search needs
 
 returns : tie.Need-returns
-returns c = rw (c .before .before .before .before .before .before .before .before .before .before .before .before .before .before .before .before .before .before .before .before .before .before .before .line .given .1) (c .before .before .before .before .before .before .before .before .before .before .before .before .before .before .write .ensures)
+returns c =
+    let at-write = c .before .before .before .before .before .before .before .before .before .before .before .before .before .before in
+    let at-line = at-write .before .before .before .before .before .before .before .before .before in
+    rw (at-line .line .given .1) (at-write .write .ensures)
 
 same-length-8 : tie.Need-same-length-8
 same-length-8 c = search needs
@@ -69,7 +72,9 @@ same-length-14 : tie.Need-same-length-14
 same-length-14 c = search needs
 
 returns-2 : tie.Need-returns-2
-returns-2 c = rw (c .before .before .before .before .before .before .before .before .before .line2 .given .1) (read-turned _ _ _)
+returns-2 c =
+    let at-line2 = c .before .before .before .before .before .before .before .before .before in
+    rw (at-line2 .line2 .given .1) (read-turned _ _ _)
 
 returns-3 : tie.Need-returns-3
 returns-3 c = rw (c .before .enum-told .given .1) (other-turned _)

@@ -36,7 +36,10 @@ same-length-7 : tie.Need-same-length-7
 same-length-7 c = search needs
 
 returns : tie.Need-returns
-returns c = started _ _ (rw (c .before .before .before .before .before .before .before .before .before .before .before .before .before .before .before .before .before .before .before .before .before .before .before .board .ensures) at (c .before .before .before .before .before .before .before .before .before .before .before .before .before .before .before .format .ensures))
+returns c =
+    let at-format = c .before .before .before .before .before .before .before .before .before .before .before .before .before .before .before in
+    let at-board = at-format .before .before .before .before .before .before .before .before in
+    started _ _ (rw (at-board .board .ensures) at (at-format .format .ensures))
 
 pub start-spec : {M : Type 1} → statement M
 start-spec =

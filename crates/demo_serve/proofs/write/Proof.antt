@@ -23,7 +23,10 @@ array-share-prefix-bytes : tie.Need-array-share-prefix-bytes
 array-share-prefix-bytes c = search needs
 
 slice-aggregate-write : tie.Need-slice-aggregate-write
-slice-aggregate-write c = sym (length-take-le _ _ (rw (c .before .before .before .before .before .before .before .before .before .before .filled .ensures, c .before .before .before .before .before .before .before .before .before .lent .ensures, length-replicate) (omega arith)))
+slice-aggregate-write c =
+    let at-lent = c .before .before .before .before .before .before .before .before .before in
+    let at-filled = at-lent .before in
+    sym (length-take-le _ _ (rw (at-filled .filled .ensures, at-lent .lent .ensures, length-replicate) (omega arith)))
 
 write-requires : tie.Need-write-requires
 write-requires c κs = search needs
@@ -55,8 +58,12 @@ same-length-7 c = search needs
 returns : tie.Need-returns
 unfolding requested
 returns c =
+    let at-write = c .before .before .before .before .before .before .before .before .before .before .before .before .before .before .before in
+    let at-board = at-write .before .before .before .before .before .before .before .before .before in
+    let at-lent = at-board .before in
+    let at-filled = at-lent .before in
     write-turned _ _ _ _ _
-    (rw (c .before .before .before .before .before .before .before .before .before .before .before .before .before .before .before .before .before .before .before .before .before .before .before .before .board .ensures, sent _ _ _ _ (c .before .before .before .before .before .before .before .before .before .before .before .before .before .before .before .before .before .before .before .before .before .before .before .before .before .lent .ensures) (c .before .before .before .before .before .before .before .before .before .before .before .before .before .before .before .before .before .before .before .before .before .before .before .before .before .before .filled .ensures)) at (c .before .before .before .before .before .before .before .before .before .before .before .before .before .before .before .write .ensures))
+    (rw (at-board .board .ensures, sent _ _ _ _ (at-lent .lent .ensures) (at-filled .filled .ensures)) at (at-write .write .ensures))
 
 pub write-spec : {M : Type 1} → statement M
 write-spec =

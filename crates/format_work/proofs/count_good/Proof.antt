@@ -22,7 +22,9 @@ loop-holds : tie.Need-loop-holds Inv-loop μ-loop
 loop-holds c = (omega arith, omega arith, count-start _)
 
 is-bad-requires : tie.Need-is-bad-requires Inv-loop μ-loop
-is-bad-requires c κs = (c .before .before .before .pre .0, (c .before .before .before .pre .1, c .loop-test .taken))
+is-bad-requires c κs =
+    let start = c .before .before .before in
+    (start .pre .0, (start .pre .1, c .loop-test .taken))
 
 add-k : tie.Need-add-k Inv-loop μ-loop
 add-k c = omega arith
@@ -35,7 +37,8 @@ loop-less c = omega arith
 
 loop-again : tie.Need-loop-again Inv-loop μ-loop
 loop-again c =
-    let at = c .before .before .before .loop .inv in
+    let at-loop = c .before .before .before in
+    let at = at-loop .loop .inv in
     let e = c .before .is-bad .ensures in
     ⊎-elim
     (λ w. (omega arith, omega (arith, w .1), rw (w .1) (count-yes _ _ _ (at .2) (ap not (sym e) ∙ w .0 .taken))))
@@ -45,7 +48,8 @@ loop-again c =
 returns : tie.Need-returns Inv-loop μ-loop
 unfolding goodBlocks
 returns c =
-    let e : c .before .loop .n ≡ c .before .before .before .args .p .N = omega arith in
+    let start = c .before .before .before in
+    let e : c .before .loop .n ≡ start .args .p .N = omega arith in
     c .before .loop .inv .2 ∙ rw e
 
 pub count-good-spec : {M : Type 1} → statement M

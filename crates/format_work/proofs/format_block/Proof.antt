@@ -20,13 +20,19 @@ same-length-2 : tie.Need-same-length-2
 same-length-2 c = search needs
 
 returns : tie.Need-returns
-returns c = done-bad _ _ _ _ _ (c .before .before .before .before .before .before .before .before .before .before .pre) (sym (c .before .before .before .before .if1 .taken) ∙ c .before .before .before .before .before .is-bad .ensures) _ (c .before .before .set-bst .ensures)
+returns c =
+    let at-if1 = c .before .before .before .before in
+    let at-is-bad = at-if1 .before in
+    let start = at-is-bad .before .before .before .before .before in
+    done-bad _ _ _ _ _ (start .pre) (sym (at-if1 .if1 .taken) ∙ at-is-bad .is-bad .ensures) _ (c .before .before .set-bst .ensures)
 
 block-bytes-requires : tie.Need-block-bytes-requires
 block-bytes-requires c κs = search needs
 
 erase-at-requires : tie.Need-erase-at-requires
-erase-at-requires c κs = erase-fits _ _ _ _ _ (c .before .before .before .before .before .before .before .before .pre) _ (c .before .block-bytes .ensures)
+erase-at-requires c κs =
+    let start = c .before .before .before .before .before .before .before .before in
+    erase-fits _ _ _ _ _ (start .pre) _ (c .before .block-bytes .ensures)
 
 set-bst-requires-2 : tie.Need-set-bst-requires-2
 set-bst-requires-2 c κs = search needs
@@ -45,7 +51,14 @@ same-length-5 c = search needs
 
 returns-2 : tie.Need-returns-2
 returns-2 c =
-    done-good _ _ _ _ _ (c .before .before .before .before .before .before .before .before .before .before .before .before .before .before .before .before .before .before .before .pre) _ (c .before .before .before .before .before .before .before .before .before .before .before .before .block-bytes .ensures) (sym (c .before .before .before .before .before .before .before .before .before .before .before .before .before .if1 .left) ∙ c .before .before .before .before .before .before .before .before .before .before .before .before .before .before .is-bad .ensures) _ _ _ (c .before .before .before .before .before .before .before .before .before .before .erase-at .ensures) (c .before .before .before .before .before .before .set-bst2 .ensures) (c .before .before .count-erase .ensures)
+    let at-set-bst2 = c .before .before .before .before .before .before in
+    let at-erase-at = at-set-bst2 .before .before .before .before in
+    let at-block-bytes = at-erase-at .before .before in
+    let at-if1 = at-block-bytes .before in
+    let at-is-bad = at-if1 .before in
+    let start = at-is-bad .before .before .before .before .before in
+    done-good _ _ _ _ _ (start .pre) _ (at-block-bytes .block-bytes .ensures) (sym (at-if1 .if1 .left) ∙ at-is-bad .is-bad .ensures) _ _ _ (at-erase-at .erase-at .ensures)
+    (at-set-bst2 .set-bst2 .ensures) (c .before .before .count-erase .ensures)
 
 pub format-block-spec : {M : Type 1} → statement M
 format-block-spec =

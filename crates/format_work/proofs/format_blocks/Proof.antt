@@ -21,12 +21,20 @@ loop-holds : tie.Need-loop-holds Inv-loop μ-loop
 loop-holds c = (omega arith, λ a. start _ _ _ _ a)
 
 format-block-requires : tie.Need-format-block-requires Inv-loop μ-loop
-format-block-requires c κs = asked _ _ _ _ (c .before .before .before .before .before .before .before .before .pre) _ (c .before .before .before .loop-test .taken) _ _ _ _ (c .before .before .before .before .loop .inv .1 (c .before .before .before .before .before .before .before .before .pre))
+format-block-requires c κs =
+    let at-loop-test = c .before .before .before in
+    let at-loop = at-loop-test .before in
+    let entered = at-loop .before .before .before .before in
+    asked _ _ _ _ (entered .pre) _ (at-loop-test .loop-test .taken) _ _ _ _ (at-loop .loop .inv .1 (entered .pre))
 
 add-k : tie.Need-add-k Inv-loop μ-loop
 add-k c =
-    let a = c .before .before .before .before .before .before .before .before .before .before .before .before .before .before .before .pre in
-    omega (arith, (turn _ _ _ _ a _ (c .before .before .before .before .before .before .before .before .before .before .loop-test .taken) _ _ _ _ (c .before .before .before .before .before .before .before .before .before .before .before .loop .inv .1 a) _ _ _ _ (c .before .before .before .before .before .before .format-block .ensures)) .few)
+    let at-format-block = c .before .before .before .before .before .before in
+    let at-loop-test = at-format-block .before .before .before .before in
+    let at-loop = at-loop-test .before in
+    let entered = at-loop .before .before .before .before in
+    let a = entered .pre in
+    omega (arith, (turn _ _ _ _ a _ (at-loop-test .loop-test .taken) _ _ _ _ (at-loop .loop .inv .1 a) _ _ _ _ (at-format-block .format-block .ensures)) .few)
 
 add-n : tie.Need-add-n Inv-loop μ-loop
 add-n c = omega arith
@@ -35,21 +43,32 @@ loop-less : tie.Need-loop-less Inv-loop μ-loop
 loop-less c = omega arith
 
 loop-again : tie.Need-loop-again Inv-loop μ-loop
-loop-again c = (omega arith, λ a. turn _ _ _ _ a _ (c .before .before .before .before .before .before .before .before .before .before .loop-test .taken) _ _ _ _ (c .before .before .before .before .before .before .before .before .before .before .before .loop .inv .1 a) _ _ _ _ (c .before .before .before .before .before .before .format-block .ensures))
+loop-again c =
+    let at-format-block = c .before .before .before .before .before .before in
+    let at-loop-test = at-format-block .before .before .before .before in
+    let at-loop = at-loop-test .before in
+    (omega arith, λ a. turn _ _ _ _ a _ (at-loop-test .loop-test .taken) _ _ _ _ (at-loop .loop .inv .1 a) _ _ _ _ (at-format-block .format-block .ensures))
 
 same-length : tie.Need-same-length Inv-loop μ-loop
-same-length c = let a = c .before .before .before .before .before .pre in chip-size _ _ _ _ a _ (c .before .loop .inv .0) _ _ _ _ (c .before .loop .inv .1 a)
+same-length c =
+    let entered = c .before .before .before .before .before in
+    let a = entered .pre in chip-size _ _ _ _ a _ (c .before .loop .inv .0) _ _ _ _ (c .before .loop .inv .1 a)
 
 same-length-2 : tie.Need-same-length-2 Inv-loop μ-loop
-same-length-2 c = let a = c .before .before .before .before .before .pre in bst-size _ _ _ _ a _ (c .before .loop .inv .0) _ _ _ _ (c .before .loop .inv .1 a)
+same-length-2 c =
+    let entered = c .before .before .before .before .before in
+    let a = entered .pre in bst-size _ _ _ _ a _ (c .before .loop .inv .0) _ _ _ _ (c .before .loop .inv .1 a)
 
 same-length-3 : tie.Need-same-length-3 Inv-loop μ-loop
-same-length-3 c = let a = c .before .before .before .before .before .pre in wear-size _ _ _ _ a _ (c .before .loop .inv .0) _ _ _ _ (c .before .loop .inv .1 a)
+same-length-3 c =
+    let entered = c .before .before .before .before .before in
+    let a = entered .pre in wear-size _ _ _ _ a _ (c .before .loop .inv .0) _ _ _ _ (c .before .loop .inv .1 a)
 
 returns : tie.Need-returns Inv-loop μ-loop
 returns c =
-    let e : c .before .loop .n ≡ c .before .before .before .before .before .args .p .N = omega arith in
-    done _ _ _ _ (c .before .before .before .before .before .pre) _ _ _ _ _ e (c .before .loop .inv .1 (c .before .before .before .before .before .pre))
+    let entered = c .before .before .before .before .before in
+    let e : c .before .loop .n ≡ entered .args .p .N = omega arith in
+    done _ _ _ _ (entered .pre) _ _ _ _ _ e (c .before .loop .inv .1 (entered .pre))
 
 pub format-blocks-spec : {M : Type 1} → statement M
 format-blocks-spec =

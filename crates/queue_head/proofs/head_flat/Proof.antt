@@ -13,16 +13,22 @@ head-of-requires : tie.Need-head-of-requires
 head-of-requires c κs = search needs
 
 returns : tie.Need-returns
-returns c = whole _ (board (c .before .before .before .before .before .before .before .before .before)) _ _ (c .before .if1 .taken) _ (c .head-of .ensures)
+returns c =
+    let start = c .before .before .before .before .before .before .before .before .before in
+    whole _ (board start) _ _ (c .before .if1 .taken) _ (c .head-of .ensures)
 
 parameters-allowed-requires : tie.Need-parameters-allowed-requires
 parameters-allowed-requires c κs = search needs
 
 returns-2 : tie.Need-returns-2
-returns-2 c = cut _ (board (c .before .before .before .before .before .before .before .before .before .before)) _ _ (c .before .before .if1 .left) _ _ (c .before .parameters-allowed .ensures) (rw (c .if2 .taken))
+returns-2 c =
+    let start = c .before .before .before .before .before .before .before .before .before .before in
+    cut _ (board start) _ _ (c .before .before .if1 .left) _ _ (c .before .parameters-allowed .ensures) (rw (c .if2 .taken))
 
 returns-3 : tie.Need-returns-3
-returns-3 c = cut _ (board (c .before .before .before .before .before .before .before .before .before .before)) _ _ (c .before .before .if1 .left) _ _ (c .before .parameters-allowed .ensures) (rw (c .if2 .left))
+returns-3 c =
+    let start = c .before .before .before .before .before .before .before .before .before .before in
+    cut _ (board start) _ _ (c .before .before .if1 .left) _ _ (c .before .parameters-allowed .ensures) (rw (c .if2 .left))
 
 pub head-flat-spec : {M : Type 1} → statement M
 head-flat-spec = tie.close (tie.spec head-of-requires returns parameters-allowed-requires returns-2 returns-3)

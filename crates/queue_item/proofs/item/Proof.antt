@@ -18,10 +18,14 @@ abbrev asked : tie.Start → Item
 asked a = itemOf (a .args .lba) (a .args .count) (a .args .first)
 
 has-bytes-requires : tie.Need-has-bytes-requires
-has-bytes-requires c κs = c .before .before .before .before .before .before .before .before .pre .fine
+has-bytes-requires c κs =
+    let start = c .before .before .before .before .before .before .before .before in
+    start .pre .fine
 
 item-reply-requires : tie.Need-item-reply-requires
-item-reply-requires c κs = c .before .before .before .before .before .before .before .before .before .pre .fine
+item-reply-requires c κs =
+    let start = c .before .before .before .before .before .before .before .before .before in
+    start .pre .fine
 
 number-requires : tie.Need-number-requires
 number-requires c κs = search needs
@@ -31,14 +35,22 @@ idle-requires c κs = search needs
 
 returns : tie.Need-returns
 returns c =
-    let a = c .before .before .before .before .before .before .before .before .before .before .before .before .before in
-    item-refused _ _ (board a) (a .pre) _ (asked a) _ (c .before .before .before .before .has-bytes .ensures (a .args .bytes .now) (a .args .lba) refl) _ (c .before .before .before .item-reply .ensures) _ (c .before .before .number .ensures) (c .before .if1 .taken) _ (c .idle .ensures)
+    let at-item-reply = c .before .before .before in
+    let at-has-bytes = at-item-reply .before in
+    let start = at-has-bytes .before .before .before .before .before .before .before .before .before in
+    let a = start in
+    item-refused _ _ (board a) (a .pre) _ (asked a) _ (at-has-bytes .has-bytes .ensures (a .args .bytes .now) (a .args .lba) refl) _ (at-item-reply .item-reply .ensures) _
+    (c .before .before .number .ensures) (c .before .if1 .taken) _ (c .idle .ensures)
 
 mul-to : tie.Need-mul-to
-mul-to c = omega (arith, bytes-low _ (c .before .before .before .before .before .before .before .before .before .before .before .before .before .pre .fine) (c .before .before .before .before .before .before .before .before .before .before .before .before .before .args .count) (omega arith))
+mul-to c =
+    let start = c .before .before .before .before .before .before .before .before .before .before .before .before .before in
+    omega (arith, bytes-low _ (start .pre .fine) (start .args .count) (omega arith))
 
 add-to : tie.Need-add-to
-add-to c = omega (arith, bytes-low _ (c .before .before .before .before .before .before .before .before .before .before .before .before .before .pre .fine) (c .before .before .before .before .before .before .before .before .before .before .before .before .before .args .count) (omega arith))
+add-to c =
+    let start = c .before .before .before .before .before .before .before .before .before .before .before .before .before in
+    omega (arith, bytes-low _ (start .pre .fine) (start .args .count) (omega arith))
 
 sub-write-orderly : tie.Need-sub-write-orderly
 sub-write-orderly c = search needs
@@ -48,13 +60,28 @@ part-write-orderly-start c = search needs
 
 part-write-orderly-end : tie.Need-part-write-orderly-end
 part-write-orderly-end c =
-    let a = c .before .before .before .before .before .before .before .before .before .before .before .before .before .before .before .before .before .before .before .before in
-    omega (arith, inside _ _ (board a) (a .pre) _ (asked a) _ (c .before .before .before .before .before .before .before .before .before .before .before .has-bytes .ensures (a .args .bytes .now) (a .args .lba) refl) _ (c .before .before .before .before .before .before .before .before .before .before .item-reply .ensures) _ (c .before .before .before .before .before .before .before .before .before .number .ensures) (c .before .before .before .before .before .before .before .before .if1 .left))
+    let at-if1 = c .before .before .before .before .before .before .before .before in
+    let at-number = at-if1 .before in
+    let at-item-reply = at-number .before in
+    let at-has-bytes = at-item-reply .before in
+    let start = at-has-bytes .before .before .before .before .before .before .before .before .before in
+    let a = start in
+    omega (
+      arith,
+      inside _ _ (board a) (a .pre) _ (asked a) _ (at-has-bytes .has-bytes .ensures (a .args .bytes .now) (a .args .lba) refl) _
+          (at-item-reply .item-reply .ensures) _ (at-number .number .ensures) (at-if1 .if1 .left),
+    )
 
 write-orderly-requires : tie.Need-write-orderly-requires
 write-orderly-requires c κs =
-    let a = c .before .before .before .before .before .before .before .before .before .before .before .before .before .before .before .before .before .before .before .before .before in
-    asked-accepted _ _ (board a) (a .pre) _ (asked a) _ (c .before .before .before .before .before .before .before .before .before .before .before .before .has-bytes .ensures (a .args .bytes .now) (a .args .lba) refl) _ (c .before .before .before .before .before .before .before .before .before .before .before .item-reply .ensures) _ (c .before .before .before .before .before .before .before .before .before .before .number .ensures) (c .before .before .before .before .before .before .before .before .before .if1 .left)
+    let at-if1 = c .before .before .before .before .before .before .before .before .before in
+    let at-number = at-if1 .before in
+    let at-item-reply = at-number .before in
+    let at-has-bytes = at-item-reply .before in
+    let start = at-has-bytes .before .before .before .before .before .before .before .before .before in
+    let a = start in
+    asked-accepted _ _ (board a) (a .pre) _ (asked a) _ (at-has-bytes .has-bytes .ensures (a .args .bytes .now) (a .args .lba) refl) _ (at-item-reply .item-reply .ensures) _
+    (at-number .number .ensures) (at-if1 .if1 .left)
 
 same-length : tie.Need-same-length
 same-length c = search needs
@@ -78,7 +105,15 @@ same-length-7 : tie.Need-same-length-7
 same-length-7 c = search needs
 
 returns-2 : tie.Need-returns-2
-returns-2 c = item-done _ _ (board (c .before .before .before .before .before .before .before .before .before .before .before .before .before .before .before .before .before .before .before .before .before .before .before .before .before .before .before .before .before .before .before .before .before .before .before .before)) (c .before .before .before .before .before .before .before .before .before .before .before .before .before .before .before .before .before .before .before .before .before .before .before .before .before .before .before .before .before .before .before .before .before .before .before .before .pre) _ (asked (c .before .before .before .before .before .before .before .before .before .before .before .before .before .before .before .before .before .before .before .before .before .before .before .before .before .before .before .before .before .before .before .before .before .before .before .before)) _ (c .before .before .before .before .before .before .before .before .before .before .before .before .before .before .before .before .before .before .before .before .before .before .before .before .before .before .before .has-bytes .ensures (c .before .before .before .before .before .before .before .before .before .before .before .before .before .before .before .before .before .before .before .before .before .before .before .before .before .before .before .before .before .before .before .before .before .before .before .before .args .bytes .now) (c .before .before .before .before .before .before .before .before .before .before .before .before .before .before .before .before .before .before .before .before .before .before .before .before .before .before .before .before .before .before .before .before .before .before .before .before .args .lba) refl) _ (c .before .before .before .before .before .before .before .before .before .before .before .before .before .before .before .before .before .before .before .before .before .before .before .before .before .before .item-reply .ensures) _ (c .before .before .before .before .before .before .before .before .before .before .before .before .before .before .before .before .before .before .before .before .before .before .before .before .before .number .ensures) (c .before .before .before .before .before .before .before .before .before .before .before .before .before .before .before .before .before .before .before .before .before .before .before .before .if1 .left) _ _ (c .before .before .before .before .before .before .before .before .before .before .before .before .before .before .write-orderly .ensures)
+returns-2 c =
+    let at-write-orderly = c .before .before .before .before .before .before .before .before .before .before .before .before .before .before in
+    let at-if1 = at-write-orderly .before .before .before .before .before .before .before .before .before .before in
+    let at-number = at-if1 .before in
+    let at-item-reply = at-number .before in
+    let at-has-bytes = at-item-reply .before in
+    let start = at-has-bytes .before .before .before .before .before .before .before .before .before in
+    item-done _ _ (board start) (start .pre) _ (asked start) _ (at-has-bytes .has-bytes .ensures (start .args .bytes .now) (start .args .lba) refl) _
+    (at-item-reply .item-reply .ensures) _ (at-number .number .ensures) (at-if1 .if1 .left) _ _ (at-write-orderly .write-orderly .ensures)
 
 pub item-spec : {M : Type 1} → statement M
 item-spec =

@@ -28,9 +28,84 @@ use ghost.Atoms.{Atoms, sem}
 use contract.Monad.{Fun, fact}
 use contract.Lifetimes.{Lfts, Shares}
 use contract.Running.{givenOf, tables, tablesOf}
-use types.Kit.{Given, Item as Entry, Sq, runs, anyQ, atRet, ‵, raw, _⊛_, some, given, later, ⋆, _$_, _∵_, !, qed, by, move, keep, drop, use1, use2, use3, split, split3, join, pick, learn, rewrite, fsplit, fjoin, suffices, frame, await, done}
+use types.Kit.{
+  Given,
+  Item as Entry,
+  Sq,
+  runs,
+  anyQ,
+  atRet,
+  ‵,
+  raw,
+  _⊛_,
+  some,
+  given,
+  later,
+  ⋆,
+  _$_,
+  _∵_,
+  !,
+  qed,
+  by,
+  move,
+  keep,
+  drop,
+  use1,
+  use2,
+  use3,
+  split,
+  split3,
+  join,
+  pick,
+  learn,
+  rewrite,
+  fsplit,
+  fjoin,
+  suffices,
+  frame,
+  await,
+  done,
+}
 use types.Part.{agg, whole, sub, look-in}
-use types.Run.{look, look-raw, store, store-raw, init, forget, stop, hop, fld, from, load, lit, addr, of-opd, bin, and-then, no-more, assigns, assigns-last, land, first, blocks, stays, leaves-loop, loops, again, Below, exec, returns, enter, alloc1, alloc0, params1, pass1, pass0, free1, free0}
+use types.Run.{
+  look,
+  look-raw,
+  store,
+  store-raw,
+  init,
+  forget,
+  stop,
+  hop,
+  fld,
+  from,
+  load,
+  lit,
+  addr,
+  of-opd,
+  bin,
+  and-then,
+  no-more,
+  assigns,
+  assigns-last,
+  land,
+  first,
+  blocks,
+  stays,
+  leaves-loop,
+  loops,
+  again,
+  Below,
+  exec,
+  returns,
+  enter,
+  alloc1,
+  alloc0,
+  params1,
+  pass1,
+  pass0,
+  free1,
+  free0,
+}
 use types.Share.{arr-parts}
 use sound.WpLaws.{FmC, fmOf, WpFn-mono}
 use denote.Laws.{Is, shows}
@@ -69,7 +144,30 @@ use Rattle.queue_item.specs.Items.{ItemIs}
 use Rattle.queue_turns.specs.Served.{servedFrom}
 use Rattle.queue_turns.proofs.Served.{none-left}
 use Rattle.queue_list.proofs.Folded.{one-answered, fold-is, itself}
-use Rattle.queue_list.proofs.Lent.{Slice, at-name, val, Lists, Long, Rooms, Picks, Bundle, Tokens, Owns, Kept, Shared, Held, Said, Toks, Has, lends-all, backs-all, shows-all, hides-all, bundles, unbundles}
+use Rattle.queue_list.proofs.Lent.{
+  Slice,
+  at-name,
+  val,
+  Lists,
+  Long,
+  Rooms,
+  Picks,
+  Bundle,
+  Tokens,
+  Owns,
+  Kept,
+  Shared,
+  Held,
+  Said,
+  Toks,
+  Has,
+  lends-all,
+  backs-all,
+  shows-all,
+  hides-all,
+  bundles,
+  unbundles,
+}
 use Rattle.rules.proofs.Params as Par
 use Rattle.rules.proofs.Params.Laws as Par′
 use Rattle.rules.proofs.Reply as Rep
@@ -100,7 +198,34 @@ use Rattle.queue_list.proofs.queue.Code.Mir as mir
 
 -- each parameter is still owned at exit
 abbrev stayed : Stays (queue.ended .signature .params) (queue.ended .kept)
-stayed = (stay-none (λ _. Par.the-row) yes, (stay-slice (0 ∷ []) tt (plain (λ _. u8)), (stay-slice (1 ∷ []) tt (plain (λ _. u16)), (stay-slice (2 ∷ []) tt (plain (λ _. u16)), (stay-slice (3 ∷ []) tt (plain (λ _. u16)), (stay-slice (4 ∷ []) tt (plain (λ _. u8)), (stay-slice (5 ∷ []) tt (plain (λ _. u32)), (stay-slice (6 ∷ []) tt (plain (λ _. u64)), (stay-none-slice (7 ∷ []) tt (plain (λ _. It.the-row)) yes, (stay-none-slice (8 ∷ []) tt (plain (λ _. u8)) yes, (stay-slice (9 ∷ []) tt (plain (λ _. Ans.the-row)), tt)))))))))))
+stayed = (
+  stay-none (λ _. Par.the-row) yes,
+  (
+    stay-slice (0 ∷ []) tt (plain (λ _. u8)),
+    (
+      stay-slice (1 ∷ []) tt (plain (λ _. u16)),
+      (
+        stay-slice (2 ∷ []) tt (plain (λ _. u16)),
+        (
+          stay-slice (3 ∷ []) tt (plain (λ _. u16)),
+          (
+            stay-slice (4 ∷ []) tt (plain (λ _. u8)),
+            (
+              stay-slice (5 ∷ []) tt (plain (λ _. u32)),
+              (
+                stay-slice (6 ∷ []) tt (plain (λ _. u64)),
+                (
+                  stay-none-slice (7 ∷ []) tt (plain (λ _. It.the-row)) yes,
+                  (stay-none-slice (8 ∷ []) tt (plain (λ _. u8)) yes, (stay-slice (9 ∷ []) tt (plain (λ _. Ans.the-row)), tt)),
+                ),
+              ),
+            ),
+          ),
+        ),
+      ),
+    ),
+  ),
+)
 
 -- the contracts that the proof cites
 module _ {M : Type 1} (𝓤 : URA M) (H : Heap 𝓤) (A : Atoms 𝓤) (mem : Memory → SProp 𝓤) (rn : Routine → Fun 𝓤) where
@@ -288,7 +413,8 @@ module _ {M : Type 1} (𝓤 : URA M) (H : Heap 𝓤) (A : Atoms 𝓤) (W : Given
       qed W (‵ (Bundle ds ls) ∷ ‵ (Own os) ∷ ‵ (flft κo qo) ∷ ‵ Shr ∷ ‵ (flft κr qr) ∷ ‵ Bytes ∷ ‵ (flft κb qb) ∷ ‵ (Ans.the-row .own r (v ∷ [])) ∷
       ‵ Res ∷ ‵ Fact ∷ []) ∵
       suffices ! _ (ends-at 𝓤 H A queue.ended stayed (queue.clauses 𝓤 H A mem rn) W bound v r
-      (tt, (ls .0, (ls .1 .0, (ls .1 .1 .0, (ls .1 .1 .1 .0, (ls .1 .1 .1 .1 .0, (ls .1 .1 .1 .1 .1 .0, (ls .1 .1 .1 .1 .1 .1 .0, (tt, (tt, (os, tt))))))))))) (tt, (l .0, (l .1 .0, (l .1 .1 .0, (l .1 .1 .1 .0, (l .1 .1 .1 .1 .0, (l .1 .1 .1 .1 .1 .0, (l .1 .1 .1 .1 .1 .1 .0, (tt, (tt, (lo, tt)))))))))))) $
+      (tt, (ls .0, (ls .1 .0, (ls .1 .1 .0, (ls .1 .1 .1 .0, (ls .1 .1 .1 .1 .0, (ls .1 .1 .1 .1 .1 .0, (ls .1 .1 .1 .1 .1 .1 .0, (tt, (tt, (os, tt)))))))))))
+      (tt, (l .0, (l .1 .0, (l .1 .1 .0, (l .1 .1 .1 .0, (l .1 .1 .1 .1 .0, (l .1 .1 .1 .1 .1 .0, (l .1 .1 .1 .1 .1 .1 .0, (tt, (tt, (lo, tt)))))))))))) $
       says ! e $
       nothing ! $ move ! (3 ∷ 0 ∷ []) $ fjoin ! $ move ! (6 ∷ 0 ∷ []) $ fjoin ! $ move ! (4 ∷ 0 ∷ []) $ fjoin ! $ nothing ! $ move ! (3 ∷ 0 ∷ []) $
       fjoin ! $ move ! (4 ∷ 0 ∷ []) $ fjoin ! $ move ! (5 ∷ 3 ∷ []) $ fjoin ! $ move ! (5 ∷ 0 ∷ []) $ fjoin ! $ fjoin ! $
@@ -305,7 +431,52 @@ module _ {M : Type 1} (𝓤 : URA M) (H : Heap 𝓤) (A : Atoms 𝓤) (W : Given
   Counts = fsep (usize .own n (vint w64 n ∷ [])) (fsep (usize .own no (vint w64 no ∷ [])) ftrue)
 
   abbrev to-head : Picks ds → HeadOf 𝓤 H A mem rn .Ghost
-  to-head p′ = (((p′ .0 ∷ [], (p′ .1 .1 .0 ∷ [], (p′ .1 .1 .1 .1 .0 ∷ [], (p′ .1 .1 .1 .1 .1 .1 .0 ∷ [], (p′ .1 .1 .1 .1 .1 .1 .1 .1 .0 ∷ [], (p′ .1 .1 .1 .1 .1 .1 .1 .1 .1 .1 .0 ∷ [], (p′ .1 .1 .1 .1 .1 .1 .1 .1 .1 .1 .1 .1 .0 ∷ [], tt))))))), (fullShare, (fullShare, (fullShare, (fullShare, (fullShare, (fullShare, (fullShare, tt))))))), tt, (p, (at-name d₁ (p′ .1 .0) (ls₀ .0), (at-name d₂ (p′ .1 .1 .1 .0) (ls₀ .1 .0), (at-name d₃ (p′ .1 .1 .1 .1 .1 .0) (ls₀ .1 .1 .0), (at-name d₄ (p′ .1 .1 .1 .1 .1 .1 .1 .0) (ls₀ .1 .1 .1 .0), (at-name d₅ (p′ .1 .1 .1 .1 .1 .1 .1 .1 .1 .0) (ls₀ .1 .1 .1 .1 .0), (at-name d₆ (p′ .1 .1 .1 .1 .1 .1 .1 .1 .1 .1 .1 .0) (ls₀ .1 .1 .1 .1 .1 .0), (at-name d₇ (p′ .1 .1 .1 .1 .1 .1 .1 .1 .1 .1 .1 .1 .1 .0) (ls₀ .1 .1 .1 .1 .1 .1 .0), (n, (no, tt)))))))))), (vp ∷ [], (val d₁ ∷ [], (val d₂ ∷ [], (val d₃ ∷ [], (val d₄ ∷ [], (val d₅ ∷ [], (val d₆ ∷ [], (val d₇ ∷ [], (vint w64 n ∷ [], (vint w64 no ∷ [], tt))))))))))), tt)
+  to-head p′ = (
+    (
+      (
+        p′ .0 ∷ [],
+        (
+          p′ .1 .1 .0 ∷ [],
+          (
+            p′ .1 .1 .1 .1 .0 ∷ [],
+            (
+              p′ .1 .1 .1 .1 .1 .1 .0 ∷ [],
+              (
+                p′ .1 .1 .1 .1 .1 .1 .1 .1 .0 ∷ [],
+                (p′ .1 .1 .1 .1 .1 .1 .1 .1 .1 .1 .0 ∷ [], (p′ .1 .1 .1 .1 .1 .1 .1 .1 .1 .1 .1 .1 .0 ∷ [], tt)),
+              ),
+            ),
+          ),
+        ),
+      ),
+      (fullShare, (fullShare, (fullShare, (fullShare, (fullShare, (fullShare, (fullShare, tt))))))),
+      tt,
+      (
+        p,
+        (
+          at-name d₁ (p′ .1 .0) (ls₀ .0),
+          (
+            at-name d₂ (p′ .1 .1 .1 .0) (ls₀ .1 .0),
+            (
+              at-name d₃ (p′ .1 .1 .1 .1 .1 .0) (ls₀ .1 .1 .0),
+              (
+                at-name d₄ (p′ .1 .1 .1 .1 .1 .1 .1 .0) (ls₀ .1 .1 .1 .0),
+                (
+                  at-name d₅ (p′ .1 .1 .1 .1 .1 .1 .1 .1 .1 .0) (ls₀ .1 .1 .1 .1 .0),
+                  (
+                    at-name d₆ (p′ .1 .1 .1 .1 .1 .1 .1 .1 .1 .1 .1 .0) (ls₀ .1 .1 .1 .1 .1 .0),
+                    (at-name d₇ (p′ .1 .1 .1 .1 .1 .1 .1 .1 .1 .1 .1 .1 .1 .0) (ls₀ .1 .1 .1 .1 .1 .1 .0), (n, (no, tt))),
+                  ),
+                ),
+              ),
+            ),
+          ),
+        ),
+      ),
+      (vp ∷ [], (val d₁ ∷ [], (val d₂ ∷ [], (val d₃ ∷ [], (val d₄ ∷ [], (val d₅ ∷ [], (val d₆ ∷ [], (val d₇ ∷ [], (vint w64 n ∷ [], (vint w64 no ∷ [], tt)))))))))),
+    ),
+    tt,
+  )
 
   goes-head : (p′ : Picks ds) → ent 𝓤 (sep 𝓤 (sem 𝓤 H A (Tokens ds p′ ftrue)) (sem 𝓤 H A (fsep OwnP (Shared ds p′ ls₀ Counts))))
       (HeadOf 𝓤 H A mem rn .pre (to-head p′))
@@ -326,7 +497,79 @@ module _ {M : Type 1} (𝓤 : URA M) (H : Heap 𝓤) (A : Atoms 𝓤) (W : Given
       (fsep Bytes ftrue))))
 
   abbrev to-item : Bool → Picks ds → ℕ → Lists ds → OneItem 𝓤 H A mem rn .Ghost
-  to-item t p′ i ls = (((p′ .0 ∷ [], (p′ .1 .1 .0 ∷ [], (p′ .1 .1 .1 .1 .0 ∷ [], (p′ .1 .1 .1 .1 .1 .1 .0 ∷ [], (p′ .1 .1 .1 .1 .1 .1 .1 .1 .0 ∷ [], (p′ .1 .1 .1 .1 .1 .1 .1 .1 .1 .1 .0 ∷ [], (p′ .1 .1 .1 .1 .1 .1 .1 .1 .1 .1 .1 .1 .0 ∷ [], (κb, tt)))))))), (fullShare, (fullShare, (fullShare, (fullShare, (fullShare, (fullShare, (fullShare, (qb, tt)))))))), tt, (p, (at-name d₁ (p′ .1 .0) (ls .0), (at-name d₂ (p′ .1 .1 .1 .0) (ls .1 .0), (at-name d₃ (p′ .1 .1 .1 .1 .1 .0) (ls .1 .1 .0), (at-name d₄ (p′ .1 .1 .1 .1 .1 .1 .1 .0) (ls .1 .1 .1 .0), (at-name d₅ (p′ .1 .1 .1 .1 .1 .1 .1 .1 .1 .0) (ls .1 .1 .1 .1 .0), (at-name d₆ (p′ .1 .1 .1 .1 .1 .1 .1 .1 .1 .1 .1 .0) (ls .1 .1 .1 .1 .1 .0), (at-name d₇ (p′ .1 .1 .1 .1 .1 .1 .1 .1 .1 .1 .1 .1 .1 .0) (ls .1 .1 .1 .1 .1 .1 .0), (t, (elem i .lba, (elem i .count, (elem i .first, (xb, tt))))))))))))), (vp ∷ [], (val d₁ ∷ [], (val d₂ ∷ [], (val d₃ ∷ [], (val d₄ ∷ [], (val d₅ ∷ [], (val d₆ ∷ [], (val d₇ ∷ [], (vbool t ∷ [], (vint w32 (elem i .lba) ∷ [], (vint w32 (elem i .count) ∷ [], (vint w32 (elem i .first) ∷ [], (sb ∷ [], tt)))))))))))))), tt)
+  to-item t p′ i ls = (
+    (
+      (
+        p′ .0 ∷ [],
+        (
+          p′ .1 .1 .0 ∷ [],
+          (
+            p′ .1 .1 .1 .1 .0 ∷ [],
+            (
+              p′ .1 .1 .1 .1 .1 .1 .0 ∷ [],
+              (
+                p′ .1 .1 .1 .1 .1 .1 .1 .1 .0 ∷ [],
+                (p′ .1 .1 .1 .1 .1 .1 .1 .1 .1 .1 .0 ∷ [], (p′ .1 .1 .1 .1 .1 .1 .1 .1 .1 .1 .1 .1 .0 ∷ [], (κb, tt))),
+              ),
+            ),
+          ),
+        ),
+      ),
+      (fullShare, (fullShare, (fullShare, (fullShare, (fullShare, (fullShare, (fullShare, (qb, tt)))))))),
+      tt,
+      (
+        p,
+        (
+          at-name d₁ (p′ .1 .0) (ls .0),
+          (
+            at-name d₂ (p′ .1 .1 .1 .0) (ls .1 .0),
+            (
+              at-name d₃ (p′ .1 .1 .1 .1 .1 .0) (ls .1 .1 .0),
+              (
+                at-name d₄ (p′ .1 .1 .1 .1 .1 .1 .1 .0) (ls .1 .1 .1 .0),
+                (
+                  at-name d₅ (p′ .1 .1 .1 .1 .1 .1 .1 .1 .1 .0) (ls .1 .1 .1 .1 .0),
+                  (
+                    at-name d₆ (p′ .1 .1 .1 .1 .1 .1 .1 .1 .1 .1 .1 .0) (ls .1 .1 .1 .1 .1 .0),
+                    (at-name d₇ (p′ .1 .1 .1 .1 .1 .1 .1 .1 .1 .1 .1 .1 .1 .0) (ls .1 .1 .1 .1 .1 .1 .0), (t, (elem i .lba, (elem i .count, (elem i .first, (xb, tt)))))),
+                  ),
+                ),
+              ),
+            ),
+          ),
+        ),
+      ),
+      (
+        vp ∷ [],
+        (
+          val d₁ ∷ [],
+          (
+            val d₂ ∷ [],
+            (
+              val d₃ ∷ [],
+              (
+                val d₄ ∷ [],
+                (
+                  val d₅ ∷ [],
+                  (
+                    val d₆ ∷ [],
+                    (
+                      val d₇ ∷ [],
+                      (
+                        vbool t ∷ [],
+                        (vint w32 (elem i .lba) ∷ [], (vint w32 (elem i .count) ∷ [], (vint w32 (elem i .first) ∷ [], (sb ∷ [], tt)))),
+                      ),
+                    ),
+                  ),
+                ),
+              ),
+            ),
+          ),
+        ),
+      ),
+    ),
+    tt,
+  )
 
   goes-item : (t : Bool) (p′ : Picks ds) (i : ℕ) (ls : Lists ds) → Ready p t (S ls) →
       ent 𝓤 (sep 𝓤 (sem 𝓤 H A (Tokens ds p′ BytesTok)) (sem 𝓤 H A (fsep OwnP (Owns ds p′ ls (Numbers t i)))))
@@ -872,22 +1115,84 @@ module _ {M : Type 1} (𝓤 : URA M) (H : Heap 𝓤) (A : Atoms 𝓤) (W : Given
       → Walks 𝓤 H A queue.ended stayed (WpFn 𝓤 H (𝓣 .C) (𝓣 .Λ) code.function) (queue.clauses 𝓤 H A mem rn)
   queue-walks 𝓣 heads serves idles = walked 𝓤 H A queue.ended stayed (queue.clauses 𝓤 H A mem rn) (WpFn 𝓤 H (𝓣 .C) (𝓣 .Λ) code.function)
       (λ κs. (LL.vals Par.the-type Par′.the-laws, (slice-vals, (slice-vals, (slice-vals, (slice-vals, (slice-vals, (slice-vals, (slice-vals, (slice-vals, (slice-vals, (slice-vals, tt))))))))))))
-      (λ κs. (LL.tells Par.the-type Par′.the-laws, (mut-slice-tells (named 0) (κs .0) u8, (mut-slice-tells (named 1) (κs .1 .0) u16, (mut-slice-tells (named 2) (κs .1 .1 .0) u16, (mut-slice-tells (named 3) (κs .1 .1 .1 .0) u16, (mut-slice-tells (named 4) (κs .1 .1 .1 .1 .0) u8, (mut-slice-tells (named 5) (κs .1 .1 .1 .1 .1 .0) u32, (mut-slice-tells (named 6) (κs .1 .1 .1 .1 .1 .1 .0) u64, (shr-slice-tells (named 7) (κs .1 .1 .1 .1 .1 .1 .1 .0) It.the-row, (shr-slice-tells (named 8) (κs .1 .1 .1 .1 .1 .1 .1 .1 .0) u8, (mut-slice-tells (named 9) (κs .1 .1 .1 .1 .1 .1 .1 .1 .1 .0) Ans.the-row, tt))))))))))))
+      (λ κs. (
+        LL.tells Par.the-type Par′.the-laws,
+        (
+          mut-slice-tells (named 0) (κs .0) u8,
+          (
+            mut-slice-tells (named 1) (κs .1 .0) u16,
+            (
+              mut-slice-tells (named 2) (κs .1 .1 .0) u16,
+              (
+                mut-slice-tells (named 3) (κs .1 .1 .1 .0) u16,
+                (
+                  mut-slice-tells (named 4) (κs .1 .1 .1 .1 .0) u8,
+                  (
+                    mut-slice-tells (named 5) (κs .1 .1 .1 .1 .1 .0) u32,
+                    (
+                      mut-slice-tells (named 6) (κs .1 .1 .1 .1 .1 .1 .0) u64,
+                      (
+                        shr-slice-tells (named 7) (κs .1 .1 .1 .1 .1 .1 .1 .0) It.the-row,
+                        (shr-slice-tells (named 8) (κs .1 .1 .1 .1 .1 .1 .1 .1 .0) u8, (mut-slice-tells (named 9) (κs .1 .1 .1 .1 .1 .1 .1 .1 .1 .0) Ans.the-row, tt)),
+                      ),
+                    ),
+                  ),
+                ),
+              ),
+            ),
+          ),
+        ),
+      ))
       (λ κs qs bounds a g are. via 𝓤 _ (fst∗ 𝓤 _ (emp 𝓤))
       (walk 𝓤 H A W mem rn (a .0) (κs .0) (qs .0) (a .1 .0) (κs .1 .0) (qs .1 .0) (a .1 .1 .0) (κs .1 .1 .0) (qs .1 .1 .0) (a .1 .1 .1 .0)
       (κs .1 .1 .1 .0) (qs .1 .1 .1 .0) (a .1 .1 .1 .1 .0) (κs .1 .1 .1 .1 .0) (qs .1 .1 .1 .1 .0) (a .1 .1 .1 .1 .1 .0) (κs .1 .1 .1 .1 .1 .0)
       (qs .1 .1 .1 .1 .1 .0) (a .1 .1 .1 .1 .1 .1 .0) (κs .1 .1 .1 .1 .1 .1 .0) (qs .1 .1 .1 .1 .1 .1 .0) (a .1 .1 .1 .1 .1 .1 .1 .0)
       (κs .1 .1 .1 .1 .1 .1 .1 .0) (qs .1 .1 .1 .1 .1 .1 .1 .0) (a .1 .1 .1 .1 .1 .1 .1 .1 .0) (κs .1 .1 .1 .1 .1 .1 .1 .1 .0)
       (qs .1 .1 .1 .1 .1 .1 .1 .1 .0) (a .1 .1 .1 .1 .1 .1 .1 .1 .1 .0) (κs .1 .1 .1 .1 .1 .1 .1 .1 .1 .0) (qs .1 .1 .1 .1 .1 .1 .1 .1 .1 .0)
-      (a .1 .1 .1 .1 .1 .1 .1 .1 .1 .1 .0) 𝓣 (fmOf 𝓤 H (W .laws) 𝓣) heads serves idles (are .0)
-      (are .1 .0 .0 .1, (are .1 .1 .0 .0 .1, (are .1 .1 .1 .0 .0 .1, (are .1 .1 .1 .1 .0 .0 .1, (are .1 .1 .1 .1 .1 .0 .0 .1, (are .1 .1 .1 .1 .1 .1 .0 .0 .1, (are .1 .1 .1 .1 .1 .1 .1 .0 .0 .1, tt))))))) (are .1 .1 .1 .1 .1 .1 .1 .1 .0 .0 .1) (are .1 .1 .1 .1 .1 .1 .1 .1 .1 .0 .0 .1) (are .1 .1 .1 .1 .1 .1 .1 .1 .1 .1 .0 .0 .1)))
+      (a .1 .1 .1 .1 .1 .1 .1 .1 .1 .1 .0) 𝓣 (fmOf 𝓤 H (W .laws) 𝓣) heads serves idles (are .0) (
+        are .1 .0 .0 .1,
+        (
+          are .1 .1 .0 .0 .1,
+          (
+            are .1 .1 .1 .0 .0 .1,
+            (are .1 .1 .1 .1 .0 .0 .1, (are .1 .1 .1 .1 .1 .0 .0 .1, (are .1 .1 .1 .1 .1 .1 .0 .0 .1, (are .1 .1 .1 .1 .1 .1 .1 .0 .0 .1, tt)))),
+          ),
+        ),
+      )
+      (are .1 .1 .1 .1 .1 .1 .1 .1 .0 .0 .1) (are .1 .1 .1 .1 .1 .1 .1 .1 .1 .0 .0 .1) (are .1 .1 .1 .1 .1 .1 .1 .1 .1 .1 .0 .0 .1)))
 
 queue-meets : {M : Type 1} (𝓤 : URA M) (H : Heap 𝓤) (A : Atoms 𝓤) → Given 𝓤 H A → (mem : Memory → SProp 𝓤) (rn : Routine → Fun 𝓤) (𝓣 : Tables 𝓤 H) →
     Triple 𝓤 (𝓣 .C #queue-head·head-of) (HeadOf 𝓤 H A mem rn) → Triple 𝓤 (𝓣 .C #queue-item·item) (OneItem 𝓤 H A mem rn) →
     Triple 𝓤 (𝓣 .C #reply-rows·idle) (Idle 𝓤 H A mem rn)
     → Meets 𝓤 H A queue.signature (WpFn 𝓤 H (𝓣 .C) (𝓣 .Λ) code.function) (queue.spec 𝓤 H A mem rn)
-queue-meets 𝓤 H A W mem rn 𝓣 heads serves idles = walk-meets 𝓤 H A queue.ended stayed W
-    (goes-none 𝓤 H A W 10 (λ _. Par.the-row) yes (λ κs x f. refl), (goes-slice 𝓤 H A W 10 0 tt (plain (λ _. u8)), (goes-slice 𝓤 H A W 10 1 tt (plain (λ _. u16)), (goes-slice 𝓤 H A W 10 2 tt (plain (λ _. u16)), (goes-slice 𝓤 H A W 10 3 tt (plain (λ _. u16)), (goes-slice 𝓤 H A W 10 4 tt (plain (λ _. u8)), (goes-slice 𝓤 H A W 10 5 tt (plain (λ _. u32)), (goes-slice 𝓤 H A W 10 6 tt (plain (λ _. u64)), (goes-none-slice 𝓤 H A W 10 (7 ∷ []) tt (plain (λ _. It.the-row)) yes, (goes-none-slice 𝓤 H A W 10 (8 ∷ []) tt (plain (λ _. u8)) yes, (goes-slice 𝓤 H A W 10 9 tt (plain (λ _. Ans.the-row)), tt)))))))))))
+queue-meets 𝓤 H A W mem rn 𝓣 heads serves idles = walk-meets 𝓤 H A queue.ended stayed W (
+  goes-none 𝓤 H A W 10 (λ _. Par.the-row) yes (λ κs x f. refl),
+  (
+    goes-slice 𝓤 H A W 10 0 tt (plain (λ _. u8)),
+    (
+      goes-slice 𝓤 H A W 10 1 tt (plain (λ _. u16)),
+      (
+        goes-slice 𝓤 H A W 10 2 tt (plain (λ _. u16)),
+        (
+          goes-slice 𝓤 H A W 10 3 tt (plain (λ _. u16)),
+          (
+            goes-slice 𝓤 H A W 10 4 tt (plain (λ _. u8)),
+            (
+              goes-slice 𝓤 H A W 10 5 tt (plain (λ _. u32)),
+              (
+                goes-slice 𝓤 H A W 10 6 tt (plain (λ _. u64)),
+                (
+                  goes-none-slice 𝓤 H A W 10 (7 ∷ []) tt (plain (λ _. It.the-row)) yes,
+                  (goes-none-slice 𝓤 H A W 10 (8 ∷ []) tt (plain (λ _. u8)) yes, (goes-slice 𝓤 H A W 10 9 tt (plain (λ _. Ans.the-row)), tt)),
+                ),
+              ),
+            ),
+          ),
+        ),
+      ),
+    ),
+  ),
+)
     (queue.clauses 𝓤 H A mem rn) (WpFn 𝓤 H (𝓣 .C) (𝓣 .Λ) code.function) (WpFn-mono 𝓤 H (W .laws) 𝓣 code.function)
     (queue-walks 𝓤 H A W mem rn 𝓣 heads serves idles)
 

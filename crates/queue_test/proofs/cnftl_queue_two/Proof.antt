@@ -18,21 +18,28 @@ queue-two-requires c κs = search needs
 
 pack-requires : tie.Need-pack-requires
 pack-requires c κs =
-    let two = c .before .before .before .before .before .before .before .before .before .before .before .before .before .before .before .before .before .before in
-    (few-two _ (board (two .before .before .before .before .before .before .before .before .before .before .before .before .before .before .before .before .before)) _ _ _ _ _ _ _ (two .queue-two .ensures)) .1 .0
+    let start = c .before .before .before .before .before .before .before .before .before .before .before .before .before .before .before .before .before .before in
+    let two = start in
+    (few-two _ (board (two .before .before .before .before .before .before .before .before .before .before .before .before .before .before .before .before .before)) _ _ _ _ _
+    _ _ (two .queue-two .ensures)) .1 .0
 
 pack-requires-2 : tie.Need-pack-requires-2
 pack-requires-2 c κs =
-    let two = c .before .before .before .before .before .before .before .before .before .before .before .before .before .before .before .before .before .before .before in
-    (few-two _ (board (two .before .before .before .before .before .before .before .before .before .before .before .before .before .before .before .before .before)) _ _ _ _ _ _ _ (two .queue-two .ensures)) .1 .1 .0
+    let start = c .before .before .before .before .before .before .before .before .before .before .before .before .before .before .before .before .before .before .before in
+    let two = start in
+    (few-two _ (board (two .before .before .before .before .before .before .before .before .before .before .before .before .before .before .before .before .before)) _ _ _ _ _
+    _ _ (two .queue-two .ensures)) .1 .1 .0
 
 put-both-requires : tie.Need-put-both-requires
 put-both-requires c κs = search needs
 
 pack-requires-3 : tie.Need-pack-requires-3
 pack-requires-3 c κs =
-    let two = c .before .before .before .before .before .before .before .before .before .before .before .before .before .before .before .before .before .before .before .before .before .before .before in
-    (few-two _ (board (two .before .before .before .before .before .before .before .before .before .before .before .before .before .before .before .before .before)) _ _ _ _ _ _ _ (two .queue-two .ensures)) .0
+    let start = c .before .before .before .before .before .before .before .before .before .before .before
+    .before .before .before .before .before .before .before .before .before .before .before .before in
+    let two = start in
+    (few-two _ (board (two .before .before .before .before .before .before .before .before .before .before .before .before .before .before .before .before .before)) _ _ _ _ _
+    _ _ (two .queue-two .ensures)) .0
 
 same-length : tie.Need-same-length
 same-length c = search needs
@@ -60,8 +67,13 @@ same-length-8 c = search needs
 
 returns : tie.Need-returns
 returns c =
-    let two = c .before .before .before .before .before .before .before .before .before .before .before .before .before .before .before .before .before .before .before .before .before .before .before .before .queue-two in
-    let entry = c .before .before .before .before .before .before .before .before .before .before .before .before .before .before .before .before .before .before .before .before .before .before .before .before .before .before .before .before .before .before .before .before .before .before .before .before .before .before .before .before .before in
+    let at-put-both = c .before .before .before in
+    let at-pack2 = at-put-both .before in
+    let at-pack = at-pack2 .before in
+    let at-queue-two = at-pack .before .before .before .before .before .before .before .before .before .before .before .before .before .before .before .before .before .before .before in
+    let start = at-queue-two .before .before .before .before .before .before .before .before .before .before .before .before .before .before .before .before .before in
+    let two = at-queue-two .queue-two in
+    let entry = start in
     record {
       own = two .result .own;
       first = two .result .first;
@@ -69,9 +81,9 @@ returns c =
       whole = two .ensures;
       result = c .pack3 .ensures;
       list =
-          c .before .before .before .put-both .ensures
+          at-put-both .put-both .ensures
           ∙ ap₂ (λ (first second : ℕ). placed (first ∷ second ∷ two .result .first .looks ∷ two .result .second .looks ∷ []) (entry .args .answers .now))
-          (c .before .before .before .before .before .pack .ensures) (c .before .before .before .before .pack2 .ensures);
+          (at-pack .pack .ensures) (at-pack2 .pack2 .ensures);
     }
 
 pub cnftl-queue-two-spec : {M : Type 1} → statement M

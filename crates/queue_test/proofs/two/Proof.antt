@@ -73,7 +73,37 @@ use Rattle.queue_test.proofs.two.Code as code
 
 -- at exit nothing is had of what came by value or shared, and of each table what says its last list
 abbrev stayed : Stays (two.ended .signature .params) (two.ended .kept)
-stayed = (stay-dropped (plain (λ _. Par.the-row)) yes, (gave-slice (0 ∷ []) tt (plain (λ _. u8)), (gave-slice (1 ∷ []) tt (plain (λ _. u16)), (gave-slice (2 ∷ []) tt (plain (λ _. u16)), (gave-slice (3 ∷ []) tt (plain (λ _. u16)), (gave-slice (4 ∷ []) tt (plain (λ _. u8)), (gave-slice (5 ∷ []) tt (plain (λ _. u32)), (gave-slice (6 ∷ []) tt (plain (λ _. u64)), (stay-dropped (plain (λ _. It.the-row)) yes, (stay-dropped (plain (λ _. It.the-row)) yes, (stay-dropped (shrSliceOf (7 ∷ []) tt (plain (λ _. u8))) yes, (stay-dropped (plain (λ _. Ans.the-row)) yes, tt))))))))))))
+stayed = (
+  stay-dropped (plain (λ _. Par.the-row)) yes,
+  (
+    gave-slice (0 ∷ []) tt (plain (λ _. u8)),
+    (
+      gave-slice (1 ∷ []) tt (plain (λ _. u16)),
+      (
+        gave-slice (2 ∷ []) tt (plain (λ _. u16)),
+        (
+          gave-slice (3 ∷ []) tt (plain (λ _. u16)),
+          (
+            gave-slice (4 ∷ []) tt (plain (λ _. u8)),
+            (
+              gave-slice (5 ∷ []) tt (plain (λ _. u32)),
+              (
+                gave-slice (6 ∷ []) tt (plain (λ _. u64)),
+                (
+                  stay-dropped (plain (λ _. It.the-row)) yes,
+                  (
+                    stay-dropped (plain (λ _. It.the-row)) yes,
+                    (stay-dropped (shrSliceOf (7 ∷ []) tt (plain (λ _. u8))) yes, (stay-dropped (plain (λ _. Ans.the-row)) yes, tt)),
+                  ),
+                ),
+              ),
+            ),
+          ),
+        ),
+      ),
+    ),
+  ),
+)
 
 -- the contract that the proof cites
 abbrev Queue : {M : Type 1} (𝓤 : URA M) (H : Heap 𝓤) (A : Atoms 𝓤) (mem : Memory → SProp 𝓤) (rn : Routine → Fun 𝓤) → Contract 𝓤
@@ -219,7 +249,8 @@ module _ {M : Type 1} (𝓤 : URA M) (H : Heap 𝓤) (A : Atoms 𝓤) (W : Given
   exits ls l r is e =
       qed W (‵ (chain toks ftrue) ∷ ‵ BytesTok ∷ ‵ (chain (fins ls) ftrue) ∷ []) ∵
       suffices ! _ (ends-at 𝓤 H A two.ended stayed (two.clauses 𝓤 H A mem′ rn) W bound _ r
-      (tt, (ls .0, (ls .1 .0, (ls .1 .1 .0, (ls .1 .1 .1 .0, (ls .1 .1 .1 .1 .0, (ls .1 .1 .1 .1 .1 .0, (ls .1 .1 .1 .1 .1 .1 .0, (tt, (tt, (tt, (tt, tt)))))))))))) (tt, (l .0, (l .1 .0, (l .1 .1 .0, (l .1 .1 .1 .0, (l .1 .1 .1 .1 .0, (l .1 .1 .1 .1 .1 .0, (l .1 .1 .1 .1 .1 .1 .0, (tt, (tt, (tt, (tt, tt))))))))))))) $
+      (tt, (ls .0, (ls .1 .0, (ls .1 .1 .0, (ls .1 .1 .1 .0, (ls .1 .1 .1 .1 .0, (ls .1 .1 .1 .1 .1 .0, (ls .1 .1 .1 .1 .1 .1 .0, (tt, (tt, (tt, (tt, tt))))))))))))
+      (tt, (l .0, (l .1 .0, (l .1 .1 .0, (l .1 .1 .1 .0, (l .1 .1 .1 .1 .0, (l .1 .1 .1 .1 .1 .0, (l .1 .1 .1 .1 .1 .1 .0, (tt, (tt, (tt, (tt, tt))))))))))))) $
       says ! e $
       use2 W (‵ (chain toks BytesTok)) (rechain 𝓤 H A W toks BytesTok) $ frame ! $
       nothing ! $ nothing ! $ fjoin ! $ nothing ! $ fjoin ! $ nothing ! $ fjoin ! $ nothing ! $ fjoin ! $ move ! (1 ∷ 0 ∷ []) $
@@ -249,7 +280,16 @@ module _ {M : Type 1} (𝓤 : URA M) (H : Heap 𝓤) (A : Atoms 𝓤) (W : Given
   AskHas l m ν ν′ δ δ′ = fsep (Items l ν δ) (fsep Bytes (fsep (Answers m ν′ δ′) ftrue))
 
   abbrev to-queue : ℕ → ℕ → ℕ → ℕ → GName → GName → Queue 𝓤 H A mem′ rn .Ghost
-  to-queue l m ν ν′ δ δ′ = (((κ₁, (κ₂, (κ₃, (κ₄, (κ₅, (κ₆, (κ₇, (ν ∷ [], (κb, (ν′ ∷ [], tt)))))))))), (q₁, (q₂, (q₃, (q₄, (q₅, (q₆, (q₇, (fullShare, (qb, (fullShare, tt)))))))))), tt, (p, (x₁, (x₂, (x₃, (x₄, (x₅, (x₆, (x₇, (xr l δ, (xb, (xo m δ′, tt))))))))))), (vp ∷ [], (v₁ ∷ [], (v₂ ∷ [], (v₃ ∷ [], (v₄ ∷ [], (v₅ ∷ [], (v₆ ∷ [], (v₇ ∷ [], (at-two l ∷ [], (sb ∷ [], (at-two m ∷ [], tt)))))))))))), tt)
+  to-queue l m ν ν′ δ δ′ = (
+    (
+      (κ₁, (κ₂, (κ₃, (κ₄, (κ₅, (κ₆, (κ₇, (ν ∷ [], (κb, (ν′ ∷ [], tt)))))))))),
+      (q₁, (q₂, (q₃, (q₄, (q₅, (q₆, (q₇, (fullShare, (qb, (fullShare, tt)))))))))),
+      tt,
+      (p, (x₁, (x₂, (x₃, (x₄, (x₅, (x₆, (x₇, (xr l δ, (xb, (xo m δ′, tt))))))))))),
+      (vp ∷ [], (v₁ ∷ [], (v₂ ∷ [], (v₃ ∷ [], (v₄ ∷ [], (v₅ ∷ [], (v₆ ∷ [], (v₇ ∷ [], (at-two l ∷ [], (sb ∷ [], (at-two m ∷ [], tt))))))))))),
+    ),
+    tt,
+  )
 
   goes-queue : (l m ν ν′ : ℕ) (δ δ′ : GName) → ent 𝓤 (sep 𝓤 (sem 𝓤 H A (chain toks (AskToks ν ν′)))
       (sem 𝓤 H A (fsep OwnP (chain tabs (AskHas l m ν ν′ δ δ′))))) (Queue 𝓤 H A mem′ rn .pre (to-queue l m ν ν′ δ δ′))
@@ -517,21 +557,110 @@ module _ {M : Type 1} (𝓤 : URA M) (H : Heap 𝓤) (A : Atoms 𝓤) (W : Given
   two-walks : (𝓣 : Tables 𝓤 H) → Triple 𝓤 (𝓣 .C #queue-list·queue) (Queue 𝓤 H A mem′ rn) →
       Walks 𝓤 H A two.ended stayed (WpFn 𝓤 H (𝓣 .C) (𝓣 .Λ) code.function) (two.clauses 𝓤 H A mem′ rn)
   two-walks 𝓣 known = walked 𝓤 H A two.ended stayed (two.clauses 𝓤 H A mem′ rn) (WpFn 𝓤 H (𝓣 .C) (𝓣 .Λ) code.function)
-      (λ κs. (LL.vals Par.the-type Par′.the-laws, (slice-vals, (slice-vals, (slice-vals, (slice-vals, (slice-vals, (slice-vals, (slice-vals, (LL.vals It.the-type It′.the-laws, (LL.vals It.the-type It′.the-laws, (slice-vals, (LL.vals Ans.the-type Ans′.the-laws, tt)))))))))))))
-      (λ κs. (LL.tells Par.the-type Par′.the-laws, (mut-slice-tells (named 0) (κs .0) u8, (mut-slice-tells (named 1) (κs .1 .0) u16, (mut-slice-tells (named 2) (κs .1 .1 .0) u16, (mut-slice-tells (named 3) (κs .1 .1 .1 .0) u16, (mut-slice-tells (named 4) (κs .1 .1 .1 .1 .0) u8, (mut-slice-tells (named 5) (κs .1 .1 .1 .1 .1 .0) u32, (mut-slice-tells (named 6) (κs .1 .1 .1 .1 .1 .1 .0) u64, (LL.tells It.the-type It′.the-laws, (LL.tells It.the-type It′.the-laws, (shr-slice-tells (named 7) (κs .1 .1 .1 .1 .1 .1 .1 .0) u8, (LL.tells Ans.the-type Ans′.the-laws, tt)))))))))))))
+      (λ κs. (
+        LL.vals Par.the-type Par′.the-laws,
+        (
+          slice-vals,
+          (
+            slice-vals,
+            (
+              slice-vals,
+              (
+                slice-vals,
+                (
+                  slice-vals,
+                  (slice-vals, (slice-vals, (LL.vals It.the-type It′.the-laws, (LL.vals It.the-type It′.the-laws, (slice-vals, (LL.vals Ans.the-type Ans′.the-laws, tt)))))),
+                ),
+              ),
+            ),
+          ),
+        ),
+      ))
+      (λ κs. (
+        LL.tells Par.the-type Par′.the-laws,
+        (
+          mut-slice-tells (named 0) (κs .0) u8,
+          (
+            mut-slice-tells (named 1) (κs .1 .0) u16,
+            (
+              mut-slice-tells (named 2) (κs .1 .1 .0) u16,
+              (
+                mut-slice-tells (named 3) (κs .1 .1 .1 .0) u16,
+                (
+                  mut-slice-tells (named 4) (κs .1 .1 .1 .1 .0) u8,
+                  (
+                    mut-slice-tells (named 5) (κs .1 .1 .1 .1 .1 .0) u32,
+                    (
+                      mut-slice-tells (named 6) (κs .1 .1 .1 .1 .1 .1 .0) u64,
+                      (
+                        LL.tells It.the-type It′.the-laws,
+                        (
+                          LL.tells It.the-type It′.the-laws,
+                          (shr-slice-tells (named 7) (κs .1 .1 .1 .1 .1 .1 .1 .0) u8, (LL.tells Ans.the-type Ans′.the-laws, tt)),
+                        ),
+                      ),
+                    ),
+                  ),
+                ),
+              ),
+            ),
+          ),
+        ),
+      ))
       (λ κs qs bounds a g are. via 𝓤 _ (fst∗ 𝓤 _ (emp 𝓤))
       (walk 𝓤 H A W mem′ rn (a .0) (κs .0) (qs .0) (a .1 .0) (κs .1 .0) (qs .1 .0) (a .1 .1 .0) (κs .1 .1 .0) (qs .1 .1 .0) (a .1 .1 .1 .0)
       (κs .1 .1 .1 .0) (qs .1 .1 .1 .0) (a .1 .1 .1 .1 .0) (κs .1 .1 .1 .1 .0) (qs .1 .1 .1 .1 .0) (a .1 .1 .1 .1 .1 .0) (κs .1 .1 .1 .1 .1 .0)
       (qs .1 .1 .1 .1 .1 .0) (a .1 .1 .1 .1 .1 .1 .0) (κs .1 .1 .1 .1 .1 .1 .0) (qs .1 .1 .1 .1 .1 .1 .0) (a .1 .1 .1 .1 .1 .1 .1 .0)
       (a .1 .1 .1 .1 .1 .1 .1 .1 .0) (a .1 .1 .1 .1 .1 .1 .1 .1 .1 .0) (κs .1 .1 .1 .1 .1 .1 .1 .0) (qs .1 .1 .1 .1 .1 .1 .1 .0)
-      (a .1 .1 .1 .1 .1 .1 .1 .1 .1 .1 .0) (a .1 .1 .1 .1 .1 .1 .1 .1 .1 .1 .1 .0) 𝓣 (fmOf 𝓤 H (W .laws) 𝓣) known (are .0)
-      (are .1 .0 .0 .1, (are .1 .1 .0 .0 .1, (are .1 .1 .1 .0 .0 .1, (are .1 .1 .1 .1 .0 .0 .1, (are .1 .1 .1 .1 .1 .0 .0 .1, (are .1 .1 .1 .1 .1 .1 .0 .0 .1, (are .1 .1 .1 .1 .1 .1 .1 .0 .0 .1, tt))))))) (are .1 .1 .1 .1 .1 .1 .1 .1 .0) (are .1 .1 .1 .1 .1 .1 .1 .1 .1 .0) (are .1 .1 .1 .1 .1 .1 .1 .1 .1 .1 .0 .0 .1) (are .1 .1 .1 .1 .1 .1 .1 .1 .1 .1 .1 .0)))
+      (a .1 .1 .1 .1 .1 .1 .1 .1 .1 .1 .0) (a .1 .1 .1 .1 .1 .1 .1 .1 .1 .1 .1 .0) 𝓣 (fmOf 𝓤 H (W .laws) 𝓣) known (are .0) (
+        are .1 .0 .0 .1,
+        (
+          are .1 .1 .0 .0 .1,
+          (
+            are .1 .1 .1 .0 .0 .1,
+            (are .1 .1 .1 .1 .0 .0 .1, (are .1 .1 .1 .1 .1 .0 .0 .1, (are .1 .1 .1 .1 .1 .1 .0 .0 .1, (are .1 .1 .1 .1 .1 .1 .1 .0 .0 .1, tt)))),
+          ),
+        ),
+      )
+      (are .1 .1 .1 .1 .1 .1 .1 .1 .0) (are .1 .1 .1 .1 .1 .1 .1 .1 .1 .0) (are .1 .1 .1 .1 .1 .1 .1 .1 .1 .1 .0 .0 .1) (are .1 .1 .1 .1 .1 .1 .1 .1 .1 .1 .1 .0)))
 
 two-meets : {M : Type 1} (𝓤 : URA M) (H : Heap 𝓤) (A : Atoms 𝓤) → Given 𝓤 H A → (mem′ : Memory → SProp 𝓤) (rn : Routine → Fun 𝓤) (𝓣 : Tables 𝓤 H) →
     Triple 𝓤 (𝓣 .C #queue-list·queue) (Queue 𝓤 H A mem′ rn)
     → Meets 𝓤 H A two.signature (WpFn 𝓤 H (𝓣 .C) (𝓣 .Λ) code.function) (two.spec 𝓤 H A mem′ rn)
-two-meets 𝓤 H A W mem′ rn 𝓣 known = walk-meets 𝓤 H A two.ended stayed W
-    (goes-dropped 𝓤 H A W 8 (plain (λ _. Par.the-row)) yes (λ κs x f. refl), (goes-gave-slice 𝓤 H A W 8 0 tt (plain (λ _. u8)), (goes-gave-slice 𝓤 H A W 8 1 tt (plain (λ _. u16)), (goes-gave-slice 𝓤 H A W 8 2 tt (plain (λ _. u16)), (goes-gave-slice 𝓤 H A W 8 3 tt (plain (λ _. u16)), (goes-gave-slice 𝓤 H A W 8 4 tt (plain (λ _. u8)), (goes-gave-slice 𝓤 H A W 8 5 tt (plain (λ _. u32)), (goes-gave-slice 𝓤 H A W 8 6 tt (plain (λ _. u64)), (goes-dropped 𝓤 H A W 8 (plain (λ _. It.the-row)) yes (λ κs x f. refl), (goes-dropped 𝓤 H A W 8 (plain (λ _. It.the-row)) yes (λ κs x f. refl), (goes-dropped 𝓤 H A W 8 (shrSliceOf (7 ∷ []) tt (plain (λ _. u8))) yes (λ κs x f. refl), (goes-dropped 𝓤 H A W 8 (plain (λ _. Ans.the-row)) yes (λ κs x f. refl), tt))))))))))))
+two-meets 𝓤 H A W mem′ rn 𝓣 known = walk-meets 𝓤 H A two.ended stayed W (
+  goes-dropped 𝓤 H A W 8 (plain (λ _. Par.the-row)) yes (λ κs x f. refl),
+  (
+    goes-gave-slice 𝓤 H A W 8 0 tt (plain (λ _. u8)),
+    (
+      goes-gave-slice 𝓤 H A W 8 1 tt (plain (λ _. u16)),
+      (
+        goes-gave-slice 𝓤 H A W 8 2 tt (plain (λ _. u16)),
+        (
+          goes-gave-slice 𝓤 H A W 8 3 tt (plain (λ _. u16)),
+          (
+            goes-gave-slice 𝓤 H A W 8 4 tt (plain (λ _. u8)),
+            (
+              goes-gave-slice 𝓤 H A W 8 5 tt (plain (λ _. u32)),
+              (
+                goes-gave-slice 𝓤 H A W 8 6 tt (plain (λ _. u64)),
+                (
+                  goes-dropped 𝓤 H A W 8 (plain (λ _. It.the-row)) yes (λ κs x f. refl),
+                  (
+                    goes-dropped 𝓤 H A W 8 (plain (λ _. It.the-row)) yes (λ κs x f. refl),
+                    (
+                      goes-dropped 𝓤 H A W 8 (shrSliceOf (7 ∷ []) tt (plain (λ _. u8))) yes (λ κs x f. refl),
+                      (goes-dropped 𝓤 H A W 8 (plain (λ _. Ans.the-row)) yes (λ κs x f. refl), tt),
+                    ),
+                  ),
+                ),
+              ),
+            ),
+          ),
+        ),
+      ),
+    ),
+  ),
+)
     (two.clauses 𝓤 H A mem′ rn) (WpFn 𝓤 H (𝓣 .C) (𝓣 .Λ) code.function) (WpFn-mono 𝓤 H (W .laws) 𝓣 code.function) (two-walks 𝓤 H A W mem′ rn 𝓣 known)
 
 pub two-spec : {M : Type 1} → stated.statement M

@@ -13,43 +13,70 @@ ct-at-requires c κs = search needs
 
 returns : tie.Need-returns
 returns c =
-    let pre = c .before .before .before .before .before .before .pre in
+    let entered = c .before .before .before .before .before .before in
+    let pre = entered .pre in
     let sg = c .before .before .ct-at .ensures .0 in
     (not-kept _ _ _ _ _ pre _ sg (c .if1 .taken), (nowhere _ _ _ _ _ pre _ sg, no-looks _ _ _ _ _ pre _ sg (c .if1 .taken)))
 
 region-of-requires : tie.Need-region-of-requires
-region-of-requires c κs = (sizes _ (c .before .before .before .before .before .before .pre .fine)) .regions
+region-of-requires c κs =
+    let entered = c .before .before .before .before .before .before in
+    (sizes _ (entered .pre .fine)) .regions
 
 vblock-of-requires : tie.Need-vblock-of-requires
-vblock-of-requires c κs = (sizes _ (c .before .before .before .before .before .before .before .pre .fine)) .segments
+vblock-of-requires c κs =
+    let entered = c .before .before .before .before .before .before .before in
+    (sizes _ (entered .pre .fine)) .segments
 
 bt-at-requires : tie.Need-bt-at-requires
-bt-at-requires c κs = (
-  c .before .before .before .before .before .before .before .before .pre .btLength,
-  (
-    region-low _ _ _ _ _ (c .before .before .before .before .before .before .before .before .pre) _ (c .before .before .before .before .ct-at .ensures .0) (c .before .before .if1 .left) _ _ (c .before .region-of .ensures) (c .vblock-of .ensures),
-    vblock-low _ _ _ _ _ (c .before .before .before .before .before .before .before .before .pre) _ (c .before .before .before .before .ct-at .ensures .0) (c .before .before .if1 .left) _ _ (c .before .region-of .ensures) (c .vblock-of .ensures),
-  ),
-)
+bt-at-requires c κs =
+    let at-ct-at = c .before .before .before .before in
+    let entered = at-ct-at .before .before .before .before in (
+      entered .pre .btLength,
+      (
+        region-low _ _ _ _ _ (entered .pre) _ (at-ct-at .ct-at .ensures .0) (c .before .before .if1 .left) _ _ (c .before .region-of .ensures) (c .vblock-of .ensures),
+        vblock-low _ _ _ _ _ (entered .pre) _ (at-ct-at .ct-at .ensures .0) (c .before .before .if1 .left) _ _ (c .before .region-of .ensures) (c .vblock-of .ensures),
+      ),
+    )
 
 place-of-requires : tie.Need-place-of-requires
-place-of-requires c κs = (sizes _ (c .before .before .before .before .before .before .before .before .before .pre .fine)) .segments
+place-of-requires c κs =
+    let entered = c .before .before .before .before .before .before .before .before .before in
+    (sizes _ (entered .pre .fine)) .segments
 
 block-of-requires : tie.Need-block-of-requires
 block-of-requires c κs =
-    (c .before .before .before .before .before .before .before .before .before .before .pre .fine, (chip-length _ _ _ _ _ (c .before .before .before .before .before .before .before .before .before .before .pre), block-low _ _ _ _ _ (c .before .before .before .before .before .before .before .before .before .before .pre) _ (c .before .before .before .before .before .before .ct-at .ensures .0) (c .before .before .before .before .if1 .left) _ _ (c .before .before .before .region-of .ensures) (c .before .before .vblock-of .ensures) _ (c .before .bt-at .ensures .0)))
+    let at-region-of = c .before .before .before in
+    let at-if1 = at-region-of .before in
+    let at-ct-at = at-if1 .before .before in
+    let entered = at-ct-at .before .before .before .before in (
+      entered .pre .fine,
+      (
+        chip-length _ _ _ _ _ (entered .pre),
+        block-low _ _ _ _ _ (entered .pre) _ (at-ct-at .ct-at .ensures .0) (at-if1 .if1 .left) _ _
+            (at-region-of .region-of .ensures) (c .before .before .vblock-of .ensures) _ (c .before .bt-at .ensures .0),
+      ),
+    )
 
 last-in-requires : tie.Need-last-in-requires
-last-in-requires c κs = (c .before .before .before .before .before .before .before .before .before .before .before .pre .fine, (c .block-of .ensures .1, rw (c .before .place-of .ensures) (mod-lt _ ((sizes _ (c .before .before .before .before .before .before .before .before .before .before .before .pre .fine)) .segments))))
+last-in-requires c κs =
+    let entered = c .before .before .before .before .before .before .before .before .before .before .before in
+    (entered .pre .fine, (c .block-of .ensures .1, rw (c .before .place-of .ensures) (mod-lt _ ((sizes _ (entered .pre .fine)) .segments))))
 
 frame-at-requires : tie.Need-frame-at-requires
 frame-at-requires c κs =
-    let start = c .before .before .before .before .before .before .before .before .before .before .before .before in
-    let sg = c .before .before .before .before .before .before .before .before .ct-at .ensures .0 in
-    let ne = c .before .before .before .before .before .before .if1 .left in
-    let er = c .before .before .before .before .before .region-of .ensures in
-    let ev = c .before .before .before .before .vblock-of .ensures in
-    let en = c .before .before .before .bt-at .ensures .0 in (
+    let at-bt-at = c .before .before .before in
+    let at-vblock-of = at-bt-at .before in
+    let at-region-of = at-vblock-of .before in
+    let at-if1 = at-region-of .before in
+    let at-ct-at = at-if1 .before .before in
+    let entered = at-ct-at .before .before .before .before in
+    let start = entered in
+    let sg = at-ct-at .ct-at .ensures .0 in
+    let ne = at-if1 .if1 .left in
+    let er = at-region-of .region-of .ensures in
+    let ev = at-vblock-of .vblock-of .ensures in
+    let en = at-bt-at .bt-at .ensures .0 in (
       start .pre .fine,
       (
         block-low _ _ _ _ _ (start .pre) _ sg ne _ _ er ev _ en,
@@ -59,14 +86,21 @@ frame-at-requires c κs =
 
 returns-2 : tie.Need-returns-2
 returns-2 c =
-    let pre = c .before .before .before .before .before .before .before .before .before .before .before .before .before .pre in
-    let sg = c .before .before .before .before .before .before .before .before .before .ct-at .ensures .0 in
-    let ne = c .before .before .before .before .before .before .before .if1 .left in
-    let er = c .before .before .before .before .before .before .region-of .ensures in
-    let ev = c .before .before .before .before .before .vblock-of .ensures in
-    let en = c .before .before .before .before .bt-at .ensures .0 in
+    let at-place-of = c .before .before .before in
+    let at-bt-at = at-place-of .before in
+    let at-vblock-of = at-bt-at .before in
+    let at-region-of = at-vblock-of .before in
+    let at-if1 = at-region-of .before in
+    let at-ct-at = at-if1 .before .before in
+    let entered = at-ct-at .before .before .before .before in
+    let pre = entered .pre in
+    let sg = at-ct-at .ct-at .ensures .0 in
+    let ne = at-if1 .if1 .left in
+    let er = at-region-of .region-of .ensures in
+    let ev = at-vblock-of .vblock-of .ensures in
+    let en = at-bt-at .bt-at .ensures .0 in
     let eb = c .before .before .block-of .ensures .0 in
-    let ek = c .before .before .before .place-of .ensures in
+    let ek = at-place-of .place-of .ensures in
     let found = c .before .last-in .ensures in (
       kept-at _ _ _ _ _ pre _ sg ne _ _ er ev _ en _ eb _ _ ek (found .0) _ (c .frame-at .ensures),
       (within _ _ _ _ _ pre _ sg ne _ _ er ev _ en _ eb _ _ ek (found .0), looked _ _ _ _ _ pre _ sg ne _ _ er ev _ en _ eb _ _ ek (found .0) _ (found .1 .0) (found .1 .1)),

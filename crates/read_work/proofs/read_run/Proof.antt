@@ -22,7 +22,9 @@ loop-holds : tie.Need-loop-holds Inv-loop μ-loop
 loop-holds c = (omega arith, refl, start _ _ _ _ _ _ _ (c .before .before .pre))
 
 place-sector-requires : tie.Need-place-sector-requires Inv-loop μ-loop
-place-sector-requires c κs = asked _ _ _ _ _ _ _ (c .before .before .before .before .before .pre) _ (c .before .loop-test .taken) _ (c .before .before .loop .inv .1)
+place-sector-requires c κs =
+    let entered = c .before .before .before .before .before in
+    asked _ _ _ _ _ _ _ (entered .pre) _ (c .before .loop-test .taken) _ (c .before .before .loop .inv .1)
 
 add-i : tie.Need-add-i Inv-loop μ-loop
 add-i c = omega arith
@@ -32,18 +34,22 @@ loop-less c = omega arith
 
 loop-again : tie.Need-loop-again Inv-loop μ-loop
 loop-again c =
+    let at-loop-test = c .before .before .before .before in
+    let at-loop = at-loop-test .before in
+    let entered = at-loop .before .before .before in
     let e = c .before .before .place-sector .ensures in
-    let h = c .before .before .before .before .loop-test .taken in
-    let inv = c .before .before .before .before .before .loop .inv in
-    (omega arith, ap length e ∙ turn-length _ _ _ _ _ _ _ (c .before .before .before .before .before .before .before .before .pre) _ h _ (inv .1), e ∙ turn _ _ _ _ _ _ _ (c .before .before .before .before .before .before .before .before .pre) _ h _ (inv .2))
+    let h = at-loop-test .loop-test .taken in
+    let inv = at-loop .loop .inv in
+    (omega arith, ap length e ∙ turn-length _ _ _ _ _ _ _ (entered .pre) _ h _ (inv .1), e ∙ turn _ _ _ _ _ _ _ (entered .pre) _ h _ (inv .2))
 
 same-length : tie.Need-same-length Inv-loop μ-loop
 same-length c = c .before .loop .inv .1
 
 returns : tie.Need-returns Inv-loop μ-loop
 returns c =
-    let e : c .before .loop .i ≡ c .before .before .before .before .args .count = omega arith in
-    done _ _ _ _ _ _ _ (c .before .before .before .before .pre) _ _ e (c .before .loop .inv .2)
+    let entered = c .before .before .before .before in
+    let e : c .before .loop .i ≡ entered .args .count = omega arith in
+    done _ _ _ _ _ _ _ (entered .pre) _ _ e (c .before .loop .inv .2)
 
 pub read-run-spec : {M : Type 1} → statement M
 read-run-spec =

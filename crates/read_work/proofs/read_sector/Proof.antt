@@ -15,22 +15,43 @@ same-length : tie.Need-same-length
 same-length c = search needs
 
 returns : tie.Need-returns
-returns c = c .before .before .blank .ensures ∙ blank-is _ _ _ _ _ _ (not-true _ (c .before .before .before .before .if1 .taken)) (c .before .before .before .before .before .before .before .before .pre .size)
+returns c =
+    let at-if1 = c .before .before .before .before in
+    let start = at-if1 .before .before .before .before in
+    c .before .before .blank .ensures ∙ blank-is _ _ _ _ _ _ (not-true _ (at-if1 .if1 .taken)) (start .pre .size)
 
 page-bytes-requires : tie.Need-page-bytes-requires
 page-bytes-requires c κs = search needs
 
 mul-a : tie.Need-mul-a
-mul-a c = omega (arith, number-low _ _ _ _ _ (c .before .before .before .before .before .before .before .pre .source) (c .before .before .before .before .before .before .before .pre .low) (not-false _ (c .before .before .before .if1 .left)) _ (c .before .before .page-bytes .ensures))
+mul-a c =
+    let at-if1 = c .before .before .before in
+    let start = at-if1 .before .before .before .before in
+    omega (arith, number-low _ _ _ _ _ (start .pre .source) (start .pre .low) (not-false _ (at-if1 .if1 .left)) _ (c .before .before .page-bytes .ensures))
 
 add-a : tie.Need-add-a
-add-a c = omega (arith, number-low _ _ _ _ _ (c .before .before .before .before .before .before .before .pre .source) (c .before .before .before .before .before .before .before .pre .low) (not-false _ (c .before .before .before .if1 .left)) _ (c .before .before .page-bytes .ensures))
+add-a c =
+    let at-if1 = c .before .before .before in
+    let start = at-if1 .before .before .before .before in
+    omega (arith, number-low _ _ _ _ _ (start .pre .source) (start .pre .low) (not-false _ (at-if1 .if1 .left)) _ (c .before .before .page-bytes .ensures))
 
 mul-a-2 : tie.Need-mul-a-2
-mul-a-2 c = omega (arith, page-end _ _ _ _ _ (c .before .before .before .before .before .before .before .pre .source) (c .before .before .before .before .before .before .before .pre .low) (not-false _ (c .before .before .before .if1 .left)) _ (c .before .before .page-bytes .ensures))
+mul-a-2 c =
+    let at-if1 = c .before .before .before in
+    let start = at-if1 .before .before .before .before in
+    omega (arith, page-end _ _ _ _ _ (start .pre .source) (start .pre .low) (not-false _ (at-if1 .if1 .left)) _ (c .before .before .page-bytes .ensures))
 
 add-b : tie.Need-add-b
-add-b c = omega (arith, page-end _ _ _ _ _ (c .before .before .before .before .before .before .before .before .pre .source) (c .before .before .before .before .before .before .before .before .pre .low) (not-false _ (c .before .before .before .before .if1 .left)) _ (c .before .before .before .page-bytes .ensures), page-wide _ _ _ _ _ (c .before .before .before .before .before .before .before .before .pre .source) (c .before .before .before .before .before .before .before .before .pre .low) (not-false _ (c .before .before .before .before .if1 .left)) _ (c .before .before .before .page-bytes .ensures))
+add-b c =
+    let at-page-bytes = c .before .before .before in
+    let at-if1 = at-page-bytes .before in
+    let start = at-if1 .before .before .before .before in
+    omega (
+      arith,
+      page-end _ _ _ _ _ (start .pre .source) (start .pre .low) (not-false _ (at-if1 .if1 .left)) _ (at-page-bytes .page-bytes .ensures),
+      page-wide _ _ _ _ _
+          (start .pre .source) (start .pre .low) (not-false _ (at-if1 .if1 .left)) _ (at-page-bytes .page-bytes .ensures),
+    )
 
 sub-copy : tie.Need-sub-copy
 sub-copy c = search needs
@@ -39,7 +60,16 @@ part-copy-start : tie.Need-part-copy-start
 part-copy-start c = search needs
 
 part-copy-end : tie.Need-part-copy-end
-part-copy-end c = omega (arith, page-end _ _ _ _ _ (c .before .before .before .before .before .before .before .before .before .pre .source) (c .before .before .before .before .before .before .before .before .before .pre .low) (not-false _ (c .before .before .before .before .before .if1 .left)) _ (c .before .before .before .before .page-bytes .ensures), page-wide _ _ _ _ _ (c .before .before .before .before .before .before .before .before .before .pre .source) (c .before .before .before .before .before .before .before .before .before .pre .low) (not-false _ (c .before .before .before .before .before .if1 .left)) _ (c .before .before .before .before .page-bytes .ensures))
+part-copy-end c =
+    let at-page-bytes = c .before .before .before .before in
+    let at-if1 = at-page-bytes .before in
+    let start = at-if1 .before .before .before .before in
+    omega (
+      arith,
+      page-end _ _ _ _ _ (start .pre .source) (start .pre .low) (not-false _ (at-if1 .if1 .left)) _ (at-page-bytes .page-bytes .ensures),
+      page-wide _ _ _ _ _
+          (start .pre .source) (start .pre .low) (not-false _ (at-if1 .if1 .left)) _ (at-page-bytes .page-bytes .ensures),
+    )
 
 copy-requires : tie.Need-copy-requires
 copy-requires c κs = search needs
@@ -48,7 +78,11 @@ same-length-2 : tie.Need-same-length-2
 same-length-2 c = search needs
 
 returns-2 : tie.Need-returns-2
-returns-2 c = c .before .before .copy .ensures ∙ sector-is _ _ _ _ _ (c .before .before .before .before .before .before .before .before .before .before .before .before .before .pre .source) (c .before .before .before .before .before .before .before .before .before .before .before .before .before .pre .low) (not-false _ (c .before .before .before .before .before .before .before .before .before .if1 .left)) _ (c .before .before .before .before .before .before .before .before .page-bytes .ensures)
+returns-2 c =
+    let at-page-bytes = c .before .before .before .before .before .before .before .before in
+    let at-if1 = at-page-bytes .before in
+    let start = at-if1 .before .before .before .before in
+    c .before .before .copy .ensures ∙ sector-is _ _ _ _ _ (start .pre .source) (start .pre .low) (not-false _ (at-if1 .if1 .left)) _ (at-page-bytes .page-bytes .ensures)
 
 pub read-sector-spec : {M : Type 1} → statement M
 read-sector-spec =

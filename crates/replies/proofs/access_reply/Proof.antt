@@ -28,14 +28,17 @@ returns c = both (λ q l k n. refuses _ _ _ (c .before .before .board-reply .ens
 
 wrong-data-requires : tie.Need-wrong-data-requires
 wrong-data-requires c κs =
-    let a = c .before .before .before .before .before .before .before .before .before .before in
+    let start = c .before .before .before .before .before .before .before .before .before .before in
+    let a = start in
     let h = lent-passes _ (board a) _ _ (c .before .before .board-reply .ensures) (c .before .number .ensures) (c .if1 .left) in
     h .fine
 
 request-reply-requires : tie.Need-request-reply-requires
 request-reply-requires c κs =
-    let a = c .before .before .before .before .before .before .before .before .before .before .before in
-    let h = lent-passes _ (board a) _ _ (c .before .before .before .board-reply .ensures) (c .before .before .number .ensures) (c .before .if1 .left) in
+    let at-board-reply = c .before .before .before in
+    let start = at-board-reply .before .before .before .before .before .before .before .before in
+    let a = start in
+    let h = lent-passes _ (board a) _ _ (at-board-reply .board-reply .ensures) (c .before .before .number .ensures) (c .before .if1 .left) in
     h .fine
 
 number-requires-2 : tie.Need-number-requires-2
@@ -44,22 +47,39 @@ number-requires-2 c κs = search needs
 returns-2 : tie.Need-returns-2
 unfolding replyOf rowsOf
 returns-2 c =
-    let a = c .before .before .before .before .before .before .before .before .before .before .before .before .before .before in
-    let h = lent-passes _ (board a) _ _ (c .before .before .before .before .before .before .board-reply .ensures) (c .before .before .before .before .before .number .ensures) (c .before .before .before .before .if1 .left) in
-    both (λ q l k n. after-lent _ (board a) h _ _ (refuses _ _ _ (c .before .before .request-reply .ensures q l k (λ _. sym (c .before .before .before .wrong-data .ensures q k n))) (c .before .number2 .ensures) (c .if2 .taken) _))
+    let at-wrong-data = c .before .before .before in
+    let at-if1 = at-wrong-data .before in
+    let at-number = at-if1 .before in
+    let at-board-reply = at-number .before in
+    let start = at-board-reply .before .before .before .before .before .before .before .before in
+    let a = start in
+    let h = lent-passes _ (board a) _ _ (at-board-reply .board-reply .ensures) (at-number .number .ensures) (at-if1 .if1 .left) in
+    both (λ q l k n. after-lent _ (board a) h _ _ (refuses _ _ _ (c .before .before .request-reply .ensures q l k (λ _. sym (at-wrong-data .wrong-data .ensures q k n)))
+    (c .before .number2 .ensures) (c .if2 .taken) _))
 
 state-reply-requires : tie.Need-state-reply-requires
 state-reply-requires c κs =
-    let a = c .before .before .before .before .before .before .before .before .before .before .before .before .before .before in
-    let h = lent-passes _ (board a) _ _ (c .before .before .before .before .before .before .board-reply .ensures) (c .before .before .before .before .before .number .ensures) (c .before .before .before .before .if1 .left) in
+    let at-if1 = c .before .before .before .before in
+    let at-number = at-if1 .before in
+    let at-board-reply = at-number .before in
+    let start = at-board-reply .before .before .before .before .before .before .before .before in
+    let a = start in
+    let h = lent-passes _ (board a) _ _ (at-board-reply .board-reply .ensures) (at-number .number .ensures) (at-if1 .if1 .left) in
     (lengths-in _ (board a) (h .fine) (h .fits), marks-fit _ (board a) (h .fits))
 
 returns-3 : tie.Need-returns-3
 unfolding replyOf rowsOf
 returns-3 c =
-    let a = c .before .before .before .before .before .before .before .before .before .before .before .before .before .before .before in
-    let h = lent-passes _ (board a) _ _ (c .before .before .before .before .before .before .before .board-reply .ensures) (c .before .before .before .before .before .before .number .ensures) (c .before .before .before .before .before .if1 .left) in
-    both (λ q l k n. after-lent _ (board a) h _ _ (after-access _ q _ _ (c .before .before .before .request-reply .ensures q l k (λ _. sym (c .before .before .before .before .wrong-data .ensures q k n))) (c .before .before .number2 .ensures) (c .before .if2 .left) _ _ (c .state-reply .ensures _)))
+    let at-request-reply = c .before .before .before in
+    let at-wrong-data = at-request-reply .before in
+    let at-if1 = at-wrong-data .before in
+    let at-number = at-if1 .before in
+    let at-board-reply = at-number .before in
+    let start = at-board-reply .before .before .before .before .before .before .before .before in
+    let a = start in
+    let h = lent-passes _ (board a) _ _ (at-board-reply .board-reply .ensures) (at-number .number .ensures) (at-if1 .if1 .left) in
+    both (λ q l k n. after-lent _ (board a) h _ _ (after-access _ q _ _ (at-request-reply .request-reply .ensures q l k (λ _. sym (at-wrong-data .wrong-data .ensures q k n)))
+    (c .before .before .number2 .ensures) (c .before .if2 .left) _ _ (c .state-reply .ensures _)))
 
 pub access-reply-spec : {M : Type 1} → statement M
 access-reply-spec =

@@ -22,13 +22,15 @@ lengths-fit-requires c κs = sym (c .before .parameters-allowed .ensures) ∙ no
 returns-2 : tie.Need-returns-2
 unfolding lentRows badParameter wrongLength
 returns-2 c =
-    skip _ _ _ _ _ (ap not (c .before .before .before .parameters-allowed .ensures)) (c .before .before .if1 .left)
+    let at-parameters-allowed = c .before .before .before in
+    skip _ _ _ _ _ (ap not (at-parameters-allowed .parameters-allowed .ensures)) (c .before .before .if1 .left)
     (here _ _ _ _ (ap not (c .before .lengths-fit .ensures _ refl refl refl refl refl refl refl)) (c .if2 .taken))
 
 returns-3 : tie.Need-returns-3
 unfolding lentRows badParameter wrongLength
 returns-3 c =
-    skip _ _ _ _ _ (ap not (c .before .before .before .parameters-allowed .ensures)) (c .before .before .if1 .left)
+    let at-parameters-allowed = c .before .before .before in
+    skip _ _ _ _ _ (ap not (at-parameters-allowed .parameters-allowed .ensures)) (c .before .before .if1 .left)
     (skip _ _ _ _ _ (ap not (c .before .lengths-fit .ensures _ refl refl refl refl refl refl refl)) (c .if2 .left) otherwise)
 
 pub board-reply-spec : {M : Type 1} → statement M

@@ -27,21 +27,31 @@ bad-cluster-requires c κs = search needs
 returns-2 : tie.Need-returns-2
 unfolding replyOf rowsOf
 returns-2 c =
-    let a = c .before .before .before .before .before .before .before .before .before .before .before .before in
-    let h = lent-passes _ (board a) _ _ (c .before .before .before .before .board-reply .ensures) (c .before .before .before .number .ensures) (c .before .before .if1 .left) in
+    let at-number = c .before .before .before in
+    let at-board-reply = at-number .before in
+    let start = at-board-reply .before .before .before .before .before .before .before .before in
+    let a = start in
+    let h = lent-passes _ (board a) _ _ (at-board-reply .board-reply .ensures) (at-number .number .ensures) (c .before .before .if1 .left) in
     after-lent _ (board a) h _ _ (here _ _ _ _ (c .before .bad-cluster .ensures) (c .if2 .taken))
 
 state-reply-requires : tie.Need-state-reply-requires
 state-reply-requires c κs =
-    let a = c .before .before .before .before .before .before .before .before .before .before .before .before in
-    let h = lent-passes _ (board a) _ _ (c .before .before .before .before .board-reply .ensures) (c .before .before .before .number .ensures) (c .before .before .if1 .left) in
+    let at-number = c .before .before .before in
+    let at-board-reply = at-number .before in
+    let start = at-board-reply .before .before .before .before .before .before .before .before in
+    let a = start in
+    let h = lent-passes _ (board a) _ _ (at-board-reply .board-reply .ensures) (at-number .number .ensures) (c .before .before .if1 .left) in
     (lengths-in _ (board a) (h .fine) (h .fits), marks-fit _ (board a) (h .fits))
 
 returns-3 : tie.Need-returns-3
 unfolding replyOf rowsOf
 returns-3 c =
-    let a = c .before .before .before .before .before .before .before .before .before .before .before .before .before in
-    let h = lent-passes _ (board a) _ _ (c .before .before .before .before .before .board-reply .ensures) (c .before .before .before .before .number .ensures) (c .before .before .before .if1 .left) in
+    let at-if1 = c .before .before .before in
+    let at-number = at-if1 .before in
+    let at-board-reply = at-number .before in
+    let start = at-board-reply .before .before .before .before .before .before .before .before in
+    let a = start in
+    let h = lent-passes _ (board a) _ _ (at-board-reply .board-reply .ensures) (at-number .number .ensures) (at-if1 .if1 .left) in
     after-lent _ (board a) h _ _ (skip _ _ _ _ _ (c .before .before .bad-cluster .ensures) (c .before .if2 .left) (c .state-reply .ensures _))
 
 pub release-reply-spec : {M : Type 1} → statement M

@@ -15,21 +15,26 @@ number-requires c κs = search needs
 returns : tie.Need-returns
 unfolding replyOf rowsOf
 returns c =
-    λ b q fit o l k d. after-lent _ b (record { fine = c .before .before .before .pre; fits = fit }) _ _
+    let start = c .before .before .before in
+    λ b q fit o l k d. after-lent _ b (record { fine = start .pre; fits = fit }) _ _
     (refuses _ _ _ (c .before .before .request-reply .ensures q l k d) (c .before .number .ensures) (c .if1 .taken) _)
 
 returns-2 : tie.Need-returns-2
 unfolding replyOf rowsOf
 returns-2 c =
-    λ b q fit o l k d. after-lent _ b (record { fine = c .before .before .before .before .pre; fits = fit }) _ _
-    (after-access _ q _ _ (c .before .before .before .request-reply .ensures q l k d) (c .before .before .number .ensures) (c .before .if1 .left) _ _
+    let at-request-reply = c .before .before .before in
+    let start = at-request-reply .before in
+    λ b q fit o l k d. after-lent _ b (record { fine = start .pre; fits = fit }) _ _
+    (after-access _ q _ _ (at-request-reply .request-reply .ensures q l k d) (c .before .before .number .ensures) (c .before .if1 .left) _ _
     (state-row _ b _ _ o (c .if2 .taken)))
 
 returns-3 : tie.Need-returns-3
 unfolding replyOf rowsOf
 returns-3 c =
-    λ b q fit o l k d. after-lent _ b (record { fine = c .before .before .before .before .pre; fits = fit }) _ _
-    (after-access _ q _ _ (c .before .before .before .request-reply .ensures q l k d) (c .before .before .number .ensures) (c .before .if1 .left) _ _
+    let at-request-reply = c .before .before .before in
+    let start = at-request-reply .before in
+    λ b q fit o l k d. after-lent _ b (record { fine = start .pre; fits = fit }) _ _
+    (after-access _ q _ _ (at-request-reply .request-reply .ensures q l k d) (c .before .before .number .ensures) (c .before .if1 .left) _ _
     (state-row _ b _ _ o (c .if2 .left)))
 
 pub item-reply-spec : {M : Type 1} → statement M

@@ -20,22 +20,27 @@ bad-address-requires c κs = search needs
 returns-2 : tie.Need-returns-2
 unfolding accessRows
 returns-2 c =
-    λ q l k d. skip _ _ _ _ _ (c .before .before .before .bad-count .ensures q l k) (c .before .before .if1 .left)
+    let at-bad-count = c .before .before .before in
+    λ q l k d. skip _ _ _ _ _ (at-bad-count .bad-count .ensures q l k) (c .before .before .if1 .left)
     (here _ _ _ _ (c .before .bad-address .ensures ∙ ap (badAddress _) (sym l)) (c .if2 .taken))
 
 returns-3 : tie.Need-returns-3
 unfolding accessRows
 returns-3 c =
-    λ q l k d. skip _ _ _ _ _ (c .before .before .before .before .bad-count .ensures q l k) (c .before .before .before .if1 .left)
+    let at-if1 = c .before .before .before in
+    let at-bad-count = at-if1 .before in
+    λ q l k d. skip _ _ _ _ _ (at-bad-count .bad-count .ensures q l k) (at-if1 .if1 .left)
     (skip _ _ _ _ _ (c .before .before .bad-address .ensures ∙ ap (badAddress _) (sym l)) (c .before .if2 .left)
-    (here _ _ _ _ (sym (d (sym (c .before .before .before .before .bad-count .ensures q l k) ∙ c .before .before .before .if1 .left))) (c .if3 .taken)))
+    (here _ _ _ _ (sym (d (sym (at-bad-count .bad-count .ensures q l k) ∙ at-if1 .if1 .left))) (c .if3 .taken)))
 
 returns-4 : tie.Need-returns-4
 unfolding accessRows
 returns-4 c =
-    λ q l k d. skip _ _ _ _ _ (c .before .before .before .before .bad-count .ensures q l k) (c .before .before .before .if1 .left)
+    let at-if1 = c .before .before .before in
+    let at-bad-count = at-if1 .before in
+    λ q l k d. skip _ _ _ _ _ (at-bad-count .bad-count .ensures q l k) (at-if1 .if1 .left)
     (skip _ _ _ _ _ (c .before .before .bad-address .ensures ∙ ap (badAddress _) (sym l)) (c .before .if2 .left)
-    (skip _ _ _ _ _ (sym (d (sym (c .before .before .before .before .bad-count .ensures q l k) ∙ c .before .before .before .if1 .left))) (c .if3 .left) otherwise))
+    (skip _ _ _ _ _ (sym (d (sym (at-bad-count .bad-count .ensures q l k) ∙ at-if1 .if1 .left))) (c .if3 .left) otherwise))
 
 pub request-reply-spec : {M : Type 1} → statement M
 request-reply-spec = tie.close (tie.spec bad-count-requires returns bad-address-requires returns-2 returns-3 returns-4)

@@ -20,7 +20,9 @@ loop-holds : tie.Need-loop-holds Inv-loop μ-loop
 loop-holds c = (omega arith, least-none _ _)
 
 is-better-requires : tie.Need-is-better-requires Inv-loop μ-loop
-is-better-requires c κs = compared _ _ _ (c .before .before .before .before .pre) _ _ (c .loop-test .taken) (c .before .loop .inv .1)
+is-better-requires c κs =
+    let start = c .before .before .before .before in
+    compared _ _ _ (start .pre) _ _ (c .loop-test .taken) (c .before .loop .inv .1)
 
 pick-requires : tie.Need-pick-requires Inv-loop μ-loop
 pick-requires c κs = search needs
@@ -32,12 +34,15 @@ loop-less : tie.Need-loop-less Inv-loop μ-loop
 loop-less c = omega arith
 
 loop-again : tie.Need-loop-again Inv-loop μ-loop
-loop-again c = (omega arith, least-more _ _ _ _ _ _ (c .before .before .before .loop .inv .1) (c .before .is-better .ensures) (c .pick .ensures))
+loop-again c =
+    let at-loop = c .before .before .before in
+    (omega arith, least-more _ _ _ _ _ _ (at-loop .loop .inv .1) (c .before .is-better .ensures) (c .pick .ensures))
 
 returns : tie.Need-returns Inv-loop μ-loop
 unfolding freeBlock
 returns c =
-    let e : c .before .loop .i ≡ c .before .before .before .before .args .p .N = omega arith in
+    let start = c .before .before .before .before in
+    let e : c .before .loop .i ≡ start .args .p .N = omega arith in
     rw e at (c .before .loop .inv .1)
 
 pub free-block-spec : {M : Type 1} → statement M

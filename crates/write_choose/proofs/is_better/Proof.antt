@@ -17,11 +17,15 @@ wear-at-requires : tie.Need-wear-at-requires
 wear-at-requires c κs = search needs
 
 wear-at-requires-2 : tie.Need-wear-at-requires-2
-wear-at-requires-2 c κs = best-low _ _ _ _ (c .before .before .before .before .before .before .pre) (c .before .if2 .left)
+wear-at-requires-2 c κs =
+    let start = c .before .before .before .before .before .before in
+    best-low _ _ _ _ (start .pre) (c .before .if2 .left)
 
 returns-2 : tie.Need-returns-2
 returns-2 c =
-    rw (eq-eqb _ _ (sym (c .before .before .before .before .bst-at .ensures) ∙ c .before .before .before .if1 .taken), ne-eqb _ _ (c .before .before .if2 .left), c .before .wear-at .ensures, c .wear-at2 .ensures)
+    let at-if1 = c .before .before .before in
+    let at-bst-at = at-if1 .before in
+    rw (eq-eqb _ _ (sym (at-bst-at .bst-at .ensures) ∙ at-if1 .if1 .taken), ne-eqb _ _ (c .before .before .if2 .left), c .before .wear-at .ensures, c .wear-at2 .ensures)
 
 returns-3 : tie.Need-returns-3
 returns-3 c = rw (ne-eqb _ _ (λ e. c .if1 .left (c .before .bst-at .ensures ∙ e)))

@@ -20,23 +20,30 @@ loop-holds : tie.Need-loop-holds Inv-loop μ-loop
 loop-holds c = (omega arith, first-none _ _ _)
 
 bt-at-requires : tie.Need-bt-at-requires Inv-loop μ-loop
-bt-at-requires c κs = (c .before .before .before .pre .1 .0, (c .before .before .before .pre .1 .1, c .loop-test .taken))
+bt-at-requires c κs =
+    let start = c .before .before .before in
+    (start .pre .1 .0, (start .pre .1 .1, c .loop-test .taken))
 
 pick-requires : tie.Need-pick-requires Inv-loop μ-loop
 pick-requires c κs = search needs
 
 add-v : tie.Need-add-v Inv-loop μ-loop
-add-v c = omega (arith, (sizes _ (c .before .before .before .before .before .before .pre .0)) .gammaHigh)
+add-v c =
+    let start = c .before .before .before .before .before .before in
+    omega (arith, (sizes _ (start .pre .0)) .gammaHigh)
 
 loop-less : tie.Need-loop-less Inv-loop μ-loop
 loop-less c = omega arith
 
 loop-again : tie.Need-loop-again Inv-loop μ-loop
-loop-again c = (omega arith, first-more _ _ _ _ _ _ _ (c .before .before .before .before .loop .inv .1) (c .before .before .bt-at .ensures .0) (c .pick .ensures))
+loop-again c =
+    let at-loop = c .before .before .before .before in
+    (omega arith, first-more _ _ _ _ _ _ _ (at-loop .loop .inv .1) (c .before .before .bt-at .ensures .0) (c .pick .ensures))
 
 returns : tie.Need-returns Inv-loop μ-loop
 returns c =
-    let e : c .before .loop .v ≡ c .before .before .before .args .p .gamma = omega arith in
+    let start = c .before .before .before in
+    let e : c .before .loop .v ≡ start .args .p .gamma = omega arith in
     rw e at (c .before .loop .inv .1)
 
 pub lowest-unassigned-spec : {M : Type 1} → statement M

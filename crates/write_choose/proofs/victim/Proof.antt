@@ -32,20 +32,24 @@ pick-requires-2 : tie.Need-pick-requires-2 Inv-loop μ-loop
 pick-requires-2 c κs = search needs
 
 add-v : tie.Need-add-v Inv-loop μ-loop
-add-v c = omega (arith, (sizes _ (c .before .before .before .before .before .before .pre .fine)) .gammaHigh)
+add-v c =
+    let start = c .before .before .before .before .before .before in
+    omega (arith, (sizes _ (start .pre .fine)) .gammaHigh)
 
 loop-less : tie.Need-loop-less Inv-loop μ-loop
 loop-less c = omega arith
 
 loop-again : tie.Need-loop-again Inv-loop μ-loop
-loop-again c = (
-  omega arith,
-  λ m e. best-more _ _ _ _ _ _ _ _ (c .before .before .before .before .loop .inv .1 m e) (c .before .before .count-marks .ensures m e) refl (c .before .pick .ensures) (c .pick2 .ensures),
-)
+loop-again c =
+    let at-loop = c .before .before .before .before in (
+      omega arith,
+      λ m e. best-more _ _ _ _ _ _ _ _ (at-loop .loop .inv .1 m e) (c .before .before .count-marks .ensures m e) refl (c .before .pick .ensures) (c .pick2 .ensures),
+    )
 
 returns : tie.Need-returns Inv-loop μ-loop
 returns c m e =
-    let x = c .before .before .before .args in
+    let start = c .before .before .before in
+    let x = start .args in
     let q : c .before .loop .v ≡ x .p .gamma = omega arith in
     c .before .loop .inv .1 m e .least ∙ ap (leastMarked m (x .r)) q
 

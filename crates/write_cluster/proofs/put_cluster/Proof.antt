@@ -7,31 +7,78 @@ use Rattle.write_cluster.proofs.put_cluster.Statement.{statement}
 use Rattle.write_cluster.proofs.put_cluster.Tie as tie
 
 cluster-of-requires : tie.Need-cluster-of-requires
-cluster-of-requires c κs = (sizes _ (c .before .before .before .before .before .pre .0 .fine)) .sectors
+cluster-of-requires c κs =
+    let start = c .before .before .before .before .before in
+    (sizes _ (start .pre .0 .fine)) .sectors
 
 region-of-requires : tie.Need-region-of-requires
-region-of-requires c κs = (sizes _ (c .before .before .before .before .before .before .pre .0 .fine)) .regions
+region-of-requires c κs =
+    let start = c .before .before .before .before .before .before in
+    (sizes _ (start .pre .0 .fine)) .regions
 
 bt-at-requires : tie.Need-bt-at-requires
-bt-at-requires c κs = (c .before .before .before .before .before .before .before .pre .0 .btLength, (region-at _ _ _ _ _ (c .before .before .before .before .before .before .before .pre .0) _ _ (c .before .cluster-of .ensures) (c .region-of .ensures), vblock-low _ _ _ _ _ (c .before .before .before .before .before .before .before .pre .0) _ _ (c .before .cluster-of .ensures) (c .region-of .ensures)))
+bt-at-requires c κs =
+    let start = c .before .before .before .before .before .before .before in (
+      start .pre .0 .btLength,
+      (
+        region-at _ _ _ _ _ (start .pre .0) _ _ (c .before .cluster-of .ensures) (c .region-of .ensures),
+        vblock-low _ _ _ _ _ (start .pre .0) _ _
+            (c .before .cluster-of .ensures) (c .region-of .ensures),
+      ),
+    )
 
 frame-at-requires : tie.Need-frame-at-requires
-frame-at-requires c κs = (c .before .before .before .before .before .before .before .before .pre .0 .fine, number-asked _ _ _ _ _ (c .before .before .before .before .before .before .before .before .pre .0) _ _ (c .before .before .cluster-of .ensures) (c .before .region-of .ensures) _ (c .bt-at .ensures .0))
+frame-at-requires c κs =
+    let start = c .before .before .before .before .before .before .before .before in
+    (start .pre .0 .fine, number-asked _ _ _ _ _ (start .pre .0) _ _ (c .before .before .cluster-of .ensures) (c .before .region-of .ensures) _ (c .bt-at .ensures .0))
 
 sector-of-requires : tie.Need-sector-of-requires
-sector-of-requires c κs = (sizes _ (c .before .before .before .before .before .before .before .before .before .before .pre .0 .fine)) .sectors
+sector-of-requires c κs =
+    let start = c .before .before .before .before .before .before .before .before .before .before in
+    (sizes _ (start .pre .0 .fine)) .sectors
 
 host-frame-requires : tie.Need-host-frame-requires
-host-frame-requires c κs = host-requires _ _ _ _ _ (c .before .before .before .before .before .before .before .before .before .before .before .pre .0) _ _ (c .before .before .before .before .before .cluster-of .ensures) (c .before .before .before .before .region-of .ensures) _ (c .before .before .before .bt-at .ensures .0) _ _ (c .before .before .frame-at .ensures) (c .sector-of .ensures) _ _ (c .before .before .before .before .before .before .before .before .before .before .before .pre .1)
+host-frame-requires c κs =
+    let at-bt-at = c .before .before .before in
+    let at-region-of = at-bt-at .before in
+    let at-cluster-of = at-region-of .before in
+    let start = at-cluster-of .before .before .before .before .before .before in
+    host-requires _ _ _ _ _ (start .pre .0) _ _ (at-cluster-of .cluster-of .ensures) (at-region-of .region-of .ensures) _ (at-bt-at .bt-at .ensures .0) _ _
+    (c .before .before .frame-at .ensures) (c .sector-of .ensures) _ _ (start .pre .1)
 
 segment-of-requires : tie.Need-segment-of-requires
-segment-of-requires c κs = (c .before .before .before .before .before .before .before .before .before .before .before .before .before .before .pre .0 .fine, (vblock-low _ _ _ _ _ (c .before .before .before .before .before .before .before .before .before .before .before .before .before .before .pre .0) _ _ (c .before .before .before .before .before .before .before .before .cluster-of .ensures) (c .before .before .before .before .before .before .before .region-of .ensures), frame-few _ _ _ _ _ (c .before .before .before .before .before .before .before .before .before .before .before .before .before .before .pre .0) _ _ (c .before .before .before .before .before .before .before .before .cluster-of .ensures) (c .before .before .before .before .before .before .before .region-of .ensures)))
+segment-of-requires c κs =
+    let at-region-of = c .before .before .before .before .before .before .before in
+    let at-cluster-of = at-region-of .before in
+    let start = at-cluster-of .before .before .before .before .before .before in (
+      start .pre .0 .fine,
+      (
+        vblock-low _ _ _ _ _ (start .pre .0) _ _ (at-cluster-of .cluster-of .ensures) (at-region-of .region-of .ensures),
+        frame-few _ _ _ _ _
+            (start .pre .0) _ _ (at-cluster-of .cluster-of .ensures) (at-region-of .region-of .ensures),
+      ),
+    )
 
 set-ct-requires : tie.Need-set-ct-requires
-set-ct-requires c κs = (ct-in _ _ _ _ _ (c .before .before .before .before .before .before .before .before .before .before .before .before .before .before .before .before .pre .0) _ _ (c .before .before .before .before .before .before .before .before .before .before .cluster-of .ensures) (c .before .before .before .before .before .before .before .before .before .region-of .ensures), segment-few _ _ _ _ _ (c .before .before .before .before .before .before .before .before .before .before .before .before .before .before .before .before .pre .0) _ _ (c .before .before .before .before .before .before .before .before .before .before .cluster-of .ensures) (c .before .before .before .before .before .before .before .before .before .region-of .ensures) _ (c .before .segment-of .ensures))
+set-ct-requires c κs =
+    let at-region-of = c .before .before .before .before .before .before .before .before .before in
+    let at-cluster-of = at-region-of .before in
+    let start = at-cluster-of .before .before .before .before .before .before in (
+      ct-in _ _ _ _ _ (start .pre .0) _ _ (at-cluster-of .cluster-of .ensures) (at-region-of .region-of .ensures),
+      segment-few _ _ _ _ _ (start .pre .0) _ _
+          (at-cluster-of .cluster-of .ensures) (at-region-of .region-of .ensures) _ (c .before .segment-of .ensures),
+    )
 
 set-fst-requires : tie.Need-set-fst-requires
-set-fst-requires c κs = (fst-in _ _ _ _ _ (c .before .before .before .before .before .before .before .before .before .before .before .before .before .before .before .before .before .before .before .before .pre .0) _ _ (c .before .before .before .before .before .before .before .before .before .before .before .before .before .before .cluster-of .ensures) (c .before .before .before .before .before .before .before .before .before .before .before .before .before .region-of .ensures), segment-few _ _ _ _ _ (c .before .before .before .before .before .before .before .before .before .before .before .before .before .before .before .before .before .before .before .before .pre .0) _ _ (c .before .before .before .before .before .before .before .before .before .before .before .before .before .before .cluster-of .ensures) (c .before .before .before .before .before .before .before .before .before .before .before .before .before .region-of .ensures) _ (c .before .before .before .before .before .segment-of .ensures))
+set-fst-requires c κs =
+    let at-segment-of = c .before .before .before .before .before in
+    let at-region-of = at-segment-of .before .before .before .before .before .before .before .before in
+    let at-cluster-of = at-region-of .before in
+    let start = at-cluster-of .before .before .before .before .before .before in (
+      fst-in _ _ _ _ _ (start .pre .0) _ _ (at-cluster-of .cluster-of .ensures) (at-region-of .region-of .ensures),
+      segment-few _ _ _ _ _ (start .pre .0) _ _
+          (at-cluster-of .cluster-of .ensures) (at-region-of .region-of .ensures) _ (at-segment-of .segment-of .ensures),
+    )
 
 same-length : tie.Need-same-length
 same-length c = search needs
@@ -43,7 +90,19 @@ same-length-3 : tie.Need-same-length-3
 same-length-3 c = search needs
 
 returns : tie.Need-returns
-returns c = cluster-put _ _ _ _ _ (c .before .before .before .before .before .before .before .before .before .before .before .before .before .before .before .before .before .before .before .before .before .before .before .pre .0) _ _ (c .before .before .before .before .before .before .before .before .before .before .before .before .before .before .before .before .before .cluster-of .ensures) (c .before .before .before .before .before .before .before .before .before .before .before .before .before .before .before .before .region-of .ensures) _ (c .before .before .before .before .before .before .before .before .before .before .before .before .before .before .before .bt-at .ensures .0) _ _ (c .before .before .before .before .before .before .before .before .before .before .before .before .before .before .frame-at .ensures) (c .before .before .before .before .before .before .before .before .before .before .before .before .sector-of .ensures) _ _ (c .before .before .before .before .before .before .before .before .before .before .before .before .before .before .before .before .before .before .before .before .before .before .before .pre .1) _ _ _ _ (c .before .before .before .before .before .before .before .before .before .before .before .host-frame .ensures) (c .before .before .before .before .before .before .before .before .segment-of .ensures) (c .before .before .before .before .before .before .set-ct .ensures) (c .before .before .set-fst .ensures)
+returns c =
+    let at-set-ct = c .before .before .before .before .before .before in
+    let at-segment-of = at-set-ct .before .before in
+    let at-host-frame = at-segment-of .before .before .before in
+    let at-sector-of = at-host-frame .before in
+    let at-frame-at = at-sector-of .before .before in
+    let at-bt-at = at-frame-at .before in
+    let at-region-of = at-bt-at .before in
+    let at-cluster-of = at-region-of .before in
+    let start = at-cluster-of .before .before .before .before .before .before in
+    cluster-put _ _ _ _ _ (start .pre .0) _ _ (at-cluster-of .cluster-of .ensures) (at-region-of .region-of .ensures) _ (at-bt-at .bt-at .ensures .0) _ _
+    (at-frame-at .frame-at .ensures) (at-sector-of .sector-of .ensures) _ _ (start .pre .1) _ _ _ _ (at-host-frame .host-frame .ensures)
+    (at-segment-of .segment-of .ensures) (at-set-ct .set-ct .ensures) (c .before .before .set-fst .ensures)
 
 pub put-cluster-spec : {M : Type 1} → statement M
 put-cluster-spec =

@@ -12,7 +12,10 @@ same-length : tie.Need-same-length
 same-length c = search needs
 
 returns : tie.Need-returns
-returns c = λ m e. rw (ne-eqb (c .before .before .before .before .before .before .args .erases) 0 (c .before .before .before .before .if1 .taken)) (c .before .before .set-first .ensures m e)
+returns c =
+    let at-if1 = c .before .before .before .before in
+    let start = at-if1 .before .before in
+    λ m e. rw (ne-eqb (start .args .erases) 0 (at-if1 .if1 .taken)) (c .before .before .set-first .ensures m e)
 
 returns-2 : tie.Need-returns-2
 returns-2 c = λ m e. rw (eq-eqb (c .before .before .args .erases) 0 (c .if1 .left)) e

@@ -6,14 +6,17 @@ use Rattle.write_marks.proofs.unmark.Tie as tie
 
 clear-mark-requires : tie.Need-clear-mark-requires
 clear-mark-requires c κs =
-    let a = c .before .before .before .pre in
+    let start = c .before .before .before in
+    let a = start .pre in
     record { words = record { fine = a .fine; long = a .long; region = a .region; vblock = a .vblock (c .before .if1 .taken) }; frame = a .frame (c .before .if1 .taken) }
 
 same-length : tie.Need-same-length
 same-length c = search needs
 
 returns : tie.Need-returns
-returns c = λ m e. rw (c .before .before .before .before .if1 .taken) (c .before .before .clear-mark .ensures m e)
+returns c =
+    let at-if1 = c .before .before .before .before in
+    λ m e. rw (at-if1 .if1 .taken) (c .before .before .clear-mark .ensures m e)
 
 returns-2 : tie.Need-returns-2
 returns-2 c = λ m e. rw (c .if1 .left) e

@@ -14,38 +14,84 @@ fst-at-requires : tie.Need-fst-at-requires
 fst-at-requires c κs = search needs
 
 frames-requires : tie.Need-frames-requires
-frames-requires c κs = c .before .before .before .before .before .before .pre .fine
+frames-requires c κs =
+    let entered = c .before .before .before .before .before .before in
+    entered .pre .fine
 
 returns : tie.Need-returns
-returns c = no-open _ _ _ _ _ (c .before .before .before .before .before .before .before .pre) _ (c .before .before .before .fst-at .ensures .0) _ (c .before .if1 .taken) (c .frames .ensures)
+returns c =
+    let at-fst-at = c .before .before .before in
+    let entered = at-fst-at .before .before .before .before in
+    no-open _ _ _ _ _ (entered .pre) _ (at-fst-at .fst-at .ensures .0) _ (c .before .if1 .taken) (c .frames .ensures)
 
 vblock-of-requires : tie.Need-vblock-of-requires
-vblock-of-requires c κs = (sizes _ (c .before .before .before .before .before .before .pre .fine)) .segments
+vblock-of-requires c κs =
+    let entered = c .before .before .before .before .before .before in
+    (sizes _ (entered .pre .fine)) .segments
 
 bt-at-requires : tie.Need-bt-at-requires
-bt-at-requires c κs = (c .before .before .before .before .before .before .before .pre .btLength, (c .before .before .before .before .before .before .before .pre .low, open-low _ _ _ _ _ (c .before .before .before .before .before .before .before .pre) _ (c .before .before .before .fst-at .ensures .0) (c .before .if1 .left) _ (c .vblock-of .ensures)))
+bt-at-requires c κs =
+    let at-fst-at = c .before .before .before in
+    let entered = at-fst-at .before .before .before .before in
+    (entered .pre .btLength, (entered .pre .low, open-low _ _ _ _ _ (entered .pre) _ (at-fst-at .fst-at .ensures .0) (c .before .if1 .left) _ (c .vblock-of .ensures)))
 
 place-of-requires : tie.Need-place-of-requires
-place-of-requires c κs = (sizes _ (c .before .before .before .before .before .before .before .before .pre .fine)) .segments
+place-of-requires c κs =
+    let entered = c .before .before .before .before .before .before .before .before in
+    (sizes _ (entered .pre .fine)) .segments
 
 mul-from : tie.Need-mul-from
 mul-from c =
-    let a = c .before .before .before .before .before .before .before .before .before .before in
+    let at-vblock-of = c .before .before .before in
+    let at-if1 = at-vblock-of .before in
+    let at-fst-at = at-if1 .before .before in
+    let entered = at-fst-at .before .before .before .before in
+    let a = entered in
     let z = sizes _ (a .pre .fine) in
-    let from = from-low _ _ _ _ _ (a .pre) _ (c .before .before .before .before .before .before .fst-at .ensures .0) (c .before .before .before .before .if1 .left) _ (c .before .before .before .vblock-of .ensures) _ (c .before .before .bt-at .ensures .0) (c .before .place-of .result) (c .before .place-of .result * a .args .p .beta) (c .before .place-of .ensures) refl in
+    let from = from-low _ _ _ _ _ (a .pre) _ (at-fst-at .fst-at .ensures .0) (at-if1 .if1 .left) _ (at-vblock-of .vblock-of .ensures) _ (c .before .before .bt-at .ensures .0)
+    (c .before .place-of .result) (c .before .place-of .result * a .args .p .beta) (c .before .place-of .ensures) refl in
     record { fits = omega (arith, from, z .short) }
 
 block-of-requires : tie.Need-block-of-requires
-block-of-requires c κs = (c .before .before .before .before .before .before .before .before .before .before .pre .fine, (chip-length _ _ _ _ _ (c .before .before .before .before .before .before .before .before .before .before .pre), open-block _ _ _ _ _ (c .before .before .before .before .before .before .before .before .before .before .pre) _ (c .before .before .before .before .before .before .fst-at .ensures .0) (c .before .before .before .before .if1 .left) _ (c .before .before .before .vblock-of .ensures) _ (c .before .before .bt-at .ensures .0)))
+block-of-requires c κs =
+    let at-vblock-of = c .before .before .before in
+    let at-if1 = at-vblock-of .before in
+    let at-fst-at = at-if1 .before .before in
+    let entered = at-fst-at .before .before .before .before in (
+      entered .pre .fine,
+      (
+        chip-length _ _ _ _ _ (entered .pre),
+        open-block _ _ _ _ _ (entered .pre) _ (at-fst-at .fst-at .ensures .0) (at-if1 .if1 .left) _
+            (at-vblock-of .vblock-of .ensures) _ (c .before .before .bt-at .ensures .0),
+      ),
+    )
 
 next-free-requires : tie.Need-next-free-requires
 next-free-requires c κs =
-    let a = c .before .before .before .before .before .before .before .before .before .before .before in
-    (a .pre .fine, (c .block-of .ensures .1, from-low _ _ _ _ _ (a .pre) _ (c .before .before .before .before .before .before .before .fst-at .ensures .0) (c .before .before .before .before .before .if1 .left) _ (c .before .before .before .before .vblock-of .ensures) _ (c .before .before .before .bt-at .ensures .0) _ _ (c .before .before .place-of .ensures) refl))
+    let at-bt-at = c .before .before .before in
+    let at-vblock-of = at-bt-at .before in
+    let at-if1 = at-vblock-of .before in
+    let at-fst-at = at-if1 .before .before in
+    let entered = at-fst-at .before .before .before .before in
+    let a = entered in (
+      a .pre .fine,
+      (
+        c .block-of .ensures .1,
+        from-low _ _ _ _ _ (a .pre) _ (at-fst-at .fst-at .ensures .0) (at-if1 .if1 .left) _ (at-vblock-of .vblock-of .ensures) _
+            (at-bt-at .bt-at .ensures .0) _ _ (c .before .before .place-of .ensures) refl,
+      ),
+    )
 
 returns-2 : tie.Need-returns-2
 returns-2 c =
-    open-next _ _ _ _ _ (c .before .before .before .before .before .before .before .before .before .before .before .before .pre) _ (c .before .before .before .before .before .before .before .before .fst-at .ensures .0) (c .before .before .before .before .before .before .if1 .left) _ (c .before .before .before .before .before .vblock-of .ensures) _ (c .before .before .before .before .bt-at .ensures .0) _ _ (c .before .before .before .place-of .ensures) refl _ _ (c .before .block-of .ensures .0) (c .next-free .ensures)
+    let at-place-of = c .before .before .before in
+    let at-bt-at = at-place-of .before in
+    let at-vblock-of = at-bt-at .before in
+    let at-if1 = at-vblock-of .before in
+    let at-fst-at = at-if1 .before .before in
+    let entered = at-fst-at .before .before .before .before in
+    open-next _ _ _ _ _ (entered .pre) _ (at-fst-at .fst-at .ensures .0) (at-if1 .if1 .left) _ (at-vblock-of .vblock-of .ensures) _ (at-bt-at .bt-at .ensures .0) _ _
+    (at-place-of .place-of .ensures) refl _ _ (c .before .block-of .ensures .0) (c .next-free .ensures)
 
 pub next-frame-spec : {M : Type 1} → statement M
 next-frame-spec =

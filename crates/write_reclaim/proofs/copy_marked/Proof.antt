@@ -19,14 +19,17 @@ abbrev μ-loop : tie.MeasureT-loop
 μ-loop p chip₀ ct₀ marks o n r v all k₀ f₀ chip ct k f = frames p - f
 
 frames-requires : tie.Need-frames-requires Inv-loop μ-loop
-frames-requires c κs = c .before .before .before .pre .0 .whole .fine
+frames-requires c κs =
+    let entered = c .before .before .before in
+    entered .pre .0 .whole .fine
 
 loop-holds : tie.Need-loop-holds Inv-loop μ-loop
 loop-holds c = (omega arith, λ a m e. start _ _ _ _ _ _ a _)
 
 move-marked-requires : tie.Need-move-marked-requires Inv-loop μ-loop
 move-marked-requires c κs =
-    let at = c .before .before .before in
+    let entered = c .before .before .before in
+    let at = entered in
     let a = at .before .before .before .before .before in
     let low : at .loop .f < frames (a .args .p) = omega (arith, at .before .frames .ensures, c .before .before .loop-test .taken) in
     let e = holds (a .args .p) (a .args .marks .now) (a .pre .1 .long) (at .before .before .shared-slice-known .given) in
@@ -34,25 +37,35 @@ move-marked-requires c κs =
 
 add-k : tie.Need-add-k Inv-loop μ-loop
 add-k c =
-    let at = c .before .before .before .before .before .before .before .before in
+    let at-move-marked = c .before .before .before .before in
+    let at-loop-test = at-move-marked .before .before .before in
+    let entered = at-loop-test .before in
+    let at = entered in
     let a = at .before .before .before .before .before in
-    let low : at .loop .f < frames (a .args .p) = omega (arith, at .before .frames .ensures, c .before .before .before .before .before .before .before .loop-test .taken) in
+    let low : at .loop .f < frames (a .args .p) = omega (arith, at .before .frames .ensures, at-loop-test .loop-test .taken) in
     let e = holds (a .args .p) (a .args .marks .now) (a .pre .1 .long) (at .before .before .shared-slice-known .given) in
-    omega (arith, turn-few _ _ _ _ _ _ (a .pre .0) _ _ low _ _ _ (at .loop .inv .1 (a .pre .0) _ e) _ _ _ (c .before .before .before .before .move-marked .ensures _ e), low, (sizes _ (a .pre .1 .fine)) .short)
+    omega (arith, turn-few _ _ _ _ _ _ (a .pre .0) _ _ low _ _ _ (at .loop .inv .1 (a .pre .0) _ e) _ _ _ (at-move-marked .move-marked .ensures _ e), low, (sizes _ (a .pre .1 .fine)) .short)
 
 add-f : tie.Need-add-f Inv-loop μ-loop
 add-f c =
-    let at = c .before .before .before .before .before .before .before .before in
+    let entered = c .before .before .before .before .before .before .before .before in
+    let at = entered in
     omega (arith, at .loop .inv .0, (sizes _ (at .before .before .before .before .before .pre .0 .whole .fine)) .short)
 
 loop-less : tie.Need-loop-less Inv-loop μ-loop
-loop-less c = omega (arith, c .before .before .before .before .before .before .before .loop-test .taken, c .before .before .before .before .before .before .before .before .before .frames .ensures)
+loop-less c =
+    let at-loop-test = c .before .before .before .before .before .before .before in
+    let at-frames = at-loop-test .before .before in
+    omega (arith, at-loop-test .loop-test .taken, at-frames .frames .ensures)
 
 loop-again : tie.Need-loop-again Inv-loop μ-loop
 loop-again c =
-    let at = c .before .before .before .before .before .before .before .before in
-    let low : at .loop .f < frames (at .before .before .before .before .before .args .p) = omega (arith, at .before .frames .ensures, c .before .before .before .before .before .before .before .loop-test .taken) in
-    (omega (arith, low), λ a m e. turn _ _ _ _ _ _ a _ _ low _ _ _ (at .loop .inv .1 a m e) _ _ _ (c .before .before .before .before .move-marked .ensures m e))
+    let at-move-marked = c .before .before .before .before in
+    let at-loop-test = at-move-marked .before .before .before in
+    let entered = at-loop-test .before in
+    let at = entered in
+    let low : at .loop .f < frames (at .before .before .before .before .before .args .p) = omega (arith, at .before .frames .ensures, at-loop-test .loop-test .taken) in
+    (omega (arith, low), λ a m e. turn _ _ _ _ _ _ a _ _ low _ _ _ (at .loop .inv .1 a m e) _ _ _ (at-move-marked .move-marked .ensures m e))
 
 same-length : tie.Need-same-length Inv-loop μ-loop
 same-length c =
@@ -70,7 +83,8 @@ same-length-2 c =
 
 returns : tie.Need-returns Inv-loop μ-loop
 returns c m e =
-    let a = c .before .before .before .before .before .before in
+    let entered = c .before .before .before .before .before .before in
+    let a = entered in
     let q : c .before .loop .f ≡ frames (a .args .p) = omega (arith, c .before .loop .inv .0, c .loop-test .left, c .before .before .frames .ensures) in
     done _ _ _ _ _ _ (a .pre .0) _ _ _ _ _ q (c .before .loop .inv .1 (a .pre .0) m e)
 

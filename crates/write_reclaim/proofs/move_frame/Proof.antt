@@ -17,20 +17,28 @@ frame-at-requires-2 : tie.Need-frame-at-requires-2
 frame-at-requires-2 c κs = search needs
 
 add-copy-frame : tie.Need-add-copy-frame
-add-copy-frame c = omega (arith, page-small _ _ _ _ _ _ _ _ (c .before .before .before .before .before .before .before .before .pre))
+add-copy-frame c =
+    let start = c .before .before .before .before .before .before .before .before in
+    omega (arith, page-small _ _ _ _ _ _ _ _ (start .pre))
 
 copy-frame-requires : tie.Need-copy-frame-requires
-copy-frame-requires c κs = copy-asked _ _ _ _ _ _ _ _ (c .before .before .before .before .before .before .before .before .pre) _ _ (c .before .before .before .frame-at .ensures) (c .before .before .frame-at2 .ensures)
+copy-frame-requires c κs =
+    let at-frame-at = c .before .before .before in
+    let start = at-frame-at .before .before .before .before .before in
+    copy-asked _ _ _ _ _ _ _ _ (start .pre) _ _ (at-frame-at .frame-at .ensures) (c .before .before .frame-at2 .ensures)
 
 segment-of-requires : tie.Need-segment-of-requires
 segment-of-requires c κs =
-    let a = c .before .before .before .before .before .before .before .before .before .before .before .before .pre in
+    let start = c .before .before .before .before .before .before .before .before .before .before .before .before in
+    let a = start .pre in
     (a .to .whole .fine, (a .low, frame-few _ _ _ _ (a .to)))
 
 set-ct-requires : tie.Need-set-ct-requires
 set-ct-requires c κs =
-    let a = c .before .before .before .before .before .before .before .before .before .before .before .before .before .pre in
-    (rw (c .before .before .before .before .before .before .before .before .before .cluster-at .ensures) (a .cluster), segment-few _ _ _ _ (a .to) _ _ (a .low) (c .segment-of .ensures))
+    let at-cluster-at = c .before .before .before .before .before .before .before .before .before in
+    let start = at-cluster-at .before .before .before .before in
+    let a = start .pre in
+    (rw (at-cluster-at .cluster-at .ensures) (a .cluster), segment-few _ _ _ _ (a .to) _ _ (a .low) (c .segment-of .ensures))
 
 same-length : tie.Need-same-length
 same-length c = search needs
@@ -40,7 +48,14 @@ same-length-2 c = search needs
 
 returns : tie.Need-returns
 returns c =
-    moved _ _ _ _ _ _ _ _ (c .before .before .before .before .before .before .before .before .before .before .before .before .before .before .before .before .pre) _ _ (c .before .before .before .before .before .before .before .before .before .before .before .frame-at .ensures) (c .before .before .before .before .before .before .before .before .before .before .frame-at2 .ensures) _ _ _ _ (c .before .before .before .before .before .before .before .before .before .before .before .before .cluster-at .ensures) (c .before .before .before .segment-of .ensures) (c .before .before .before .before .before .before .before .copy-frame .ensures) (c .before .before .set-ct .ensures)
+    let at-segment-of = c .before .before .before in
+    let at-copy-frame = at-segment-of .before .before .before .before in
+    let at-frame-at2 = at-copy-frame .before .before .before in
+    let at-frame-at = at-frame-at2 .before in
+    let at-cluster-at = at-frame-at .before in
+    let start = at-cluster-at .before .before .before .before in
+    moved _ _ _ _ _ _ _ _ (start .pre) _ _ (at-frame-at .frame-at .ensures) (at-frame-at2 .frame-at2 .ensures) _ _ _ _ (at-cluster-at .cluster-at .ensures)
+    (at-segment-of .segment-of .ensures) (at-copy-frame .copy-frame .ensures) (c .before .before .set-ct .ensures)
 
 pub move-frame-spec : {M : Type 1} → statement M
 move-frame-spec =

@@ -11,7 +11,8 @@ use Rattle.write_reclaim.proofs.move_marked.Tie as tie
 
 is-marked-requires : tie.Need-is-marked-requires
 is-marked-requires c κs =
-    let a = c .before .before .before .pre in
+    let start = c .before .before .before in
+    let a = start .pre in
     record { words = a .1; frame = omega (arith, a .0 .from .frame, (sizes _ (a .1 .fine)) .short) }
 
 move-frame-requires : tie.Need-move-frame-requires
@@ -25,9 +26,12 @@ same-length-2 c = search needs
 
 returns : tie.Need-returns
 returns c m e =
-    let at = c .before .before .before .before .before .before .before .before in
-    let passed : at .is-marked .result ≡ true = c .before .before .before .before .before .before .before .if1 .taken in
-    moved-yes _ _ _ _ _ _ _ _ _ _ _ (sym (at .is-marked .ensures m e) ∙ passed) (c .before .before .before .before .move-frame .ensures)
+    let at-move-frame = c .before .before .before .before in
+    let at-if1 = at-move-frame .before .before .before in
+    let start = at-if1 .before in
+    let at = start in
+    let passed : at .is-marked .result ≡ true = at-if1 .if1 .taken in
+    moved-yes _ _ _ _ _ _ _ _ _ _ _ (sym (at .is-marked .ensures m e) ∙ passed) (at-move-frame .move-frame .ensures)
 
 returns-2 : tie.Need-returns-2
 returns-2 c m e = moved-no _ _ _ _ _ _ _ _ _ (sym (c .before .is-marked .ensures m e) ∙ c .if1 .left)

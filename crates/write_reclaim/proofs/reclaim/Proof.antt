@@ -6,15 +6,19 @@ use Rattle.write_reclaim.proofs.reclaim.Statement.{statement}
 use Rattle.write_reclaim.proofs.reclaim.Tie as tie
 
 copy-marked-requires : tie.Need-copy-marked-requires
-copy-marked-requires c κs = let a = c .before .before .before .before .before .before .pre in (a .blocks, a .words)
+copy-marked-requires c κs =
+    let start = c .before .before .before .before .before .before in
+    let a = start .pre in (a .blocks, a .words)
 
 block-bytes-requires : tie.Need-block-bytes-requires
 block-bytes-requires c κs = search needs
 
 erase-at-requires : tie.Need-erase-at-requires
 erase-at-requires c κs =
-    let a = c .before .before .before .before .before .before .before .before .before .before .before .before .before .pre .blocks in
-    erase-fits _ _ (a .whole) _ _ _ (a .from) (c .before .block-bytes .ensures) (c .before .before .before .before .before .before .copy-marked .kept .1 .0)
+    let at-copy-marked = c .before .before .before .before .before .before in
+    let start = at-copy-marked .before .before .before .before .before .before .before in
+    let a = start .pre .blocks in
+    erase-fits _ _ (a .whole) _ _ _ (a .from) (c .before .block-bytes .ensures) (at-copy-marked .copy-marked .kept .1 .0)
 
 count-erase-requires : tie.Need-count-erase-requires
 count-erase-requires c κs = search needs
@@ -30,7 +34,10 @@ same-length-3 c = search needs
 
 returns : tie.Need-returns
 returns c m e =
-    reclaimed _ _ _ _ _ _ _ _ (c .before .before .before .before .before .before .before .before .block-bytes .ensures) _ _ _ _ (c .before .before .before .before .before .before .before .before .before .before .before .before .before .copy-marked .ensures m e) _ _ (c .before .before .before .before .before .before .erase-at .ensures) (c .before .before .count-erase .ensures)
+    let at-erase-at = c .before .before .before .before .before .before in
+    let at-block-bytes = at-erase-at .before .before in
+    let at-copy-marked = at-block-bytes .before .before .before .before .before in
+    reclaimed _ _ _ _ _ _ _ _ (at-block-bytes .block-bytes .ensures) _ _ _ _ (at-copy-marked .copy-marked .ensures m e) _ _ (at-erase-at .erase-at .ensures) (c .before .before .count-erase .ensures)
 
 pub reclaim-spec : {M : Type 1} → statement M
 reclaim-spec =

@@ -12,13 +12,19 @@ enum-known-pl-2 : tie.Need-enum-known-pl-2
 enum-known-pl-2 c = search needs
 
 open-block-requires : tie.Need-open-block-requires
-open-block-requires c κs = rw (c .before .before .before .before .pl2 .given .1) at (c .before .before .before .before .before .before .before .before .before .before .before .before .pre)
+open-block-requires c κs =
+    let at-pl2 = c .before .before .before .before in
+    let start = at-pl2 .before .before .before .before .before .before .before .before in
+    rw (at-pl2 .pl2 .given .1) at (start .pre)
 
 enum-known-pl-3 : tie.Need-enum-known-pl-3
 enum-known-pl-3 c = search needs
 
 reclaim-block-requires : tie.Need-reclaim-block-requires
-reclaim-block-requires c κs = rw (c .before .before .before .before .before .before .pl3 .given .1) at (c .before .before .before .before .before .before .before .before .before .before .before .before .before .before .pre)
+reclaim-block-requires c κs =
+    let at-pl3 = c .before .before .before .before .before .before in
+    let start = at-pl3 .before .before .before .before .before .before .before .before in
+    rw (at-pl3 .pl3 .given .1) at (start .pre)
 
 returns : tie.Need-returns
 returns c = λ fst e. rw (c .before .pl .given .1) (made-continues _ _ _ _ fst _ _ _ _ _ _)
@@ -33,7 +39,10 @@ same-length-3 : tie.Need-same-length-3
 same-length-3 c = search needs
 
 returns-2 : tie.Need-returns-2
-returns-2 c = λ fst e. rw (c .before .before .before .before .before .before .before .before .before .pl2 .given .1) (made-opens _ _ _ _ fst _ _ _ _ _ _ _ (c .before .before .before .before .open-block .ensures))
+returns-2 c =
+    let at-open-block = c .before .before .before .before in
+    let at-pl2 = at-open-block .before .before .before .before .before in
+    λ fst e. rw (at-pl2 .pl2 .given .1) (made-opens _ _ _ _ fst _ _ _ _ _ _ _ (at-open-block .open-block .ensures))
 
 same-length-4 : tie.Need-same-length-4
 same-length-4 c = search needs
@@ -52,7 +61,10 @@ same-length-8 c = search needs
 
 returns-3 : tie.Need-returns-3
 returns-3 c =
-    λ fst e. rw (c .before .before .before .before .before .before .before .before .before .before .before .before .before .before .before .before .before .pl3 .given .1) (made-by-marks _ _ _ _ _ _ _ _ _ (rw (c .before .before .before .before .before .before .before .before .before .before .before .before .before .before .before .before .before .pl3 .given .1) at (c .before .before .before .before .before .before .before .before .before .before .before .before .before .before .before .before .before .before .before .before .before .before .before .before .before .pre)) fst e _ _ _ _ _ _ (c .before .before .before .before .before .before .before .before .before .before .reclaim-block .ensures))
+    let at-reclaim-block = c .before .before .before .before .before .before .before .before .before .before in
+    let at-pl3 = at-reclaim-block .before .before .before .before .before .before .before in
+    let start = at-pl3 .before .before .before .before .before .before .before .before in
+    λ fst e. rw (at-pl3 .pl3 .given .1) (made-by-marks _ _ _ _ _ _ _ _ _ (rw (at-pl3 .pl3 .given .1) at (start .pre)) fst e _ _ _ _ _ _ (at-reclaim-block .reclaim-block .ensures))
 
 pub make-room-spec : {M : Type 1} → statement M
 make-room-spec =

@@ -7,22 +7,41 @@ use Rattle.write_room.proofs.reclaim_block.Statement.{statement}
 use Rattle.write_room.proofs.reclaim_block.Tie as tie
 
 bt-at-requires : tie.Need-bt-at-requires
-bt-at-requires c κs = (c .before .before .before .before .before .before .before .pre .taking .btLength, (c .before .before .before .before .before .before .before .pre .taking .region, c .before .before .before .before .before .before .before .pre .taking .low))
+bt-at-requires c κs =
+    let start = c .before .before .before .before .before .before .before in
+    (start .pre .taking .btLength, (start .pre .taking .region, start .pre .taking .low))
 
 free-block-requires : tie.Need-free-block-requires
-free-block-requires c κs = c .before .before .before .before .before .before .before .before .before .before .pre .taking .pool
+free-block-requires c κs =
+    let start = c .before .before .before .before .before .before .before .before .before .before in
+    start .pre .taking .pool
 
 reclaim-requires : tie.Need-reclaim-requires
-reclaim-requires c κs = reclaim-asked _ _ _ _ _ _ _ _ _ (c .before .before .before .before .before .before .before .before .before .before .before .before .before .before .pre) _ _ (c .before .before .before .before .before .before .bt-at .ensures .0) (c .before .before .before .free-block .ensures)
+reclaim-requires c κs =
+    let at-free-block = c .before .before .before in
+    let at-bt-at = at-free-block .before .before .before in
+    let start = at-bt-at .before .before .before .before .before .before .before .before in
+    reclaim-asked _ _ _ _ _ _ _ _ _ (start .pre) _ _ (at-bt-at .bt-at .ensures .0) (at-free-block .free-block .ensures)
 
 set-bt-requires : tie.Need-set-bt-requires
-set-bt-requires c κs = (c .before .before .before .before .before .before .before .before .before .before .before .before .before .before .before .before .before .before .before .before .before .before .pre .taking .btLength, (c .before .before .before .before .before .before .before .before .before .before .before .before .before .before .before .before .before .before .before .before .before .before .pre .taking .region, (c .before .before .before .before .before .before .before .before .before .before .before .before .before .before .before .before .before .before .before .before .before .before .pre .taking .low, free-few _ _ _ _ _ _ (c .before .before .before .before .before .before .before .before .before .before .before .before .before .before .before .before .before .before .before .before .before .before .pre .taking) _ (c .before .before .before .before .before .before .before .before .before .before .before .free-block .ensures))))
+set-bt-requires c κs =
+    let at-free-block = c .before .before .before .before .before .before .before .before .before .before .before in
+    let start = at-free-block .before .before .before .before .before .before .before .before .before .before .before in
+    (start .pre .taking .btLength, (start .pre .taking .region, (start .pre .taking .low, free-few _ _ _ _ _ _ (start .pre .taking) _ (at-free-block .free-block .ensures))))
 
 set-bst-requires : tie.Need-set-bst-requires
-set-bst-requires c κs = free-in _ _ _ _ _ _ (c .before .before .before .before .before .before .before .before .before .before .before .before .before .before .before .before .before .before .before .before .before .before .before .before .before .before .pre .taking) _ (c .before .before .before .before .before .before .before .before .before .before .before .before .before .before .before .free-block .ensures)
+set-bst-requires c κs =
+    let at-free-block = c .before .before .before .before .before .before .before .before .before .before .before .before .before .before .before in
+    let start = at-free-block .before .before .before .before .before .before .before .before .before .before .before in
+    free-in _ _ _ _ _ _ (start .pre .taking) _ (at-free-block .free-block .ensures)
 
 set-bst-requires-2 : tie.Need-set-bst-requires-2
-set-bst-requires-2 c κs = rw (c .before .before .before .set-bst .ensures, length-set) (old-in _ _ _ _ _ _ _ _ _ (c .before .before .before .before .before .before .before .before .before .before .before .before .before .before .before .before .before .before .before .before .before .before .before .before .before .before .before .before .before .before .pre) _ _ (c .before .before .before .before .before .before .before .before .before .before .before .before .before .before .before .before .before .before .before .before .before .before .bt-at .ensures .0) (c .before .before .before .before .before .before .before .before .before .before .before .before .before .before .before .before .before .before .before .free-block .ensures))
+set-bst-requires-2 c κs =
+    let at-set-bst = c .before .before .before in
+    let at-free-block = at-set-bst .before .before .before .before .before .before .before .before .before .before .before .before .before .before .before .before in
+    let at-bt-at = at-free-block .before .before .before in
+    let start = at-bt-at .before .before .before .before .before .before .before .before in
+    rw (at-set-bst .set-bst .ensures, length-set) (old-in _ _ _ _ _ _ _ _ _ (start .pre) _ _ (at-bt-at .bt-at .ensures .0) (at-free-block .free-block .ensures))
 
 same-length : tie.Need-same-length
 same-length c = search needs
@@ -40,7 +59,15 @@ same-length-5 : tie.Need-same-length-5
 same-length-5 c = search needs
 
 returns : tie.Need-returns
-returns c = λ m e. block-reclaimed _ _ _ _ _ _ _ _ _ (c .before .before .before .before .before .before .before .before .before .before .before .before .before .before .before .before .before .before .before .before .before .before .before .before .before .before .before .before .before .before .before .before .before .pre) _ _ (c .before .before .before .before .before .before .before .before .before .before .before .before .before .before .before .before .before .before .before .before .before .before .before .before .before .bt-at .ensures .0) (c .before .before .before .before .before .before .before .before .before .before .before .before .before .before .before .before .before .before .before .before .before .before .free-block .ensures) (m _ _) _ _ _ _ _ _ _ (c .before .before .before .before .before .before .before .before .before .before .before .before .before .before .before .before .before .before .reclaim .ensures m e) (c .before .before .before .before .before .before .before .before .before .before .set-bt .ensures) (c .before .before .before .before .before .before .set-bst .ensures) (c .before .before .set-bst2 .ensures)
+returns c =
+    let at-set-bst = c .before .before .before .before .before .before in
+    let at-set-bt = at-set-bst .before .before .before .before in
+    let at-reclaim = at-set-bt .before .before .before .before .before .before .before .before in
+    let at-free-block = at-reclaim .before .before .before .before in
+    let at-bt-at = at-free-block .before .before .before in
+    let start = at-bt-at .before .before .before .before .before .before .before .before in
+    λ m e. block-reclaimed _ _ _ _ _ _ _ _ _ (start .pre) _ _ (at-bt-at .bt-at .ensures .0) (at-free-block .free-block .ensures) (m _ _) _ _ _ _ _ _ _
+    (at-reclaim .reclaim .ensures m e) (at-set-bt .set-bt .ensures) (at-set-bst .set-bst .ensures) (c .before .before .set-bst2 .ensures)
 
 pub reclaim-block-spec : {M : Type 1} → statement M
 reclaim-block-spec =

@@ -3,27 +3,54 @@
 -- Assumes nothing.
 use mathlib.Core.Path.{ap, _∙_, _≡_}
 use Rattle.rules.specs.Numbers.{clusterOf, regionOf}
-use Rattle.write_work.proofs.Writes.{sectors, regions, alpha-few, marks-full, plan-asked, room-asked, lookup-entry, lookup-made, standing, stays, stays-within, copied-few, gives, mark-asked, old-asked}
+use Rattle.write_work.proofs.Writes.{
+  sectors,
+  regions,
+  alpha-few,
+  marks-full,
+  plan-asked,
+  room-asked,
+  lookup-entry,
+  lookup-made,
+  standing,
+  stays,
+  stays-within,
+  copied-few,
+  gives,
+  mark-asked,
+  old-asked,
+}
 use Rattle.write_work.proofs.write_orderly.Statement.{statement}
 use Rattle.write_work.proofs.write_orderly.Tie as tie
 
 cluster-of-requires : tie.Need-cluster-of-requires
-cluster-of-requires c κs = sectors _ _ _ (c .before .before .before .before .before .before .before .before .pre)
+cluster-of-requires c κs =
+    let start = c .before .before .before .before .before .before .before .before in
+    sectors _ _ _ (start .pre)
 
 region-of-requires : tie.Need-region-of-requires
-region-of-requires c κs = regions _ _ _ (c .before .before .before .before .before .before .before .before .before .pre)
+region-of-requires c κs =
+    let start = c .before .before .before .before .before .before .before .before .before in
+    regions _ _ _ (start .pre)
 
 find-frame-requires : tie.Need-find-frame-requires
-find-frame-requires c κs = lookup-entry _ _ _ (c .before .before .before .before .before .before .before .before .before .before .before .before .before .pre) _ (c .before .before .before .before .cluster-of .ensures)
+find-frame-requires c κs =
+    let at-cluster-of = c .before .before .before .before in
+    let start = at-cluster-of .before .before .before .before .before .before .before .before .before in
+    lookup-entry _ _ _ (start .pre) _ (at-cluster-of .cluster-of .ensures)
 
 plan-of-requires : tie.Need-plan-of-requires
 plan-of-requires c κs =
-    let entry = c .before .before .before .before .before .before .before .before .before .before .before .before .before .before .before .before .before .before in
-    (plan-asked _ _ _ (entry .pre) _ (c .before .before .before .before .before .before .before .before .region-of .ensures ∙ ap (regionOf (entry .args .p)) (c .before .before .before .before .before .before .before .before .before .cluster-of .ensures)), marks-full _ _ _ (entry .pre))
+    let at-region-of = c .before .before .before .before .before .before .before .before in
+    let at-cluster-of = at-region-of .before in
+    let start = at-cluster-of .before .before .before .before .before .before .before .before .before in
+    let entry = start in
+    (plan-asked _ _ _ (entry .pre) _ (at-region-of .region-of .ensures ∙ ap (regionOf (entry .args .p)) (at-cluster-of .cluster-of .ensures)), marks-full _ _ _ (entry .pre))
 
 make-room-requires : tie.Need-make-room-requires
 make-room-requires c κs =
-    let d = c .before .before .before .before .before .before in
+    let start = c .before .before .before .before .before .before in
+    let d = start in
     let entry = d .before .before .before .before .before .before .before .before .before .before .before .before .before .before .before .before .before .before .before in
     let cluster = d .before .before .before .before .before .before .before .before .before .before .cluster-of .ensures in
     let region = d .before .before .before .before .before .before .before .before .before .region-of .ensures ∙ ap (regionOf (entry .args .p)) cluster in
@@ -31,11 +58,13 @@ make-room-requires c κs =
 
 find-again-requires : tie.Need-find-again-requires
 find-again-requires c κs =
-    let d = c .before .before .before .before .before .before .before .before .before .before .before .before .before .before .before .before .before .before .before .before in
+    let at-make-room = c .before .before .before .before .before .before .before .before .before .before .before .before .before in
+    let start = at-make-room .before .before .before .before .before .before .before in
+    let d = start in
     let entry = d .before .before .before .before .before .before .before .before .before .before .before .before .before .before .before .before .before .before .before in
     let cluster = d .before .before .before .before .before .before .before .before .before .before .cluster-of .ensures in
     let region = d .before .before .before .before .before .before .before .before .before .region-of .ensures ∙ ap (regionOf (entry .args .p)) cluster in
-    let room = c .before .before .before .before .before .before .before .before .before .before .before .before .before .make-room .ensures in
+    let room = at-make-room .make-room .ensures in
     let found = d .before .before .before .before .before .find-frame .ensures in (
       lookup-made _ _ _ (entry .pre) _ region _ (d .plan-of .ensures) _ _ _ _ _ _ _ _ _ room _ cluster,
       (
@@ -46,68 +75,98 @@ find-again-requires c κs =
 
 put-cluster-requires : tie.Need-put-cluster-requires
 put-cluster-requires c κs =
-    let d = c .before .before .before .before .before .before .before .before .before .before .before .before .before .before .before .before .before .before .before .before .before .before .before .before .before in
+    let at-find-again = c .before .before .before .before in
+    let at-make-room = at-find-again .before .before .before .before .before .before .before .before .before .before .before .before .before .before in
+    let start = at-make-room .before .before .before .before .before .before .before in
+    let d = start in
     let entry = d .before .before .before .before .before .before .before .before .before .before .before .before .before .before .before .before .before .before .before in
     let cluster = d .before .before .before .before .before .before .before .before .before .before .cluster-of .ensures in
     let region = d .before .before .before .before .before .before .before .before .before .region-of .ensures ∙ ap (regionOf (entry .args .p)) cluster in
-    let room = c .before .before .before .before .before .before .before .before .before .before .before .before .before .before .before .before .before .before .make-room .ensures in
-    (standing _ _ _ (entry .pre) _ region _ (d .plan-of .ensures) _ _ _ _ _ _ _ _ _ room, rw cluster at (c .before .before .before .before .find-again .ensures .0))
+    let room = at-make-room .make-room .ensures in
+    (standing _ _ _ (entry .pre) _ region _ (d .plan-of .ensures) _ _ _ _ _ _ _ _ _ room, rw cluster at (at-find-again .find-again .ensures .0))
 
 keep-marks-requires : tie.Need-keep-marks-requires
 keep-marks-requires c κs =
-    let d = c .before .before .before .before .before .before .before .before .before .before .before .before .before .before .before .before .before .before .before .before .before .before .before .before .before .before .before .before .before .before .before .before .before in
+    let at-find-again = c .before .before .before .before .before .before .before .before .before .before .before .before in
+    let at-make-room = at-find-again .before .before .before .before .before .before .before .before .before .before .before .before .before .before in
+    let start = at-make-room .before .before .before .before .before .before .before in
+    let d = start in
     let entry = d .before .before .before .before .before .before .before .before .before .before .before .before .before .before .before .before .before .before .before in
     let cluster = d .before .before .before .before .before .before .before .before .before .before .cluster-of .ensures in
     let region = d .before .before .before .before .before .before .before .before .before .region-of .ensures ∙ ap (regionOf (entry .args .p)) cluster in
-    let room = c .before .before .before .before .before .before .before .before .before .before .before .before .before .before .before .before .before .before .before .before .before .before .before .before .before .before .make-room .ensures in
-    let old = c .before .before .before .before .before .before .before .before .before .before .before .before .find-again .ensures in (
+    let room = at-make-room .make-room .ensures in
+    let old = at-find-again .find-again .ensures in (
       mark-asked _ _ _ (entry .pre) _ region _ (d .plan-of .ensures) _ _ _ _ _ _ _ _ _ room,
       old-asked _ _ _ (entry .pre) _ region _ (d .plan-of .ensures) _ _ _ _ _ _ _ _ _ room _ _ cluster _ _ _ (old .0) (old .1),
     )
 
 answered-requires : tie.Need-answered-requires
 answered-requires c κs =
-    let d = c .before .before .before .before .before .before .before .before .before .before .before .before .before .before .before .before .before .before .before .before .before .before .before .before .before .before .before .before .before .before .before .before .before .before .before .before in
+    let at-make-room = c .before .before .before .before .before .before .before .before .before .before .before .before .before .before
+    .before .before .before .before .before .before .before .before .before .before .before .before .before .before .before in
+    let start = at-make-room .before .before .before .before .before .before .before in
+    let d = start in
     let entry = d .before .before .before .before .before .before .before .before .before .before .before .before .before .before .before .before .before .before .before in
     let cluster = d .before .before .before .before .before .before .before .before .before .before .cluster-of .ensures in
     let region = d .before .before .before .before .before .before .before .before .before .region-of .ensures ∙ ap (regionOf (entry .args .p)) cluster in
-    let room = c .before .before .before .before .before .before .before .before .before .before .before .before .before .before .before .before .before .before .before .before .before .before .before .before .before .before .before .before .before .make-room .ensures in
+    let room = at-make-room .make-room .ensures in
     (alpha-few _ _ _ (entry .pre), copied-few _ _ _ (entry .pre) _ region _ (d .plan-of .ensures) _ _ _ _ _ _ _ _ _ room)
 
 -- each lent slice comes back as long as it was
 
 same-length : tie.Need-same-length
-same-length c = c .before .before .before .before .before .before .before .before .before .before .chip2 .given ∙ c .before .before .before .before .before .before .before .before .before .before .before .before .before .before .before .before .before .before .before .before .before .before .before .before .before .before .before .before .before .chip .given
+same-length c =
+    let at-chip2 = c .before .before .before .before .before .before .before .before .before .before in
+    let at-chip = at-chip2 .before .before .before .before .before .before .before .before .before .before .before .before .before .before .before .before .before .before .before in
+    at-chip2 .chip2 .given ∙ at-chip .chip .given
 
 same-length-2 : tie.Need-same-length-2
-same-length-2 c = c .before .before .before .before .before .before .before .before .ct2 .given ∙ c .before .before .before .before .before .before .before .before .before .before .before .before .before .before .before .before .before .before .before .before .before .before .before .before .before .before .before .ct .given
+same-length-2 c =
+    let at-ct2 = c .before .before .before .before .before .before .before .before in
+    let at-ct = at-ct2 .before .before .before .before .before .before .before .before .before .before .before .before .before .before .before .before .before .before .before in
+    at-ct2 .ct2 .given ∙ at-ct .ct .given
 
 same-length-3 : tie.Need-same-length-3
-same-length-3 c = c .before .before .before .before .before .before .before .before .before .before .before .before .before .before .before .before .before .before .before .before .before .before .before .before .before .bt .given
+same-length-3 c =
+    let at-bt = c .before .before .before .before .before .before .before .before .before .before .before .before
+    .before .before .before .before .before .before .before .before .before .before .before .before .before in
+    at-bt .bt .given
 
 same-length-4 : tie.Need-same-length-4
-same-length-4 c = c .before .before .before .before .before .before .fst .given
+same-length-4 c =
+    let at-fst = c .before .before .before .before .before .before in
+    at-fst .fst .given
 
 same-length-5 : tie.Need-same-length-5
-same-length-5 c = c .before .before .before .before .before .before .before .before .before .before .before .before .before .before .before .before .before .before .before .before .before .before .before .bst .given
+same-length-5 c =
+    let at-bst = c .before .before .before .before .before .before .before .before .before .before .before
+    .before .before .before .before .before .before .before .before .before .before .before .before in
+    at-bst .bst .given
 
 same-length-6 : tie.Need-same-length-6
-same-length-6 c = c .before .before .before .before .before .before .before .before .before .before .before .before .before .before .before .before .before .before .before .before .before .wear .given
+same-length-6 c =
+    let at-wear = c .before .before .before .before .before .before .before .before .before .before .before .before .before .before .before .before .before .before .before .before .before in
+    at-wear .wear .given
 
 same-length-7 : tie.Need-same-length-7
 same-length-7 c = c .before .before .marks .given
 
 returns : tie.Need-returns
 returns c =
-    let d = c .before .before .before .before .before .before .before .before .before .before .before .before .before .before .before .before .before .before .before .before .before .before .before .before .before .before .before .before .before .before .before .before .before .before .before .before .before in
+    let at-keep-marks = c .before .before .before in
+    let at-put-cluster = at-keep-marks .before .before .before .before .before .before .before .before in
+    let at-find-again = at-put-cluster .before .before .before .before .before in
+    let at-make-room = at-find-again .before .before .before .before .before .before .before .before .before .before .before .before .before .before in
+    let start = at-make-room .before .before .before .before .before .before .before in
+    let d = start in
     let entry = d .before .before .before .before .before .before .before .before .before .before .before .before .before .before .before .before .before .before .before in
     let cluster = d .before .before .before .before .before .before .before .before .before .before .cluster-of .ensures in
     let region = d .before .before .before .before .before .before .before .before .before .region-of .ensures ∙ ap (regionOf (entry .args .p)) cluster in
-    let room = c .before .before .before .before .before .before .before .before .before .before .before .before .before .before .before .before .before .before .before .before .before .before .before .before .before .before .before .before .before .before .make-room .ensures in
+    let room = at-make-room .make-room .ensures in
     let found = d .before .before .before .before .before .find-frame .ensures in
-    let old = c .before .before .before .before .before .before .before .before .before .before .before .before .before .before .before .before .find-again .ensures in
+    let old = at-find-again .find-again .ensures in
     gives _ _ _ (entry .pre) _ region _ (d .plan-of .ensures) _ _ _ _ _ _ _ _ _ room _ _ cluster _ _ _ (old .0) (old .1) _ (found .1 .1) _ _ _ _ _
-    (c .before .before .before .before .before .before .before .before .before .before .before .put-cluster .ensures) (c .before .before .before .keep-marks .ensures) (c .answered .ensures)
+    (at-put-cluster .put-cluster .ensures) (at-keep-marks .keep-marks .ensures) (c .answered .ensures)
 
 pub write-orderly-spec : {M : Type 1} → statement M
 write-orderly-spec =
