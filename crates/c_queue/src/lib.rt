@@ -3,6 +3,7 @@ ghost use mathlib.Core.Path.{_≡_};
 ghost use lib.ListN.{take};
 ghost use Rattle.queue_turns.specs.Served.{servedFrom};
 ghost use Rattle.rules.specs.Tables.{boardOf};
+ghost use Rattle.rules.specs.Lent.{entryBoard, exitBoard};
 ghost use Rattle.queue_head.specs.Heads.{Ready};
 ghost use Rattle.c_answer.specs.Packed.{packed};
 ghost use Rattle.c_queue.specs.Flat.{TurnAsked, TurnDone, TurnsAsked, flatCall, flatOutcome, itemsOf};
@@ -27,7 +28,8 @@ fn turn(
 )
     requires { ⌜ Ready p ordered (boardOf (now chip) (now ct) (now bt) (now fst) (now bst) (now wear) (now marks)) ⌝ }
     requires { ⌜ TurnAsked (now requests) (now answers) i ⌝ }
-    ensures { λ _. ⌜ TurnDone p ordered (boardOf (now (chip .entry)) (now (ct .entry)) (now (bt .entry)) (now (fst .entry)) (now (bst .entry)) (now (wear .entry)) (now (marks .entry))) (now (requests .entry)) (now (bytes .entry)) (now (answers .entry)) i (boardOf (now (chip .exit)) (now (ct .exit)) (now (bt .exit)) (now (fst .exit)) (now (bst .exit)) (now (wear .exit)) (now (marks .exit))) (now (answers .exit)) ⌝ }
+    ensures { λ _. ⌜ TurnDone p ordered (entryBoard chip ct bt fst bst wear marks) (now (requests .entry)) (now (bytes .entry)) (now (answers .entry)) i
+        (exitBoard chip ct bt fst bst wear marks) (now (answers .exit)) ⌝ }
 {
     let a = queue_item::item(
         p,
@@ -65,7 +67,8 @@ fn turns(
     n: usize,
 )
     requires { ⌜ TurnsAsked p ordered (boardOf (now chip) (now ct) (now bt) (now fst) (now bst) (now wear) (now marks)) (now requests) (now answers) n ⌝ }
-    ensures { λ _. ⌜ (boardOf (now (chip .exit)) (now (ct .exit)) (now (bt .exit)) (now (fst .exit)) (now (bst .exit)) (now (wear .exit)) (now (marks .exit)), now (answers .exit)) ≡ servedFrom packed p (now (bytes .entry)) (take n (itemsOf (now (requests .entry)))) 0 (boardOf (now (chip .entry)) (now (ct .entry)) (now (bt .entry)) (now (fst .entry)) (now (bst .entry)) (now (wear .entry)) (now (marks .entry))) (now (answers .entry)) ⌝ }
+    ensures { λ _. ⌜ (exitBoard chip ct bt fst bst wear marks, now (answers .exit)) ≡ servedFrom packed p (now (bytes .entry)) (take n (itemsOf (now (requests .entry)))) 0
+        (entryBoard chip ct bt fst bst wear marks) (now (answers .entry)) ⌝ }
 {
     let mut i = 0;
     while i < n {
@@ -102,7 +105,8 @@ pub fn queue(
     bytes: &[u8],
     answers: &mut [u64],
 ) -> u64
-    ensures { λ word. ⌜ flatOutcome word (now (answers .exit)) (boardOf (now (chip .exit)) (now (ct .exit)) (now (bt .exit)) (now (fst .exit)) (now (bst .exit)) (now (wear .exit)) (now (marks .exit))) ≡ flatCall p (boardOf (now (chip .entry)) (now (ct .entry)) (now (bt .entry)) (now (fst .entry)) (now (bst .entry)) (now (wear .entry)) (now (marks .entry))) (now (requests .entry)) (now (bytes .entry)) (now (answers .entry)) ⌝ }
+    ensures { λ word. ⌜ flatOutcome word (now (answers .exit)) (exitBoard chip ct bt fst bst wear marks) ≡ flatCall p (entryBoard chip ct bt fst bst wear marks)
+        (now (requests .entry)) (now (bytes .entry)) (now (answers .entry)) ⌝ }
 {
     let h = queue_head::head_flat(
         p,

@@ -1,7 +1,7 @@
 // Document 01, "Format", on the lent chip and tables. No `requires`: the contract says that the whole outcome is the rules', for every input.
 ghost use mathlib.Core.Path.{_≡_};
 ghost use mathlib.Core.List.{[]};
-ghost use Rattle.rules.specs.Tables.{boardOf};
+ghost use Rattle.rules.specs.Lent.{entryBoard, exitBoard};
 ghost use Rattle.rules.specs.Requests.{format};
 ghost use Rattle.rules.specs.Calls.{outcomeOf};
 ghost use Rattle.outcomes.specs.Claims.{outcome};
@@ -19,7 +19,7 @@ pub fn format(
     wear: &mut [u32],
     marks: &mut [u64],
 ) -> Answer
-    ensures { λ a. ⌜ outcome a [] [] (boardOf (now (chip .exit)) (now (ct .exit)) (now (bt .exit)) (now (fst .exit)) (now (bst .exit)) (now (wear .exit)) (now (marks .exit))) ≡ outcomeOf p (boardOf (now (chip .entry)) (now (ct .entry)) (now (bt .entry)) (now (fst .entry)) (now (bst .entry)) (now (wear .entry)) (now (marks .entry))) format ⌝ }
+    ensures { λ a. ⌜ outcome a [] [] (exitBoard chip ct bt fst bst wear marks) ≡ outcomeOf p (entryBoard chip ct bt fst bst wear marks) format ⌝ }
 {
     let reply = replies::format_reply(p, chip, ct, bt, fst, bst, wear, marks);
     if rules::number(reply) != 0 {

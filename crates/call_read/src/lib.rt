@@ -1,7 +1,7 @@
 // Document 01, "Read", on the lent chip and tables. No `requires`: the contract says that the whole outcome is the rules', for every input.
 ghost use mathlib.Core.Path.{_≡_};
 ghost use mathlib.Core.List.{[]};
-ghost use Rattle.rules.specs.Tables.{boardOf};
+ghost use Rattle.rules.specs.Lent.{entryBoard};
 ghost use Rattle.rules.specs.Requests.{read, requestOf};
 ghost use Rattle.rules.specs.Calls.{outcomeOf};
 ghost use Rattle.outcomes.specs.Claims.{outcome};
@@ -22,7 +22,8 @@ pub fn read(
     count: u32,
     bytes: &mut [u8],
 ) -> Answer
-    ensures { λ a. ⌜ outcome a (now (bytes .exit)) [] (boardOf (now (chip .entry)) (now (ct .entry)) (now (bt .entry)) (now (fst .entry)) (now (bst .entry)) (now (wear .entry)) (now (marks .entry))) ≡ outcomeOf p (boardOf (now (chip .entry)) (now (ct .entry)) (now (bt .entry)) (now (fst .entry)) (now (bst .entry)) (now (wear .entry)) (now (marks .entry))) (read (requestOf lba count (now (bytes .entry)))) ⌝ }
+    ensures { λ a. ⌜ outcome a (now (bytes .exit)) [] (entryBoard chip ct bt fst bst wear marks) ≡ outcomeOf p (entryBoard chip ct bt fst bst wear marks)
+        (read (requestOf lba count (now (bytes .entry)))) ⌝ }
 {
     let reply = replies::access_reply(
         p,

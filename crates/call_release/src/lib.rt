@@ -1,7 +1,7 @@
 // Document 02, T-03, the release, on the lent chip and tables, with T-06's table of marks. No `requires`: the contract says that the whole outcome is the rules', for every input.
 ghost use mathlib.Core.Path.{_≡_};
 ghost use mathlib.Core.List.{[]};
-ghost use Rattle.rules.specs.Tables.{boardOf};
+ghost use Rattle.rules.specs.Lent.{entryBoard, exitBoard};
 ghost use Rattle.rules.specs.Requests.{release};
 ghost use Rattle.rules.specs.Calls.{outcomeOf};
 ghost use Rattle.outcomes.specs.Claims.{outcome};
@@ -22,7 +22,7 @@ pub fn release(
     marks: &mut [u64],
     cluster: u32,
 ) -> Answer
-    ensures { λ a. ⌜ outcome a [] [] (boardOf (now (chip .entry)) (now (ct .exit)) (now (bt .entry)) (now (fst .entry)) (now (bst .entry)) (now (wear .entry)) (now (marks .exit))) ≡ outcomeOf p (boardOf (now (chip .entry)) (now (ct .entry)) (now (bt .entry)) (now (fst .entry)) (now (bst .entry)) (now (wear .entry)) (now (marks .entry))) (release cluster) ⌝ }
+    ensures { λ a. ⌜ outcome a [] [] (exitBoard chip ct bt fst bst wear marks) ≡ outcomeOf p (entryBoard chip ct bt fst bst wear marks) (release cluster) ⌝ }
 {
     let reply = replies::release_reply(p, chip, ct, bt, fst, bst, wear, marks, cluster);
     if rules::number(reply) != 0 {

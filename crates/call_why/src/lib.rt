@@ -5,6 +5,7 @@ ghost use mathlib.Core.List.{List, []};
 ghost use Prim.Native.Nat.{ℕ};
 ghost use Rattle.rules.specs.Regions.{viewOf};
 ghost use Rattle.rules.specs.Tables.{boardOf};
+ghost use Rattle.rules.specs.Lent.{entryBoard};
 ghost use Rattle.rules.specs.Write.{planOf};
 ghost use Rattle.rules.specs.Marks.{marksOf};
 ghost use Rattle.read_work.specs.Lookup.{Within};
@@ -49,7 +50,8 @@ pub enum Why {
 fn forecast_of(p: Params, chip: &[u8], bt: &[u16], fst: &[u16], marks: &[u64], r: usize) -> Forecast
     requires { ⌜ ForecastAsked p (now chip) (now bt) (now fst) (now marks) r ⌝ }
     ensures { λ fc. ⌜ ((ct : List ℕ) → now (marks .entry) ≡ marksOf p (boardOf (now (chip .entry)) ct (now (bt .entry)) (now (fst .entry)) [] [] [])
-        → forecastNumbers fc ≡ planNumbers p (viewOf p (now (chip .entry)) ct (now (bt .entry)) (now (fst .entry)) r) (planOf p (viewOf p (now (chip .entry)) ct (now (bt .entry)) (now (fst .entry)) r))) ⌝ }
+        → forecastNumbers fc ≡ planNumbers p (viewOf p (now (chip .entry)) ct (now (bt .entry)) (now (fst .entry)) r)
+        (planOf p (viewOf p (now (chip .entry)) ct (now (bt .entry)) (now (fst .entry)) r))) ⌝ }
 {
     match write_plan::plan_of(p, chip, bt, fst, marks, r) {
         Planned::Continues(v, f) => Forecast::Continues(v, f),
@@ -87,7 +89,7 @@ pub fn explain(
     marks: &[u64],
     lba: u32,
 ) -> Why
-    ensures { λ w. ⌜ numbersOf w ≡ whyOf p (boardOf (now (chip .entry)) (now (ct .entry)) (now (bt .entry)) (now (fst .entry)) (now (bst .entry)) (now (wear .entry)) (now (marks .entry))) lba ⌝ }
+    ensures { λ w. ⌜ numbersOf w ≡ whyOf p (entryBoard chip ct bt fst bst wear marks) lba ⌝ }
     ensures { λ w. ⌜ Small (numbersOf w) ⌝ }
 {
     let reply = replies::why_reply(p, chip, ct, bt, fst, bst, wear, marks, lba);

@@ -141,7 +141,8 @@ pub fn lengths_fit(
     marks: usize,
 ) -> bool
     requires { ⌜ allowed p ≡ true ⌝ }
-    ensures { λ ok. ⌜ ((b : Board) → length (b .chip) ≡ chip → length (b .ct) ≡ ct → length (b .bt) ≡ bt → length (b .fst) ≡ fst → length (b .bst) ≡ bst → length (b .wear) ≡ wear → length (b .marks) ≡ marks → ok ≡ lengthsFit p b) ⌝ }
+    ensures { λ ok. ⌜ ((b : Board) → length (b .chip) ≡ chip → length (b .ct) ≡ ct → length (b .bt) ≡ bt → length (b .fst) ≡ fst → length (b .bst) ≡ bst
+        → length (b .wear) ≡ wear → length (b .marks) ≡ marks → ok ≡ lengthsFit p b) ⌝ }
 {
     let w = block_bytes(p);
     let all = p.N * w;

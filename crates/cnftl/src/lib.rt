@@ -1,7 +1,7 @@
 // The C interface: the calls of documents 01 and 02 with the parameters one by one, and the answer as one number. T-06's table of marks comes after the wear.
 ghost use mathlib.Core.Path.{_≡_};
 ghost use mathlib.Core.List.{[]};
-ghost use Rattle.rules.specs.Tables.{boardOf};
+ghost use Rattle.rules.specs.Lent.{entryBoard, exitBoard};
 ghost use Rattle.rules.specs.Calls.{outcomeOf};
 ghost use Rattle.rules.specs.Requests.{format, read, write, release, requestOf};
 ghost use Rattle.c_queue.specs.Flat.{flatCall, flatOutcome};
@@ -36,7 +36,7 @@ pub extern "C" fn cnftl_format(
     wear: &mut [u32],
     marks: &mut [u64],
 ) -> u64
-    ensures { λ word. ⌜ Given (outcomeOf (paramsOf s alpha beta d mu gamma c n) (boardOf (now (chip .entry)) (now (ct .entry)) (now (bt .entry)) (now (fst .entry)) (now (bst .entry)) (now (wear .entry)) (now (marks .entry))) format) word [] (boardOf (now (chip .exit)) (now (ct .exit)) (now (bt .exit)) (now (fst .exit)) (now (bst .exit)) (now (wear .exit)) (now (marks .exit))) ⌝ }
+    ensures { λ word. ⌜ Given (outcomeOf (paramsOf s alpha beta d mu gamma c n) (entryBoard chip ct bt fst bst wear marks) format) word [] (exitBoard chip ct bt fst bst wear marks) ⌝ }
 {
     let p = c_answer::params(s, alpha, beta, d, mu, gamma, c, n);
     c_answer::pack(calls::format(p, chip, ct, bt, fst, bst, wear, marks))
@@ -64,7 +64,8 @@ pub extern "C" fn cnftl_read(
     count: u32,
     bytes: &mut [u8],
 ) -> u64
-    ensures { λ word. ⌜ Given (outcomeOf (paramsOf s alpha beta d mu gamma c n) (boardOf (now (chip .entry)) (now (ct .entry)) (now (bt .entry)) (now (fst .entry)) (now (bst .entry)) (now (wear .entry)) (now (marks .entry))) (read (requestOf lba count (now (bytes .entry))))) word (now (bytes .exit)) (boardOf (now (chip .entry)) (now (ct .entry)) (now (bt .entry)) (now (fst .entry)) (now (bst .entry)) (now (wear .entry)) (now (marks .entry))) ⌝ }
+    ensures { λ word. ⌜ Given (outcomeOf (paramsOf s alpha beta d mu gamma c n) (entryBoard chip ct bt fst bst wear marks) (read (requestOf lba count (now (bytes .entry)))))
+        word (now (bytes .exit)) (entryBoard chip ct bt fst bst wear marks) ⌝ }
 {
     let p = c_answer::params(s, alpha, beta, d, mu, gamma, c, n);
     c_answer::pack(calls::read(p, chip, ct, bt, fst, bst, wear, marks, lba, count, bytes))
@@ -92,7 +93,8 @@ pub extern "C" fn cnftl_write(
     count: u32,
     bytes: &[u8],
 ) -> u64
-    ensures { λ word. ⌜ Given (outcomeOf (paramsOf s alpha beta d mu gamma c n) (boardOf (now (chip .entry)) (now (ct .entry)) (now (bt .entry)) (now (fst .entry)) (now (bst .entry)) (now (wear .entry)) (now (marks .entry))) (write (requestOf lba count (now (bytes .entry))))) word (now (bytes .entry)) (boardOf (now (chip .exit)) (now (ct .exit)) (now (bt .exit)) (now (fst .exit)) (now (bst .exit)) (now (wear .exit)) (now (marks .exit))) ⌝ }
+    ensures { λ word. ⌜ Given (outcomeOf (paramsOf s alpha beta d mu gamma c n) (entryBoard chip ct bt fst bst wear marks) (write (requestOf lba count (now (bytes .entry)))))
+        word (now (bytes .entry)) (exitBoard chip ct bt fst bst wear marks) ⌝ }
 {
     let p = c_answer::params(s, alpha, beta, d, mu, gamma, c, n);
     c_answer::pack(calls::write(p, chip, ct, bt, fst, bst, wear, marks, lba, count, bytes))
@@ -120,7 +122,8 @@ pub extern "C" fn cnftl_queue(
     bytes: &[u8],
     answers: &mut [u64],
 ) -> u64
-    ensures { λ word. ⌜ flatOutcome word (now (answers .exit)) (boardOf (now (chip .exit)) (now (ct .exit)) (now (bt .exit)) (now (fst .exit)) (now (bst .exit)) (now (wear .exit)) (now (marks .exit))) ≡ flatCall (paramsOf s alpha beta d mu gamma c n) (boardOf (now (chip .entry)) (now (ct .entry)) (now (bt .entry)) (now (fst .entry)) (now (bst .entry)) (now (wear .entry)) (now (marks .entry))) (now (requests .entry)) (now (bytes .entry)) (now (answers .entry)) ⌝ }
+    ensures { λ word. ⌜ flatOutcome word (now (answers .exit)) (exitBoard chip ct bt fst bst wear marks) ≡ flatCall (paramsOf s alpha beta d mu gamma c n)
+        (entryBoard chip ct bt fst bst wear marks) (now (requests .entry)) (now (bytes .entry)) (now (answers .entry)) ⌝ }
 {
     let p = c_answer::params(s, alpha, beta, d, mu, gamma, c, n);
     c_queue::queue(
@@ -158,7 +161,7 @@ pub extern "C" fn cnftl_release(
     marks: &mut [u64],
     cluster: u32,
 ) -> u64
-    ensures { λ word. ⌜ Given (outcomeOf (paramsOf s alpha beta d mu gamma c n) (boardOf (now (chip .entry)) (now (ct .entry)) (now (bt .entry)) (now (fst .entry)) (now (bst .entry)) (now (wear .entry)) (now (marks .entry))) (release cluster)) word [] (boardOf (now (chip .entry)) (now (ct .exit)) (now (bt .entry)) (now (fst .entry)) (now (bst .entry)) (now (wear .entry)) (now (marks .exit))) ⌝ }
+    ensures { λ word. ⌜ Given (outcomeOf (paramsOf s alpha beta d mu gamma c n) (entryBoard chip ct bt fst bst wear marks) (release cluster)) word [] (exitBoard chip ct bt fst bst wear marks) ⌝ }
 {
     let p = c_answer::params(s, alpha, beta, d, mu, gamma, c, n);
     c_answer::pack(calls::release(p, chip, ct, bt, fst, bst, wear, marks, cluster))
@@ -185,7 +188,7 @@ pub extern "C" fn cnftl_why(
     lba: u32,
     list: &mut [u32],
 ) -> u64
-    ensures { λ word. ⌜ Listed (paramsOf s alpha beta d mu gamma c n) (boardOf (now (chip .entry)) (now (ct .entry)) (now (bt .entry)) (now (fst .entry)) (now (bst .entry)) (now (wear .entry)) (now (marks .entry))) lba (now (list .entry)) word (now (list .exit)) ⌝ }
+    ensures { λ word. ⌜ Listed (paramsOf s alpha beta d mu gamma c n) (entryBoard chip ct bt fst bst wear marks) lba (now (list .entry)) word (now (list .exit)) ⌝ }
 {
     let p = c_answer::params(s, alpha, beta, d, mu, gamma, c, n);
     if list.len() != 13 {

@@ -2,7 +2,7 @@
 ghost use mathlib.Core.Path.{_≡_};
 ghost use Prim.Native.Nat.{_≤_};
 ghost use lib.ListN.{length};
-ghost use Rattle.rules.specs.Tables.{boardOf};
+ghost use Rattle.rules.specs.Lent.{entryBoard, exitBoard};
 ghost use Rattle.demo_serve.specs.Turned.{Started, Turned};
 use demo_lines::Line;
 use libc::STDOUT_FILENO;
@@ -51,7 +51,7 @@ fn write(
     count: u32,
     value: u8,
 )
-    ensures { λ _. ⌜ Turned (Line.Write lba count value) (boardOf (now (chip .entry)) (now (ct .entry)) (now (bt .entry)) (now (fst .entry)) (now (bst .entry)) (now (wear .entry)) (now (marks .entry))) (boardOf (now (chip .exit)) (now (ct .exit)) (now (bt .exit)) (now (fst .exit)) (now (bst .exit)) (now (wear .exit)) (now (marks .exit))) ⌝ }
+    ensures { λ _. ⌜ Turned (Line.Write lba count value) (entryBoard chip ct bt fst bst wear marks) (exitBoard chip ct bt fst bst wear marks) ⌝ }
 {
     let bytes = demo_board::filled(value);
     let n = demo_board::lent(count);
@@ -141,7 +141,7 @@ pub fn answer(
     marks: &mut [u64],
     line: Line,
 )
-    ensures { λ _. ⌜ Turned line (boardOf (now (chip .entry)) (now (ct .entry)) (now (bt .entry)) (now (fst .entry)) (now (bst .entry)) (now (wear .entry)) (now (marks .entry))) (boardOf (now (chip .exit)) (now (ct .exit)) (now (bt .exit)) (now (fst .exit)) (now (bst .exit)) (now (wear .exit)) (now (marks .exit))) ⌝ }
+    ensures { λ _. ⌜ Turned line (entryBoard chip ct bt fst bst wear marks) (exitBoard chip ct bt fst bst wear marks) ⌝ }
 {
     match line {
         Line::Write(lba, count, value) => {
@@ -167,7 +167,7 @@ pub fn start(
     marks: &mut [u64],
 )
     requires { ⌜ length (now marks) ≡ 16 ⌝ }
-    ensures { λ _. ⌜ Started (boardOf (now (chip .entry)) (now (ct .entry)) (now (bt .entry)) (now (fst .entry)) (now (bst .entry)) (now (wear .entry)) (now (marks .entry))) (boardOf (now (chip .exit)) (now (ct .exit)) (now (bt .exit)) (now (fst .exit)) (now (bst .exit)) (now (wear .exit)) (now (marks .exit))) ⌝ }
+    ensures { λ _. ⌜ Started (entryBoard chip ct bt fst bst wear marks) (exitBoard chip ct bt fst bst wear marks) ⌝ }
 {
     let a = calls::format(demo_board::board(), chip, ct, bt, fst, bst, wear, marks);
     say_format(a);

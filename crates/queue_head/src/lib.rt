@@ -1,6 +1,6 @@
 // Document 02, T-01: the head of a queue of writes, which is what the call is answered as a whole, before its items. It looks at lengths and state once,
 // for all of them.
-ghost use Rattle.rules.specs.Tables.{boardOf};
+ghost use Rattle.rules.specs.Lent.{entryBoard};
 ghost use Rattle.queue_head.specs.Heads.{FlatHead, HeadIs};
 use rules::Params;
 use rules::Reply;
@@ -25,7 +25,7 @@ pub fn head_of(
     items: usize,
     answers: usize,
 ) -> Head
-    ensures { λ h. ⌜ HeadIs p (boardOf (now (chip .entry)) (now (ct .entry)) (now (bt .entry)) (now (fst .entry)) (now (bst .entry)) (now (wear .entry)) (now (marks .entry))) items answers h ⌝ }
+    ensures { λ h. ⌜ HeadIs p (entryBoard chip ct bt fst bst wear marks) items answers h ⌝ }
 {
     let board = replies::board_reply(p, chip, ct, bt, fst, bst, wear, marks);
     if rules::number(board) != 0 {
@@ -64,7 +64,7 @@ pub fn head_flat(
     len: usize,
     answers: usize,
 ) -> Head
-    ensures { λ h. ⌜ FlatHead p (boardOf (now (chip .entry)) (now (ct .entry)) (now (bt .entry)) (now (fst .entry)) (now (bst .entry)) (now (wear .entry)) (now (marks .entry))) len answers h ⌝ }
+    ensures { λ h. ⌜ FlatHead p (entryBoard chip ct bt fst bst wear marks) len answers h ⌝ }
 {
     if len % 3 == 0 {
         return head_of(p, chip, ct, bt, fst, bst, wear, marks, len / 3, answers);

@@ -7,6 +7,7 @@ ghost use Prim.Native.Nat.{ℕ};
 ghost use lib.ListN.{length};
 ghost use Rattle.rules.specs.Parameters.{allowed};
 ghost use Rattle.rules.specs.Tables.{boardOf};
+ghost use Rattle.rules.specs.Lent.{entryBoard, exitBoard};
 ghost use Rattle.rules.specs.Requests.{itemOf, lies};
 ghost use Rattle.queue_head.specs.Heads.{Ready};
 ghost use Rattle.queue_item.specs.Items.{ItemIs};
@@ -38,7 +39,7 @@ pub fn item(
     bytes: &[u8],
 ) -> Answer
     requires { ⌜ Ready p ordered (boardOf (now chip) (now ct) (now bt) (now fst) (now bst) (now wear) (now marks)) ⌝ }
-    ensures { λ a. ⌜ ItemIs p ordered (boardOf (now (chip .entry)) (now (ct .entry)) (now (bt .entry)) (now (fst .entry)) (now (bst .entry)) (now (wear .entry)) (now (marks .entry))) (now (bytes .entry)) (itemOf lba count first) a (boardOf (now (chip .exit)) (now (ct .exit)) (now (bt .exit)) (now (fst .exit)) (now (bst .exit)) (now (wear .exit)) (now (marks .exit))) ⌝ }
+    ensures { λ a. ⌜ ItemIs p ordered (entryBoard chip ct bt fst bst wear marks) (now (bytes .entry)) (itemOf lba count first) a (exitBoard chip ct bt fst bst wear marks) ⌝ }
 {
     let fits = has_bytes(p, bytes.len(), count, first);
     let reply = reply_rows::item_reply(p, ordered, lba, count, fits);

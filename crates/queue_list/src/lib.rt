@@ -1,6 +1,6 @@
 // Document 02, T-01: one call that takes a list of write requests and fills a list of answers.
 ghost use mathlib.Core.Path.{_≡_};
-ghost use Rattle.rules.specs.Tables.{boardOf};
+ghost use Rattle.rules.specs.Lent.{entryBoard, exitBoard};
 ghost use Rattle.rules.specs.Requests.{queue, queueOf};
 ghost use Rattle.rules.specs.Calls.{outcomeOf};
 ghost use Rattle.outcomes.specs.Claims.{outcome};
@@ -22,7 +22,8 @@ pub fn queue(
     bytes: &[u8],
     answers: &mut [Answer],
 ) -> Answer
-    ensures { λ a. ⌜ outcome a (now (bytes .entry)) (now (answers .exit)) (boardOf (now (chip .exit)) (now (ct .exit)) (now (bt .exit)) (now (fst .exit)) (now (bst .exit)) (now (wear .exit)) (now (marks .exit))) ≡ outcomeOf p (boardOf (now (chip .entry)) (now (ct .entry)) (now (bt .entry)) (now (fst .entry)) (now (bst .entry)) (now (wear .entry)) (now (marks .entry))) (queue (queueOf (now (requests .entry)) (now (bytes .entry)) (now (answers .entry)))) ⌝ }
+    ensures { λ a. ⌜ outcome a (now (bytes .entry)) (now (answers .exit)) (exitBoard chip ct bt fst bst wear marks) ≡ outcomeOf p (entryBoard chip ct bt fst bst wear marks)
+        (queue (queueOf (now (requests .entry)) (now (bytes .entry)) (now (answers .entry)))) ⌝ }
 {
     let h = queue_head::head_of(
         p,

@@ -1,7 +1,7 @@
 // A queue of two writes with plain parameters, so that the queue of crate `queue_list` can be run by a test.
 ghost use mathlib.Core.Path.{_≡_};
 ghost use mathlib.Core.List.{[], _∷_};
-ghost use Rattle.rules.specs.Tables.{boardOf};
+ghost use Rattle.rules.specs.Lent.{entryBoard, exitBoard};
 ghost use Rattle.rules.specs.Requests.{itemOf, queue, queueOf};
 ghost use Rattle.rules.specs.Calls.{outcomeOf};
 ghost use Rattle.outcomes.specs.Claims.{outcome};
@@ -34,7 +34,8 @@ fn two(
     bytes: &[u8],
     blank: Answer,
 ) -> Pair
-    ensures { λ r. ⌜ outcome (r .own) (now (bytes .entry)) (r .first ∷ r .second ∷ []) (boardOf (now (chip .exit)) (now (ct .exit)) (now (bt .exit)) (now (fst .exit)) (now (bst .exit)) (now (wear .exit)) (now (marks .exit))) ≡ outcomeOf p (boardOf (now (chip .entry)) (now (ct .entry)) (now (bt .entry)) (now (fst .entry)) (now (bst .entry)) (now (wear .entry)) (now (marks .entry))) (queue (queueOf (a ∷ b ∷ []) (now (bytes .entry)) (blank ∷ blank ∷ []))) ⌝ }
+    ensures { λ r. ⌜ outcome (r .own) (now (bytes .entry)) (r .first ∷ r .second ∷ []) (exitBoard chip ct bt fst bst wear marks)
+        ≡ outcomeOf p (entryBoard chip ct bt fst bst wear marks) (queue (queueOf (a ∷ b ∷ []) (now (bytes .entry)) (blank ∷ blank ∷ []))) ⌝ }
 {
     let requests = [a, b];
     let mut answers = [blank, blank];
@@ -76,7 +77,8 @@ pub fn queue_two(
     first2: u32,
     bytes: &[u8],
 ) -> Pair
-    ensures { λ r. ⌜ outcome (r .own) (now (bytes .entry)) (r .first ∷ r .second ∷ []) (boardOf (now (chip .exit)) (now (ct .exit)) (now (bt .exit)) (now (fst .exit)) (now (bst .exit)) (now (wear .exit)) (now (marks .exit))) ≡ outcomeOf p (boardOf (now (chip .entry)) (now (ct .entry)) (now (bt .entry)) (now (fst .entry)) (now (bst .entry)) (now (wear .entry)) (now (marks .entry))) (queue (queueOf (itemOf lba count first ∷ itemOf lba2 count2 first2 ∷ []) (now (bytes .entry)) (unset ∷ unset ∷ []))) ⌝ }
+    ensures { λ r. ⌜ outcome (r .own) (now (bytes .entry)) (r .first ∷ r .second ∷ []) (exitBoard chip ct bt fst bst wear marks)
+        ≡ outcomeOf p (entryBoard chip ct bt fst bst wear marks) (queue (queueOf (itemOf lba count first ∷ itemOf lba2 count2 first2 ∷ []) (now (bytes .entry)) (unset ∷ unset ∷ []))) ⌝ }
 {
     let a = Item {
         lba: lba,
@@ -136,7 +138,9 @@ pub extern "C" fn cnftl_queue_two(
     bytes: &[u8],
     answers: &mut [u64],
 ) -> u64
-    ensures { λ word. ⌜ Two (outcomeOf (paramsOf s alpha beta d mu gamma c n) (boardOf (now (chip .entry)) (now (ct .entry)) (now (bt .entry)) (now (fst .entry)) (now (bst .entry)) (now (wear .entry)) (now (marks .entry))) (queue (queueOf (itemOf lba count first ∷ itemOf lba2 count2 first2 ∷ []) (now (bytes .entry)) (unset ∷ unset ∷ [])))) (now (bytes .entry)) (now (answers .entry)) word (now (answers .exit)) (boardOf (now (chip .exit)) (now (ct .exit)) (now (bt .exit)) (now (fst .exit)) (now (bst .exit)) (now (wear .exit)) (now (marks .exit))) ⌝ }
+    ensures { λ word. ⌜ Two (outcomeOf (paramsOf s alpha beta d mu gamma c n) (entryBoard chip ct bt fst bst wear marks)
+        (queue (queueOf (itemOf lba count first ∷ itemOf lba2 count2 first2 ∷ []) (now (bytes .entry)) (unset ∷ unset ∷ [])))) (now (bytes .entry)) (now (answers .entry)) word
+        (now (answers .exit)) (exitBoard chip ct bt fst bst wear marks) ⌝ }
 {
     let p = Params {
         s: s as usize,

@@ -150,7 +150,8 @@ pub fn read_sectors(
     bytes: &mut [u8],
 ) -> u32
     requires { ⌜ ReadAsked p (now chip) (now ct) (now bt) lba count (now bytes) ⌝ }
-    ensures { λ _. ⌜ ((fst bst wear marks : List ℕ) → now (bytes .exit) ≡ readBytes p (boardOf (now (chip .entry)) (now (ct .entry)) (now (bt .entry)) fst bst wear marks) (requestOf lba count (now (bytes .entry)))) ⌝ }
+    ensures { λ _. ⌜ ((fst bst wear marks : List ℕ) → now (bytes .exit) ≡ readBytes p (boardOf (now (chip .entry)) (now (ct .entry)) (now (bt .entry)) fst bst wear marks)
+        (requestOf lba count (now (bytes .entry)))) ⌝ }
     ensures { λ looks. ⌜ Looked p (now (chip .entry)) (now (ct .entry)) (now (bt .entry)) (clusterOf p lba) looks ⌝ }
 {
     let c = rules::cluster_of(p, lba);

@@ -4,6 +4,7 @@ ghost use mathlib.Core.List.{List};
 ghost use Prim.Native.Nat.{ℕ};
 ghost use lib.ListN.{length};
 ghost use Rattle.rules.specs.Tables.{boardOf, marksLength};
+ghost use Rattle.rules.specs.Lent.{entryBoard};
 ghost use Rattle.rules.specs.Requests.{Request, format, read, release, write};
 ghost use Rattle.rules.specs.Replies.{firstRow, lentRows, orderRow, replyOf, whyReply};
 ghost use Rattle.check_rules.specs.Check.{Lengths};
@@ -21,7 +22,7 @@ pub fn board_reply(
     wear: &[u32],
     marks: &[u64],
 ) -> Reply
-    ensures { λ r. ⌜ r ≡ firstRow Reply.Accepted (lentRows p (boardOf (now (chip .entry)) (now (ct .entry)) (now (bt .entry)) (now (fst .entry)) (now (bst .entry)) (now (wear .entry)) (now (marks .entry)))) ⌝ }
+    ensures { λ r. ⌜ r ≡ firstRow Reply.Accepted (lentRows p (entryBoard chip ct bt fst bst wear marks)) ⌝ }
 {
     if !chip_sizes::parameters_allowed(p) {
         return Reply::BadParameter;
@@ -53,7 +54,8 @@ pub fn state_reply(
 ) -> Reply
     requires { ⌜ Lengths p (now chip) (now ct) (now bt) (now fst) (now bst) ⌝ }
     requires { ⌜ length (now marks) ≡ marksLength p ⌝ }
-    ensures { λ r. ⌜ ((wear : List ℕ) → r ≡ firstRow Reply.Accepted (orderRow p (boardOf (now (chip .entry)) (now (ct .entry)) (now (bt .entry)) (now (fst .entry)) (now (bst .entry)) wear (now (marks .entry))))) ⌝ }
+    ensures { λ r. ⌜ ((wear : List ℕ) → r ≡ firstRow Reply.Accepted
+        (orderRow p (boardOf (now (chip .entry)) (now (ct .entry)) (now (bt .entry)) (now (fst .entry)) (now (bst .entry)) wear (now (marks .entry))))) ⌝ }
 {
     if check_board::in_order(p, chip, ct, bt, fst, bst, marks) {
         return Reply::Accepted;
@@ -75,8 +77,8 @@ pub fn access_reply(
     count: u32,
     len: usize,
 ) -> Reply
-    ensures { λ r. ⌜ ((q : Request) → q .lba ≡ lba → q .count ≡ count → length (q .bytes) ≡ len → r ≡ replyOf p (boardOf (now (chip .entry)) (now (ct .entry)) (now (bt .entry)) (now (fst .entry)) (now (bst .entry)) (now (wear .entry)) (now (marks .entry))) (read q)) ⌝ }
-    ensures { λ r. ⌜ ((q : Request) → q .lba ≡ lba → q .count ≡ count → length (q .bytes) ≡ len → r ≡ replyOf p (boardOf (now (chip .entry)) (now (ct .entry)) (now (bt .entry)) (now (fst .entry)) (now (bst .entry)) (now (wear .entry)) (now (marks .entry))) (write q)) ⌝ }
+    ensures { λ r. ⌜ ((q : Request) → q .lba ≡ lba → q .count ≡ count → length (q .bytes) ≡ len → r ≡ replyOf p (entryBoard chip ct bt fst bst wear marks) (read q)) ⌝ }
+    ensures { λ r. ⌜ ((q : Request) → q .lba ≡ lba → q .count ≡ count → length (q .bytes) ≡ len → r ≡ replyOf p (entryBoard chip ct bt fst bst wear marks) (write q)) ⌝ }
 {
     let head = board_reply(p, chip, ct, bt, fst, bst, wear, marks);
     if rules::number(head) != 0 {
@@ -101,7 +103,7 @@ pub fn release_reply(
     marks: &[u64],
     c: u32,
 ) -> Reply
-    ensures { λ r. ⌜ r ≡ replyOf p (boardOf (now (chip .entry)) (now (ct .entry)) (now (bt .entry)) (now (fst .entry)) (now (bst .entry)) (now (wear .entry)) (now (marks .entry))) (release c) ⌝ }
+    ensures { λ r. ⌜ r ≡ replyOf p (entryBoard chip ct bt fst bst wear marks) (release c) ⌝ }
 {
     let head = board_reply(p, chip, ct, bt, fst, bst, wear, marks);
     if rules::number(head) != 0 {
@@ -125,7 +127,7 @@ pub fn why_reply(
     marks: &[u64],
     lba: u32,
 ) -> Reply
-    ensures { λ r. ⌜ r ≡ whyReply p (boardOf (now (chip .entry)) (now (ct .entry)) (now (bt .entry)) (now (fst .entry)) (now (bst .entry)) (now (wear .entry)) (now (marks .entry))) lba ⌝ }
+    ensures { λ r. ⌜ r ≡ whyReply p (entryBoard chip ct bt fst bst wear marks) lba ⌝ }
 {
     let head = board_reply(p, chip, ct, bt, fst, bst, wear, marks);
     if rules::number(head) != 0 {
@@ -148,7 +150,7 @@ pub fn format_reply(
     wear: &[u32],
     marks: &[u64],
 ) -> Reply
-    ensures { λ r. ⌜ r ≡ replyOf p (boardOf (now (chip .entry)) (now (ct .entry)) (now (bt .entry)) (now (fst .entry)) (now (bst .entry)) (now (wear .entry)) (now (marks .entry))) format ⌝ }
+    ensures { λ r. ⌜ r ≡ replyOf p (entryBoard chip ct bt fst bst wear marks) format ⌝ }
 {
     let head = board_reply(p, chip, ct, bt, fst, bst, wear, marks);
     if rules::number(head) != 0 {

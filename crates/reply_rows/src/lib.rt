@@ -68,7 +68,8 @@ pub fn bad_cluster(p: Params, c: u32) -> bool
 // is orderly.
 pub fn item_reply(p: Params, ordered: bool, lba: u32, count: u32, fits: bool) -> Reply
     requires { ⌜ allowed p ≡ true ⌝ }
-    ensures { λ r. ⌜ ((b : Board) (q : Request) → lengthsFit p b ≡ true → ordered ≡ orderly p b → q .lba ≡ lba → q .count ≡ count → (badCount p q ≡ false → wrongData p q ≡ not fits) → r ≡ replyOf p b (write q)) ⌝ }
+    ensures { λ r. ⌜ ((b : Board) (q : Request) → lengthsFit p b ≡ true → ordered ≡ orderly p b → q .lba ≡ lba → q .count ≡ count
+        → (badCount p q ≡ false → wrongData p q ≡ not fits) → r ≡ replyOf p b (write q)) ⌝ }
 {
     let asked = request_reply(p, lba, count, !fits);
     if rules::number(asked) != 0 {

@@ -1,6 +1,7 @@
 pub mod Parameters
 pub mod Numbers
 pub mod Tables
+pub mod Lent
 pub mod Pages
 pub mod Regions
 pub mod Marks

@@ -25,7 +25,8 @@ pub fn put_cluster(
 )
     requires { ⌜ Standing p (boardOf (now chip) (now ct) (now bt) (now fst) [] [] []) (requestOf lba count (now bytes)) (v .0) f ⌝ }
     requires { ⌜ Stands p (now chip) (now ct) (now bt) (clusterOf p lba) (old .kept) (old .frame) ⌝ }
-    ensures { λ _. ⌜ ClusterPut p (boardOf (now (chip .entry)) (now (ct .entry)) (now (bt .entry)) (now (fst .entry)) [] [] []) (requestOf lba count (now (bytes .entry))) (v .0) f (now (chip .exit)) (now (ct .exit)) (now (fst .exit)) ⌝ }
+    ensures { λ _. ⌜ ClusterPut p (boardOf (now (chip .entry)) (now (ct .entry)) (now (bt .entry)) (now (fst .entry)) [] [] []) (requestOf lba count (now (bytes .entry)))
+        (v .0) f (now (chip .exit)) (now (ct .exit)) (now (fst .exit)) ⌝ }
 {
     let c = rules::cluster_of(p, lba);
     let r = rules::region_of(p, c);

@@ -106,7 +106,8 @@ pub fn reclaim(
 ) -> usize
     requires { ⌜ ReclaimAsked p (now chip) (now ct) (now wear) (now marks) (o .0) (n .0) r (v .0) ⌝ }
     ensures { λ k. ⌜ ((m : Marks) → now (marks .entry) ≡ tableOf p m
-        → Reclaimed p (now (chip .entry)) (now (ct .entry)) (now (wear .entry)) (o .0) (n .0) (v .0) (markedFrames p (block p (now (chip .entry)) (o .0)) (m r (v .0))) (now (chip .exit)) (now (ct .exit)) (now (wear .exit)) k) ⌝ }
+        → Reclaimed p (now (chip .entry)) (now (ct .entry)) (now (wear .entry)) (o .0) (n .0) (v .0) (markedFrames p (block p (now (chip .entry)) (o .0)) (m r (v .0)))
+        (now (chip .exit)) (now (ct .exit)) (now (wear .exit)) k) ⌝ }
 {
     let k = copy_marked(p, chip, ct, marks, o, n, r, v);
     let w = chip_sizes::block_bytes(p);

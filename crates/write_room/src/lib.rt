@@ -44,7 +44,9 @@ fn reclaim_block(
 ) -> usize
     requires { ⌜ ReclaimReady p (now chip) (now ct) (now bt) (now bst) (now wear) (now marks) r (v .0) ⌝ }
     ensures { λ k. ⌜ ((m : Marks) → now (marks .entry) ≡ tableOf p m
-        → BlockReclaimed p (now (chip .entry)) (now (ct .entry)) (now (bt .entry)) (now (bst .entry)) (now (wear .entry)) r (v .0) (markedFrames p (block p (now (chip .entry)) (btAt p (now (bt .entry)) r (v .0))) (m r (v .0))) (now (chip .exit)) (now (ct .exit)) (now (bt .exit)) (now (bst .exit)) (now (wear .exit)) k) ⌝ }
+        → BlockReclaimed p (now (chip .entry)) (now (ct .entry)) (now (bt .entry)) (now (bst .entry)) (now (wear .entry)) r (v .0)
+        (markedFrames p (block p (now (chip .entry)) (btAt p (now (bt .entry)) r (v .0))) (m r (v .0))) (now (chip .exit)) (now (ct .exit)) (now (bt .exit))
+        (now (bst .exit)) (now (wear .exit)) k) ⌝ }
 {
     let o = chip_tables::bt_at(p, bt, r, v);
     let n = write_choose::free_block(p, bst, wear);
@@ -69,7 +71,8 @@ pub fn make_room(
 ) -> Room
     requires { ⌜ RoomAsked p (now chip) (now ct) (now bt) (now bst) (now wear) (now marks) r (planIs pl) ⌝ }
     ensures { λ m. ⌜ ((fst : List ℕ) → now (marks .entry) ≡ marksOf p (boardOf (now (chip .entry)) (now (ct .entry)) (now (bt .entry)) fst (now (bst .entry)) (now (wear .entry)) (now (marks .entry)))
-        → RoomMade p (boardOf (now (chip .entry)) (now (ct .entry)) (now (bt .entry)) fst (now (bst .entry)) (now (wear .entry)) (now (marks .entry))) r (planIs pl) (m .vblock .0) (m .frame) (m .copied) (m .erases) (now (chip .exit)) (now (ct .exit)) (now (bt .exit)) (now (bst .exit)) (now (wear .exit))) ⌝ }
+        → RoomMade p (boardOf (now (chip .entry)) (now (ct .entry)) (now (bt .entry)) fst (now (bst .entry)) (now (wear .entry)) (now (marks .entry))) r (planIs pl)
+        (m .vblock .0) (m .frame) (m .copied) (m .erases) (now (chip .exit)) (now (ct .exit)) (now (bt .exit)) (now (bst .exit)) (now (wear .exit))) ⌝ }
 {
     match pl {
         Planned::Continues(v, f) => Room {

@@ -2,6 +2,7 @@
 ghost use mathlib.Core.Path.{_≡_};
 ghost use mathlib.Core.List.{[]};
 ghost use Rattle.rules.specs.Tables.{boardOf};
+ghost use Rattle.rules.specs.Lent.{entryBoard, exitBoard};
 ghost use Rattle.rules.specs.Requests.{write, requestOf};
 ghost use Rattle.rules.specs.Replies.{replyOf};
 ghost use Rattle.rules.specs.Calls.{outcomeOf};
@@ -27,7 +28,8 @@ pub fn write_orderly(
     bytes: &[u8],
 ) -> Answer
     requires { ⌜ replyOf p (boardOf (now chip) (now ct) (now bt) (now fst) (now bst) (now wear) (now marks)) (write (requestOf lba count (now bytes))) ≡ Reply.Accepted ⌝ }
-    ensures { λ a. ⌜ outcome a (now (bytes .entry)) [] (boardOf (now (chip .exit)) (now (ct .exit)) (now (bt .exit)) (now (fst .exit)) (now (bst .exit)) (now (wear .exit)) (now (marks .exit))) ≡ outcomeOf p (boardOf (now (chip .entry)) (now (ct .entry)) (now (bt .entry)) (now (fst .entry)) (now (bst .entry)) (now (wear .entry)) (now (marks .entry))) (write (requestOf lba count (now (bytes .entry)))) ⌝ }
+    ensures { λ a. ⌜ outcome a (now (bytes .entry)) [] (exitBoard chip ct bt fst bst wear marks) ≡ outcomeOf p (entryBoard chip ct bt fst bst wear marks)
+        (write (requestOf lba count (now (bytes .entry)))) ⌝ }
 {
     let c = rules::cluster_of(p, lba);
     let r = rules::region_of(p, c);
