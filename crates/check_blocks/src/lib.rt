@@ -27,7 +27,7 @@ fn free_ok(p: Params, chip: &[u8], bst: &[u8], n: PBlock) -> bool
     if chip_tables::bst_at(bst, n) != 0 {
         return true;
     }
-    chip_blocks::block_erased(p, chip_blocks::block_of(p, chip, n))
+    chip_erased::is_erased(chip_blocks::block_of(p, chip, n))
 }
 
 // The same of every block.

@@ -4,7 +4,7 @@ use mathlib.Core.Path.{ap, sym, _∙_, _≡_}
 use mathlib.Core.Bool.{_&&_, Bool, and-true, false}
 use mathlib.Core.List.{List}
 use Prim.Native.Nat.{_%_, _*_, _+_, _-_, _/_, _<_, ℕ, _≤_}
-use native.Mathlib.Nat.{add-mul, mul-assoc}
+use native.Mathlib.Nat.{mul-le-mul-right}
 use native.Mathlib.Omega.{arith}
 use lib.Dec.{eqb}
 use lib.ListN.{drop, length, length-drop, take}
@@ -82,26 +82,12 @@ module _ (p : Params) (blk : List ℕ) (k c : ℕ) (some : 1 ≤ p .beta) where
   pub test-is : (f : ℕ) → k * p .beta ≤ f → f < k * p .beta + p .beta → test f ≡ holds p (frame p blk f) c
   test-is f x y = rw (eq-eqb (f / p .beta) k (in-place (p .beta) k f some x y))
 
--- ---- pages
+-- ---- the frames from frame k on, in a block of F frames of w bytes
 
-pub block-pages : (p : Params) (f w n : ℕ) → n ≡ blockBytes p → f ≡ frames p → w ≡ pageBytes p → n ≡ p .alpha * f * w
-unfolding blockBytes frameBytes
-block-pages p f w n e l k = rw (e, l, k) (omega arith)
-
--- the frames from frame k on
-module _ (p : Params) (z : Sizes p) (blk : List ℕ) (k page w f : ℕ) (le : k ≤ frames p) (size : length blk ≡ blockBytes p) (ep : page ≡ pageBytes p) (ew : w ≡ frameBytes p) (ef : f ≡ frames p) where
-  whole : (f - k) * w + k * w ≡ length blk
-  unfolding blockBytes
-  whole = rw (size, ew, ef, ← (add-mul (frames p - k) k (frameBytes p))) (ap (λ (m : ℕ). m * frameBytes p) (omega arith))
-
+module _ (p : Params) (blk : List ℕ) (k w : ℕ) (le : k ≤ frames p) (size : length blk ≡ blockBytes p) (ew : w ≡ frameBytes p) where
   pub rest-starts : k * w ≤ length blk
-  rest-starts = omega (arith, whole)
-
-  pub rest-pages : length (take (length blk - k * w) (drop (k * w) blk)) ≡ (f - k) * p .alpha * page
-  unfolding frameBytes
-  rest-pages =
-      rw (take-all (length blk - k * w) (drop (k * w) blk) (rw length-drop (omega arith)), length-drop, ← whole)
-      (let e : (f - k) * w ≡ (f - k) * p .alpha * page = rw (ew, ep) (sym (mul-assoc (f - k) (p .alpha) (pageBytes p))) in omega (arith, e))
+  unfolding blockBytes
+  rest-starts = rw (size, ew) (mul-le-mul-right (frameBytes p) le)
 
   pub rest-lent : take (length blk - k * w) (drop (k * w) blk) ≡ drop (k * frameBytes p) blk
   rest-lent = take-all (length blk - k * w) (drop (k * w) blk) (rw length-drop (omega arith)) ∙ rw ew

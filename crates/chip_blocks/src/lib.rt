@@ -150,12 +150,9 @@ fn rest_erased(p: Params, blk: &[u8], k: usize) -> bool
     requires { ⌜ k ≤ frames p ⌝ }
     ensures { λ ok. ⌜ ok ≡ allAre 255 (drop (k * frameBytes p) (now (blk .entry))) ⌝ }
 {
-    let page = chip_sizes::page_bytes(p);
     let w = chip_sizes::frame_bytes(p);
-    let n = chip_sizes::frames(p) - k;
     let a = k * w;
-    let m = n * p.alpha;
-    chip_erased::are_erased(&blk[a..], page, m)
+    chip_erased::is_erased(&blk[a..])
 }
 
 // How many frames of the block are programmed, if it is a used block of region r; 0 if it is not one.
@@ -227,16 +224,4 @@ pub fn last_in(p: Params, blk: &[u8], k: usize, c: Cluster) -> Search
         frame: 65535,
         looks,
     }
-}
-
-// True if the whole block is erased.
-pub fn block_erased(p: Params, blk: &[u8]) -> bool
-    requires { ⌜ allowed p ≡ true ⌝ }
-    requires { ⌜ length (now blk) ≡ blockBytes p ⌝ }
-    ensures { λ ok. ⌜ ok ≡ allAre 255 (now (blk .entry)) ⌝ }
-{
-    let page = chip_sizes::page_bytes(p);
-    let n = chip_sizes::frames(p);
-    let k = p.alpha * n;
-    chip_erased::are_erased(blk, page, k)
 }

@@ -46,28 +46,6 @@ pub bits-more : (s : List ℕ) (i a : ℕ) → i < length s → a < 256 → getD
 bits-more s i a h ha hx e =
     (omega (arith, and-le-l a (getD s i 0)), both-full a (getD s i 0) ha hx ∙ ap (λ (t : Bool). t && eqb (getD s i 0) 255) e ∙ sym (all-step 255 s i h))
 
--- the same of two lists in one loop
-shuffle : (a b x y : Bool) → (a && b) && (x && y) ≡ (a && x) && (b && y)
-shuffle true b true y = refl
-shuffle true true false y = refl
-shuffle true false false y = refl
-shuffle false b x y = refl
-
-pub bits-more-two : (s t : List ℕ) (i a : ℕ) → i < length s → i < length t → a < 256 → getD s i 0 < 256 → getD t i 0 < 256
-    → eqb a 255 ≡ allAre 255 (take i s) && allAre 255 (take i t)
-    → (bitAnd (bitAnd a (getD s i 0)) (getD t i 0) < 256)
-    × (eqb (bitAnd (bitAnd a (getD s i 0)) (getD t i 0)) 255 ≡ allAre 255 (take (i + 1) s) && allAre 255 (take (i + 1) t))
-bits-more-two s t i a hs ht ha hx hy e =
-    let l : bitAnd a (getD s i 0) < 256 = omega (arith, and-le-l a (getD s i 0)) in (
-      omega (arith, and-le-l (bitAnd a (getD s i 0)) (getD t i 0)),
-      rw (both-full (bitAnd a (getD s i 0)) (getD t i 0) l hy, both-full a (getD s i 0) ha hx, e, all-step 255 s i hs, all-step 255 t i ht)
-          (and-assoc (allAre 255 (take i s) && allAre 255 (take i t)) (eqb (getD s i 0) 255) (eqb (getD t i 0) 255)
-          ∙ shuffle (allAre 255 (take i s)) (allAre 255 (take i t)) (eqb (getD s i 0) 255) (eqb (getD t i 0) 255)),
-    )
-
-pub both-done : (s t : List ℕ) (i : ℕ) (ok : Bool) → length s ≤ i → length t ≤ i → ok ≡ allAre 255 (take i s) && allAre 255 (take i t) → ok ≡ allAre 255 s && allAre 255 t
-both-done s t i ok h k e = rw (take-all i s h, take-all i t k) at e
-
 pub all-done : (x : ℕ) (s : List ℕ) (i : ℕ) (ok : Bool) → length s ≤ i → ok ≡ allAre x (take i s) → ok ≡ allAre x s
 all-done x s i ok h k = k ∙ ap (allAre x) (take-all i s h)
 
@@ -91,11 +69,9 @@ parts-fail x w i s e =
         ap (allAre x) (sym (take-append-drop (i * w) s)) ∙ all-append x (take (i * w) s) (drop (i * w) s)
         ∙ ap (λ (t : Bool). allAre x (take (i * w) s) && t) (ap (allAre x) (sym (take-append-drop w (drop (i * w) s))) ∙ all-append x (take w (drop (i * w) s)) (drop w (drop (i * w) s)))
 
--- two halves, and what is left behind them
-pub halves : (x n : ℕ) (s : List ℕ) → allAre x (take n s) ≡ true → allAre x (take n (drop n s)) ≡ true → allAre x s ≡ allAre x (drop (n + n) s)
-halves x n s a b =
-    ap (allAre x) (sym (take-append-drop (n + n) s)) ∙ all-append x (take (n + n) s) (drop (n + n) s)
-    ∙ rw (take-add n n s, all-append x (take n s) (take n (drop n s)), a, b)
+-- the first n are x: what is left behind them decides
+pub rest-decides : (x n : ℕ) (s : List ℕ) → allAre x (take n s) ≡ true → allAre x s ≡ allAre x (drop n s)
+rest-decides x n s h = ap (allAre x) (sym (take-append-drop n s)) ∙ all-append x (take n s) (drop n s) ∙ rw h
 
 -- part i of the list from part h on
 pub part-from : (w h i : ℕ) (s : List ℕ) → part w i (drop (h * w) s) ≡ part w (h + i) s

@@ -16,15 +16,13 @@ block-of-requires c κs =
     let start = c .before .before .before .before in
     let a = start in (a .pre .0, (a .pre .1 .0, a .pre .1 .1 .1))
 
-block-erased-requires : tie.Need-block-erased-requires
-block-erased-requires c κs =
-    let start = c .before .before .before .before .before in
-    (start .pre .0, c .block-of .ensures .1)
+is-erased-requires : tie.Need-is-erased-requires
+is-erased-requires c κs = search needs
 
 returns-2 : tie.Need-returns-2
 returns-2 c =
     let at-bst-at = c .before .before .before in
-    rw (← (at-bst-at .bst-at .ensures), eq-eqb _ 0 (c .before .before .if1 .left), ← (c .before .block-of .ensures .0)) (c .block-erased .ensures)
+    rw (← (at-bst-at .bst-at .ensures), eq-eqb _ 0 (c .before .before .if1 .left), ← (c .before .block-of .ensures .0)) (c .is-erased .ensures)
 
 pub free-ok-spec : {M : Type 1} → statement M
-free-ok-spec = tie.close (tie.spec bst-at-requires returns block-of-requires block-erased-requires returns-2)
+free-ok-spec = tie.close (tie.spec bst-at-requires returns block-of-requires is-erased-requires returns-2)
