@@ -18,6 +18,8 @@
  */
 #include "model_fast.h"
 
+#include "all_ones.h"
+
 #include <stdbool.h>
 #include <string.h>
 
@@ -47,23 +49,6 @@ struct lent {
     uint32_t *wear;
     uint64_t *marks;
 };
-
-/* Whether all bytes are 255, by words of eight. */
-static bool all_ones(const uint8_t *p, size_t len)
-{
-    for (; len >= 64; p += 64, len -= 64) {
-        uint64_t w[8];
-
-        memcpy(w, p, 64);
-        if ((w[0] & w[1] & w[2] & w[3] & w[4] & w[5] & w[6] & w[7])
-            != UINT64_MAX)
-            return false;
-    }
-    for (; len > 0; p++, len--)
-        if (*p != 255)
-            return false;
-    return true;
-}
 
 /* The cluster number in the spare bytes of a page. */
 static uint32_t cluster_in(const uint8_t *spare)
@@ -134,16 +119,26 @@ static uint32_t ones_below(const uint64_t *words, uint32_t frame)
 
 /* ==== The orderly check ================================================ */
 
-/* Whether all pages of a frame have the spare bytes of the cluster. */
+/* The eight bytes from p on as a number, the low byte first, as both
+   processors have it. */
+static uint64_t word_at(const uint8_t *p)
+{
+    uint64_t w;
+
+    memcpy(&w, p, sizeof w);
+    return w;
+}
+
+/* Whether all pages of a frame have the spare bytes of the cluster, by words:
+   cluster, place, 255, 0, 255, and then eight times 255. */
 static bool spares_right(const struct board *b, const uint8_t *spare,
                          uint32_t cluster)
 {
-    uint8_t right[SPARE];
+    uint64_t right = UINT64_C(0xff00ff0000000000) | cluster;
 
-    make_spare(right, cluster);
     for (uint32_t place = 0; place < b->alpha; place++) {
-        right[4] = (uint8_t)place;
-        if (memcmp(spare, right, SPARE) != 0)
+        if (word_at(spare) != (right | (uint64_t)place << 32)
+            || word_at(spare + 8) != UINT64_MAX)
             return false;
         spare += b->page;
     }
@@ -539,21 +534,28 @@ static void move_mark(const struct board *b, const struct lent *l,
     to[t->frame / 64] |= UINT64_C(1) << t->frame % 64;
 }
 
-/* Programs an erased frame with the old cluster, or with the spare bytes alone
-   if there is none: its data bytes are 255 already. */
+/* Programs the pages of an erased frame, each once: those asked for with the
+   data, the others with the old page, or, if there is none, with the spare
+   bytes alone, since their data bytes are 255 already. */
 static void put_cluster(const struct board *b, uint8_t *to, const uint8_t *old,
-                        uint32_t cluster)
+                        uint32_t cluster, uint32_t first, uint32_t count,
+                        const uint8_t *data)
 {
     uint8_t spare[SPARE];
 
-    if (old != NULL) {
-        memcpy(to, old, b->frame);
-        return;
-    }
     make_spare(spare, cluster);
     for (uint32_t place = 0; place < b->alpha; place++) {
+        uint8_t *page = to + place * b->page;
+        bool new = place - first < count;
+
+        if (!new && old != NULL) {
+            memcpy(page, old + place * b->page, b->page);
+            continue;
+        }
+        if (new)
+            memcpy(page, data + (size_t)(place - first) * b->s, b->s);
         spare[4] = (uint8_t)place;
-        memcpy(to + place * b->page + b->s, spare, SPARE);
+        memcpy(page + b->s, spare, SPARE);
     }
 }
 
@@ -566,10 +568,8 @@ static uint64_t write_steps(const struct board *b, const struct lent *l,
     struct target t = find_target(b, l, region, &old);
     uint8_t *to = l->chip + frame_at(b, t.block, t.frame);
 
-    put_cluster(b, to, old.at == SIZE_MAX ? NULL : b->chip + old.at, cluster);
-    for (uint32_t i = 0; i < count; i++)
-        memcpy(to + (lba % b->alpha + i) * b->page, data + (size_t)i * b->s,
-               b->s);
+    put_cluster(b, to, old.at == SIZE_MAX ? NULL : b->chip + old.at, cluster,
+                lba % b->alpha, count, data);
     if (t.victim_block != NONE)
         erase(b, l, t.victim_block);
     segment = t.virtual_block * b->d + t.frame / b->beta;

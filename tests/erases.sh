@@ -4,11 +4,12 @@
 # The long run counts as one, and so does the wrong figure.
 set -u
 cd "$(dirname "$0")/.."
+here=1
 . tests/c/common.sh
 seed=${SEED:-1}
-if [ ${#runner[@]} -eq 0 ]; then calls=${CALLS:-10000000}; else calls=${CALLS:-1000000}; fi
+calls=${CALLS:-10000000}
 
-"$cc" -std=c11 -O2 "${strict[@]}" ${link[@]+"${link[@]}"} -o "$room/erases" tests/c/erases.c "$archive" || exit 2
+"$cc" -std=c11 -O2 "${strict[@]}" -o "$room/erases" tests/c/erases.c "$archive" || exit 2
 check "the erases of each region, $calls calls from seed $seed" run "$room/erases" "$calls" "$seed"
 
 # A wrong figure is noticed where the run stops with status 3.

@@ -1,22 +1,21 @@
 #!/usr/bin/env bash
-# Compares the archive with the model of document 01 in tests/c, call by call and byte by byte, and then shows that each mutant
+# Compares crate cnftl, on this processor, with the model of document 01 in tests/c, call by call and byte by byte, and then shows that each mutant
 # of the model is noticed. CALLS, MUTANT_CALLS, SEED and SECONDS_EACH (after which a run counts as failed) may be set.
 # The comparison counts as one, and so does each mutant.
 set -u
 cd "$(dirname "$0")/.."
+here=1
 . tests/c/common.sh
 seed=${SEED:-1}
 seconds=${SECONDS_EACH:-900}
-if [ ${#runner[@]} -eq 0 ]; then calls=${CALLS:-1000000}; else calls=${CALLS:-100000}; fi
-if [ ${#runner[@]} -ne 0 ]; then echo "under an emulator: $calls calls in place of a million"; fi
+calls=${CALLS:-1000000}
 
-"$cc" -std=c11 -O2 "${strict[@]}" ${link[@]+"${link[@]}"} -o "$room/fuzz" tests/c/fuzz.c tests/c/model.c "$archive" || exit 2
-check "the layer and the model, $calls calls from seed $seed" \
-    timeout "$seconds" ${runner[@]+"${runner[@]}"} "$room/fuzz" --calls "$calls" --seed "$seed"
+"$cc" -std=c11 -O2 "${strict[@]}" -o "$room/fuzz" tests/c/fuzz.c tests/c/model.c "$archive" || exit 2
+check "the layer and the model, $calls calls from seed $seed" timeout "$seconds" "$room/fuzz" --calls "$calls" --seed "$seed"
 
 # A mutant is noticed where the comparison stops with status 3.
 notices() {
-    timeout "$seconds" ${runner[@]+"${runner[@]}"} "$room/fuzz" --calls "${MUTANT_CALLS:-300000}" --seed "$seed" \
+    timeout "$seconds" "$room/fuzz" --calls "${MUTANT_CALLS:-300000}" --seed "$seed" \
         --mutant "$1" >"$room/out" 2>"$room/err"
     [ $? -eq 3 ]
 }

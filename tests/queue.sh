@@ -5,11 +5,12 @@
 set -u
 cd "$(dirname "$0")/.."
 crate=queue_test
+here=1
 . tests/c/common.sh
 seed=${SEED:-1}
-if [ ${#runner[@]} -eq 0 ]; then pairs=${PAIRS:-1000000}; else pairs=${PAIRS:-100000}; fi
+pairs=${PAIRS:-1000000}
 
-"$cc" -std=c11 -O2 -DCNFTL_UNLINKED "${strict[@]}" ${link[@]+"${link[@]}"} -o "$room/queue" tests/c/queue.c tests/c/model.c "$archive" || exit 2
+"$cc" -std=c11 -O2 -DCNFTL_UNLINKED "${strict[@]}" -o "$room/queue" tests/c/queue.c tests/c/model.c "$archive" || exit 2
 check "the queue and the model, $pairs pairs of writes from seed $seed" run "$room/queue" "$pairs" "$seed"
 
 # A mutant is noticed where the comparison stops with status 3.

@@ -1,13 +1,18 @@
-# For the tests of the C interface: the compilers for x86-64, how a program for it runs on this machine, and the archive, which is that of
-# crate cnftl unless the test has set $crate.
+# For the tests of the C interface: the compilers, how a program runs on this machine, and what it links, which is crate cnftl unless the test has
+# set $crate. That is the archive, which is for x86-64; on another processor its programs run under the toolchain's emulator. A long test sets
+# here=1: then it takes the same proved crate compiled for this processor (tools/native), and no emulator.
 # A test sources this from the repository's folder, and has $room, a folder of its own that is removed in the end.
 room=$(mktemp -d)
 trap 'rm -rf "$room"' EXIT
 passed=0 failed=0
 
 bash tools/packages
-if [ "$(uname -m)" = x86_64 ]; then
+strict=(-Wall -Wextra -Werror -pedantic -Iinclude)
+crate=${crate:-cnftl}
+exported="cnftl_api_1 cnftl_format cnftl_queue cnftl_read cnftl_release cnftl_why cnftl_write" # what the archive offers, sorted
+if [ "$(uname -m)" = x86_64 ] || [ -n "${here:-}" ]; then
     cc=gcc cxx=g++ objdump=objdump link=() runner=()
+    archive=$(tools/native "$crate" | tail -n 1)
 else
     # the toolchain brings an emulator; a program without shared libraries needs nothing else
     cc=x86_64-linux-gnu-gcc cxx=x86_64-linux-gnu-g++ objdump=x86_64-linux-gnu-objdump link=(-static)
@@ -18,13 +23,8 @@ else
         sed "s|/usr/lib/x86_64-linux-gnu|$(dirname "$libm")|g" "$libm" >"$room/libm.a"
         link+=(-L"$room")
     fi
-fi
-strict=(-Wall -Wextra -Werror -pedantic -Iinclude)
-crate=${crate:-cnftl}
-archive=target/staticlib/lib$crate.a
-exported="cnftl_api_1 cnftl_format cnftl_queue cnftl_read cnftl_release cnftl_why cnftl_write" # what the archive offers, sorted
-if [ ! -f "$archive" ] || [ -n "$(find crates crates.txt -newer "$archive" -print -quit)" ]; then
-    rt staticlib "$crate" >"$room/staticlib" 2>&1 || cat "$room/staticlib"
+    tools/native "$crate" >"$room/native" 2>&1 || cat "$room/native"
+    archive=target/staticlib/lib$crate.a
 fi
 
 # Runs a program that was compiled here.
