@@ -7,6 +7,9 @@ ghost use Rattle.c_why.specs.Told.{tells};
 use call_why::Forecast;
 use call_why::Why;
 
+// How many numbers the answer of why has.
+pub const WHY_NUMBERS: usize = 13;
+
 // The numbers of a forecast, for the end of the list.
 fn forecast_numbers(fc: Forecast) -> [u32; 4]
     requires { ⌜ Small (forecastNumbers fc) ⌝ }
@@ -20,7 +23,7 @@ fn forecast_numbers(fc: Forecast) -> [u32; 4]
 }
 
 // The numbers of an answer, in the order of the list.
-fn why_numbers(w: Why) -> [u32; 13]
+fn why_numbers(w: Why) -> [u32; WHY_NUMBERS]
     requires { ⌜ Small (numbersOf w) ⌝ }
     ensures { λ r. ⌜ r ≡ numbersOf w ⌝ }
 {

@@ -31,6 +31,6 @@ pub fn release(
     let c = Cluster(cluster as usize);
     let old = read_work::find_frame(p, chip, ct, bt, c);
     write_marks::unmark(p, marks, rules::region_of(p, c), old);
-    chip_tables::set_ct(ct, c, Segment(65535));
+    chip_tables::set_ct(ct, c, Segment(rules::NONE));
     reply_rows::idle(reply)
 }

@@ -24,7 +24,7 @@ fn free_ok(p: Params, chip: &[u8], bst: &[u8], n: PBlock) -> bool
     requires { ⌜ n .0 < p .N ⌝ }
     ensures { λ ok. ⌜ ok ≡ not (eqb (bstAt (now (bst .entry)) (n .0)) 0) || erased (block p (now (chip .entry)) (n .0)) ⌝ }
 {
-    if chip_tables::bst_at(bst, n) != 0 {
+    if chip_tables::bst_at(bst, n) != rules::FREE {
         return true;
     }
     chip_erased::is_erased(chip_blocks::block_of(p, chip, n))
@@ -58,13 +58,13 @@ pub fn vblock_frames(p: Params, chip: &[u8], bt: &[u16], bst: &[u8], r: usize, v
     ensures { λ k. ⌜ k ≡ vblockFrames p (now (chip .entry)) (now (bt .entry)) (now (bst .entry)) r (v .0) ⌝ }
 {
     let n = chip_tables::bt_at(p, bt, r, v);
-    if n.0 == 65535 {
+    if n.0 == rules::NONE {
         return chip_sizes::frames(p);
     }
     if !check_tables::differs(p, bt, r, v) {
         return 0;
     }
-    if chip_tables::bst_at(bst, n) != 1 {
+    if chip_tables::bst_at(bst, n) != rules::USED {
         return 0;
     }
     chip_blocks::used_frames(p, r, chip_blocks::block_of(p, chip, n))

@@ -101,12 +101,12 @@ fn entry_ok(p: Params, bt: &[u16], r: usize, sg: Segment) -> bool
     ensures { λ ok. ⌜ ok ≡ entryOk p (now (bt .entry)) r (sg .0) ⌝ }
 {
     if check_tables::empty_at(p, bt, r) {
-        return sg.0 == 65535;
+        return sg.0 == rules::NONE;
     }
     if sg.0 >= p.gamma * p.d {
         return false;
     }
-    chip_tables::bt_at(p, bt, r, chip_sizes::vblock_of(p, sg)).0 != 65535
+    chip_tables::bt_at(p, bt, r, chip_sizes::vblock_of(p, sg)).0 != rules::NONE
 }
 
 // The rules of region r:
@@ -167,7 +167,7 @@ fn count_named(ct: &[u16]) -> usize
     let mut k = 0;
     let mut c = 0;
     while c < ct.len() {
-        if chip_tables::ct_at(ct, Cluster(c)).0 != 65535 {
+        if chip_tables::ct_at(ct, Cluster(c)).0 != rules::NONE {
             k += 1;
         }
         c += 1;

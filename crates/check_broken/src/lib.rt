@@ -52,7 +52,7 @@ fn block_ok(p: Params, chip: &[u8], bt: &[u16], r: usize, v: VBlock) -> bool
     ensures { λ ok. ⌜ ok ≡ blockOk p (now (chip .entry)) (now (bt .entry)) r (v .0) ⌝ }
 {
     let n = chip_tables::bt_at(p, bt, r, v);
-    if n.0 == 65535 {
+    if n.0 == rules::NONE {
         return true;
     }
     chip_blocks::block_ok(p, r, chip_blocks::block_of(p, chip, n))

@@ -22,7 +22,7 @@ fn full_ok(p: Params, chip: &[u8], bt: &[u16], r: usize, o: VBlock, v: VBlock) -
         return true;
     }
     let n = chip_tables::bt_at(p, bt, r, v);
-    if n.0 == 65535 {
+    if n.0 == rules::NONE {
         return true;
     }
     chip_blocks::is_full(p, chip_blocks::block_of(p, chip, n))
@@ -66,7 +66,7 @@ fn open_ok(p: Params, chip: &[u8], bt: &[u16], r: usize, sg: Segment) -> bool
     }
     let o = chip_sizes::vblock_of(p, sg);
     let n = chip_tables::bt_at(p, bt, r, o);
-    if n.0 == 65535 {
+    if n.0 == rules::NONE {
         return false;
     }
     let k = chip_blocks::filled(p, chip_blocks::block_of(p, chip, n));
@@ -86,7 +86,7 @@ fn fst_ok(p: Params, chip: &[u8], bt: &[u16], fst: &[u16], r: usize) -> bool
 {
     let sg = chip_tables::fst_at(fst, r);
     if check_tables::empty_at(p, bt, r) {
-        return sg.0 == 65535;
+        return sg.0 == rules::NONE;
     }
     open_ok(p, chip, bt, r, sg)
 }
@@ -119,7 +119,7 @@ fn segment_ok(p: Params, chip: &[u8], bt: &[u16], r: usize, c: Cluster, sg: Segm
     }
     let v = chip_sizes::vblock_of(p, sg);
     let n = chip_tables::bt_at(p, bt, r, v);
-    if n.0 == 65535 {
+    if n.0 == rules::NONE {
         return false;
     }
     let k = chip_sizes::place_of(p, sg);
@@ -135,7 +135,7 @@ fn cluster_ok(p: Params, chip: &[u8], ct: &[u16], bt: &[u16], r: usize, c: Clust
     ensures { λ ok. ⌜ ok ≡ clusterOk p (now (chip .entry)) (now (ct .entry)) (now (bt .entry)) r (c .0) ⌝ }
 {
     let sg = chip_tables::ct_at(ct, c);
-    if sg.0 == 65535 {
+    if sg.0 == rules::NONE {
         return true;
     }
     segment_ok(p, chip, bt, r, c, sg)

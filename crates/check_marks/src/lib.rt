@@ -167,7 +167,7 @@ pub fn marks_ok(
     ensures { λ ok. ⌜ ok ≡ marksValid p (now (chip .entry)) (now (ct .entry)) (now (bt .entry)) (now (marks .entry)) r (v .0) ⌝ }
 {
     let n = chip_tables::bt_at(p, bt, r, v);
-    if n.0 == 65535 {
+    if n.0 == rules::NONE {
         return none_ok(p, marks, r, v);
     }
     held_ok(p, chip_blocks::block_of(p, chip, n), ct, marks, r, v)

@@ -20,7 +20,7 @@ fn pair_ok(bt: &[u16], i: usize, j: usize) -> bool
         return true;
     }
     let n = chip_tables::bt_entry(bt, i);
-    if n.0 == 65535 {
+    if n.0 == rules::NONE {
         return true;
     }
     let other = chip_tables::bt_entry(bt, j);
@@ -83,7 +83,7 @@ fn used_if_named(p: Params, bt: &[u16], bst: &[u8], n: PBlock) -> bool
     ensures { λ ok. ⌜ ok ≡ Bool·beq (eqb (bstAt (now (bst .entry)) (n .0)) 1) (named p (now (bt .entry)) (n .0)) ⌝ }
 {
     let yes = is_named(p, bt, n);
-    if chip_tables::bst_at(bst, n) == 1 {
+    if chip_tables::bst_at(bst, n) == rules::USED {
         return yes;
     }
     !yes

@@ -20,7 +20,7 @@ pub fn bst_ok(p: Params, bst: &[u8]) -> bool
 {
     let mut n = 0;
     while n < bst.len() {
-        if chip_tables::bst_at(bst, PBlock(n)) > 2 {
+        if chip_tables::bst_at(bst, PBlock(n)) > rules::RESERVED {
             return false;
         }
         n += 1;
@@ -35,7 +35,7 @@ fn not_reserved(bst: &[u8]) -> usize
     let mut k = 0;
     let mut n = 0;
     while n < bst.len() {
-        if chip_tables::bst_at(bst, PBlock(n)) != 2 {
+        if chip_tables::bst_at(bst, PBlock(n)) != rules::RESERVED {
             k += 1;
         }
         n += 1;
@@ -60,7 +60,7 @@ fn bt_entry_ok(p: Params, bt: &[u16], i: usize) -> bool
     ensures { λ ok. ⌜ ok ≡ eqb (btEntry (now (bt .entry)) i) none || ltb (btEntry (now (bt .entry)) i) (p .N) ⌝ }
 {
     let n = chip_tables::bt_entry(bt, i);
-    if n.0 == 65535 {
+    if n.0 == rules::NONE {
         return true;
     }
     n.0 < p.N
@@ -89,7 +89,7 @@ pub fn assigned(bt: &[u16]) -> usize
     let mut k = 0;
     let mut i = 0;
     while i < bt.len() {
-        if chip_tables::bt_entry(bt, i).0 != 65535 {
+        if chip_tables::bt_entry(bt, i).0 != rules::NONE {
             k += 1;
         }
         i += 1;
@@ -119,11 +119,11 @@ pub fn kinds_ok(p: Params, bst: &[u8], named: usize) -> bool
     let mut n = 0;
     while n < bst.len() {
         let s = chip_tables::bst_at(bst, PBlock(n));
-        if s > 2 {
+        if s > rules::RESERVED {
             return false;
         }
-        used += one_if(s == 1);
-        kept += one_if(s != 2);
+        used += one_if(s == rules::USED);
+        kept += one_if(s != rules::RESERVED);
         n += 1;
     }
     (p.mu * p.gamma + 1 <= kept) & (used == named)
@@ -157,7 +157,7 @@ pub fn empty_at(p: Params, bt: &[u16], r: usize) -> bool
     let m = p.gamma;
     let mut v = 0;
     while v < m {
-        if chip_tables::bt_at(p, bt, r, VBlock(v)).0 != 65535 {
+        if chip_tables::bt_at(p, bt, r, VBlock(v)).0 != rules::NONE {
             return false;
         }
         v += 1;

@@ -199,7 +199,7 @@ fn looked(p: Params, fr: &[u8]) -> u32
     }
 }
 
-// The last of the β frames in place k of the block that holds cluster c, searched from the last one down, and what the search looked at; 65535 if none does.
+// The last of the β frames in place k of the block that holds cluster c, searched from the last one down, and what the search looked at; NOT_FOUND if none does.
 pub fn last_in(p: Params, blk: &[u8], k: usize, c: Cluster) -> Search
     requires { ⌜ allowed p ≡ true ⌝ }
     requires { ⌜ length (now blk) ≡ blockBytes p ⌝ }
@@ -221,7 +221,7 @@ pub fn last_in(p: Params, blk: &[u8], k: usize, c: Cluster) -> Search
         i = f;
     }
     Search {
-        frame: 65535,
+        frame: rules::NOT_FOUND,
         looks,
     }
 }

@@ -61,7 +61,7 @@ fn host_page(
         return;
     }
     if kept {
-        chip_pages::copy_at(chip, s + 16, old, q);
+        chip_pages::copy_at(chip, s + rules::SPARE_BYTES, old, q);
         return;
     }
     chip_pages::program_blank_at(chip, q, s, c, (j % 256) as u8);

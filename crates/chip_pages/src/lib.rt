@@ -86,7 +86,7 @@ pub fn program_at(chip: &mut [u8], q: usize, bytes: &[u8], c: Cluster, place: u8
     requires { ⌜ Blank (now chip) (length (now bytes) + 16) q ⌝ }
     ensures { λ _. ⌜ now (chip .exit) ≡ putPart (length (now (bytes .entry)) + 16) q (now (bytes .entry) ++ spareBytes (c .0) place) (now (chip .entry)) ⌝ }
 {
-    let w = bytes.len() + 16;
+    let w = bytes.len() + rules::SPARE_BYTES;
     let a = q * w;
     let b = a + w;
     program(&mut chip[a..b], bytes, c, place);
@@ -97,7 +97,7 @@ pub fn program_blank_at(chip: &mut [u8], q: usize, s: usize, c: Cluster, place: 
     requires { ⌜ Blank (now chip) (s + 16) q ⌝ }
     ensures { λ _. ⌜ now (chip .exit) ≡ putPart (s + 16) q (replicate s 255 ++ spareBytes (c .0) place) (now (chip .entry)) ⌝ }
 {
-    let w = s + 16;
+    let w = s + rules::SPARE_BYTES;
     let a = q * w;
     let b = a + w;
     program_blank(&mut chip[a..b], s, c, place);

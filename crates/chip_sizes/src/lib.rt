@@ -35,7 +35,7 @@ pub fn page_bytes(p: Params) -> usize
     requires { ⌜ allowed p ≡ true ⌝ }
     ensures { λ n. ⌜ n ≡ pageBytes p ⌝ }
 {
-    p.s + 16
+    p.s + rules::SPARE_BYTES
 }
 
 // The bytes of a frame.

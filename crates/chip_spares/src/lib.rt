@@ -11,7 +11,7 @@ use rules::Cluster;
 use rules::Params;
 
 // The spare bytes of a programmed page: its cluster, low byte first, and the sector's place in it; byte 5 stays 255, byte 6 is zero.
-pub fn spare_bytes(c: Cluster, place: u8) -> [u8; 16]
+pub fn spare_bytes(c: Cluster, place: u8) -> [u8; rules::SPARE_BYTES]
     ensures { λ b. ⌜ b ≡ spareBytes (c .0) place ⌝ }
 {
     [
@@ -101,7 +101,7 @@ pub fn is_marked(p: Params, frame: &[u8], c: Cluster, j: usize) -> bool
 {
     let w = chip_sizes::page_bytes(p);
     let a = j * w + p.s;
-    let b = a + 16;
+    let b = a + rules::SPARE_BYTES;
     let m = spare_bytes(c, j as u8);
     same(&frame[a..b], &m)
 }

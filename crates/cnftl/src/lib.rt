@@ -191,7 +191,7 @@ pub extern "C" fn cnftl_why(
     ensures { λ word. ⌜ Listed (paramsOf s alpha beta d mu gamma c n) (entryBoard chip ct bt fst bst wear marks) lba (now (list .entry)) word (now (list .exit)) ⌝ }
 {
     let p = c_answer::params(s, alpha, beta, d, mu, gamma, c, n);
-    if list.len() != 13 {
+    if list.len() != c_why::WHY_NUMBERS {
         if chip_sizes::parameters_allowed(p) {
             return 2;
         }

@@ -64,7 +64,7 @@ pub fn clear(table: &mut [u16])
 {
     let mut i = 0;
     while i < table.len() {
-        table[i] = 65535;
+        table[i] = rules::NONE as u16;
         i += 1;
     }
 }
@@ -75,12 +75,12 @@ fn format_block(p: Params, chip: &mut [u8], bst: &mut [u8], wear: &mut [u32], n:
     ensures { λ k. ⌜ BlockDone p (now (chip .entry)) (now (bst .entry)) (now (wear .entry)) (n .0) (now (chip .exit)) (now (bst .exit)) (now (wear .exit)) k ⌝ }
 {
     if is_bad(p, chip, n) {
-        chip_tables::set_bst(bst, n, 2);
+        chip_tables::set_bst(bst, n, rules::RESERVED);
         return 0;
     }
     let w = chip_sizes::block_bytes(p);
     chip_pages::erase_at(chip, w, n);
-    chip_tables::set_bst(bst, n, 0);
+    chip_tables::set_bst(bst, n, rules::FREE);
     chip_tables::count_erase(wear, n);
     1
 }

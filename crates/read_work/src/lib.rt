@@ -33,7 +33,7 @@ pub fn find_frame(p: Params, chip: &[u8], ct: &[u16], bt: &[u16], c: Cluster) ->
     ensures { λ r. ⌜ Looked p (now (chip .entry)) (now (ct .entry)) (now (bt .entry)) (c .0) (r .looks) ⌝ }
 {
     let sg = chip_tables::ct_at(ct, c);
-    if sg.0 == 65535 {
+    if sg.0 == rules::NONE {
         return Found {
             kept: false,
             frame: 0,

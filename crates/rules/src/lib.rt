@@ -19,6 +19,24 @@ pub struct Params {
     pub N: usize,
 }
 
+// 65,535 means none in CT, BT and FST.
+pub const NONE: usize = 65535;
+
+// What a search gives that finds nothing: each is over numbers below it.
+pub const NOT_FOUND: usize = 65535;
+
+// A page is s data bytes and then 16 spare bytes.
+pub const SPARE_BYTES: usize = 16;
+
+// BST, a byte per physical block: 0 free.
+pub const FREE: u8 = 0;
+
+// BST: 1 used.
+pub const USED: u8 = 1;
+
+// BST: 2 reserved.
+pub const RESERVED: u8 = 2;
+
 // A cluster number: an index of CT.
 pub struct Cluster(pub usize);
 

@@ -24,8 +24,8 @@ fn is_better(bst: &[u8], wear: &[u32], i: usize, m: usize) -> bool
     requires { ⌜ Compared (now bst) (now wear) i m ⌝ }
     ensures { λ r. ⌜ r ≡ better (now (bst .entry)) (now (wear .entry)) i m ⌝ }
 {
-    if chip_tables::bst_at(bst, PBlock(i)) == 0 {
-        if m == 65535 {
+    if chip_tables::bst_at(bst, PBlock(i)) == rules::FREE {
+        if m == rules::NOT_FOUND {
             return true;
         }
         return chip_tables::wear_at(wear, PBlock(i)) < chip_tables::wear_at(wear, PBlock(m));
@@ -39,7 +39,7 @@ pub fn free_block(p: Params, bst: &[u8], wear: &[u32]) -> PBlock
     ensures { λ n. ⌜ n .0 ≡ freeBlock p (now (bst .entry)) (now (wear .entry)) ⌝ }
 {
     let n = p.N;
-    let mut m: usize = 65535;
+    let mut m: usize = rules::NOT_FOUND;
     let mut i: usize = 0;
     while i < n {
         m = pick(is_better(bst, wear, i, m), i, m);
@@ -56,11 +56,11 @@ pub fn lowest_unassigned(p: Params, bt: &[u16], r: usize) -> VBlock
     ensures { λ v. ⌜ v .0 ≡ lowestNone p (now (bt .entry)) r (p .gamma) ⌝ }
 {
     let n = p.gamma;
-    let mut m: usize = 65535;
+    let mut m: usize = rules::NOT_FOUND;
     let mut v: usize = 0;
     while v < n {
         let b = chip_tables::bt_at(p, bt, r, VBlock(v));
-        m = pick((m == 65535) & (b.0 == 65535), v, m);
+        m = pick((m == rules::NOT_FOUND) & (b.0 == rules::NONE), v, m);
         v += 1;
     }
     VBlock(m)
@@ -72,12 +72,12 @@ pub fn victim(p: Params, marks: &[u64], r: usize) -> VBlock
     ensures { λ v. ⌜ ((m : Marks) → now (marks .entry) ≡ tableOf p m → v .0 ≡ leastMarked m r (p .gamma)) ⌝ }
 {
     let n = p.gamma;
-    let mut least: usize = 65535;
+    let mut least: usize = rules::NOT_FOUND;
     let mut best: usize = 0;
     let mut v: usize = 0;
     while v < n {
         let k = chip_marks::count_marks(p, marks, r, VBlock(v));
-        let less = (least == 65535) | (k < best);
+        let less = (least == rules::NOT_FOUND) | (k < best);
         least = pick(less, v, least);
         best = pick(less, k, best);
         v += 1;

@@ -24,7 +24,7 @@ fn next_frame(p: Params, chip: &[u8], bt: &[u16], fst: &[u16], r: usize) -> usiz
     ensures { λ f. ⌜ f ≡ nextIn p (now (chip .entry)) (now (bt .entry)) (now (fst .entry)) r ⌝ }
 {
     let sg = chip_tables::fst_at(fst, r);
-    if sg.0 == 65535 {
+    if sg.0 == rules::NONE {
         return chip_sizes::frames(p);
     }
     let v = rules::vblock_of(p, sg);
@@ -45,7 +45,7 @@ pub fn plan_of(p: Params, chip: &[u8], bt: &[u16], fst: &[u16], marks: &[u64], r
         return Planned::Continues(rules::vblock_of(p, chip_tables::fst_at(fst, r)), f);
     }
     let v = write_choose::lowest_unassigned(p, bt, r);
-    if v.0 != 65535 {
+    if v.0 != rules::NOT_FOUND {
         return Planned::Opens(v);
     }
     Planned::Reclaims(write_choose::victim(p, marks, r))

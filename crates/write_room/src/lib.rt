@@ -27,7 +27,7 @@ fn open_block(p: Params, bt: &mut [u16], bst: &mut [u8], wear: &[u32], r: usize,
 {
     let n = write_choose::free_block(p, bst, wear);
     chip_tables::set_bt(p, bt, r, v, n);
-    chip_tables::set_bst(bst, n, 1);
+    chip_tables::set_bst(bst, n, rules::USED);
 }
 
 // The free block is taken; the frames of virtual block v that have a mark go to it; v's old block is erased and becomes free. How many were copied.
@@ -52,8 +52,8 @@ fn reclaim_block(
     let n = write_choose::free_block(p, bst, wear);
     let k = write_reclaim::reclaim(p, chip, ct, wear, marks, o, n, r, v);
     chip_tables::set_bt(p, bt, r, v, n);
-    chip_tables::set_bst(bst, n, 1);
-    chip_tables::set_bst(bst, o, 0);
+    chip_tables::set_bst(bst, n, rules::USED);
+    chip_tables::set_bst(bst, o, rules::FREE);
     k
 }
 

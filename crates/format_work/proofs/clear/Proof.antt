@@ -19,6 +19,9 @@ abbrev μ-loop : tie.MeasureT-loop
 loop-holds : tie.Need-loop-holds Inv-loop μ-loop
 loop-holds c = (search needs, refl, refl)
 
+cast-table : tie.Need-cast-table Inv-loop μ-loop
+cast-table c = search needs
+
 mul-table : tie.Need-mul-table Inv-loop μ-loop
 mul-table c = search needs
 
@@ -49,4 +52,4 @@ returns c =
 
 pub clear-spec : {M : Type 1} → statement M
 clear-spec =
-    tie.close (tie.spec Inv-loop μ-loop loop-holds mul-table slice-write-table add-i loop-less loop-again same-length returns)
+    tie.close (tie.spec Inv-loop μ-loop loop-holds cast-table mul-table slice-write-table add-i loop-less loop-again same-length returns)
