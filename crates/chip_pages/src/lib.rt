@@ -10,7 +10,7 @@ use rules::Cluster;
 use rules::PBlock;
 
 // The bytes at the head of a lent part.
-fn put(part: &mut [u8], bytes: &[u8])
+pub fn put(part: &mut [u8], bytes: &[u8])
     requires { ⌜ length (now bytes) ≤ length (now part) ⌝ }
     ensures { λ _. ⌜ now (part .exit) ≡ now (bytes .entry) ++ drop (length (now (bytes .entry))) (now (part .entry)) ⌝ }
 {
@@ -56,13 +56,13 @@ pub fn program_copy(page: &mut [u8], bytes: &[u8])
     put(page, bytes);
 }
 
-// A lent block is erased.
-pub fn erase(block: &mut [u8])
-    ensures { λ _. ⌜ now (block .exit) ≡ replicate (length (now (block .entry))) 255 ⌝ }
+// Every byte of a lent part becomes 255.
+pub fn blank(part: &mut [u8])
+    ensures { λ _. ⌜ now (part .exit) ≡ replicate (length (now (part .entry))) 255 ⌝ }
 {
     let mut i = 0;
-    while i < block.len() {
-        block[i] = 255;
+    while i < part.len() {
+        part[i] = 255;
         i += 1;
     }
 }
@@ -73,11 +73,7 @@ fn hold(bytes: &[u8]) -> [u8; 528]
     ensures { λ buf. ⌜ take (length (now (bytes .entry))) buf ≡ now (bytes .entry) ⌝ }
 {
     let mut buf = [255u8; 528];
-    let mut i = 0;
-    while i < bytes.len() {
-        buf[i] = bytes[i];
-        i += 1;
-    }
+    put(&mut buf, bytes);
     buf
 }
 
@@ -123,5 +119,5 @@ pub fn erase_at(chip: &mut [u8], w: usize, n: PBlock)
 {
     let a = n.0 * w;
     let b = a + w;
-    erase(&mut chip[a..b]);
+    blank(&mut chip[a..b]);
 }

@@ -11,7 +11,7 @@ use native.Mathlib.Omega.{arith}
 use lib.Bits.{and-le-l, and-le-r, bitAnd}
 use lib.Dec.{eqb}
 use lib.ListN.{drop, getD, length, set, take, take-append-drop}
-use lib.Seq.{append-snoc, drop-cons, drop-drop, length-take-le, set-at, take-add, take-all, take-suc, take-suc-set}
+use lib.Seq.{append-snoc, drop-cons, drop-drop, length-take-le, set-at, take-add, take-all, take-suc}
 use borrow.Author.Tests.{ne-eqb}
 use Rattle.lists.specs.Parts.{allAre, part}
 
@@ -80,7 +80,7 @@ part-from w h i s =
     let e : (h + i) * w ≡ h * w + i * w = add-mul h i w in
     rw (e, drop-drop (i * w) (h * w) s)
 
--- ---- a copy and a fill
+-- ---- a copy
 
 -- b is copied to the head of d
 pub copy-more : (d b : List ℕ) (i : ℕ) → i < length d → i < length b → set (take i b ++ drop i d) i (getD b i 0) ≡ take (i + 1) b ++ drop (i + 1) d
@@ -89,10 +89,6 @@ copy-more d b i hd hb =
     (set-at (take i b) (getD d i 0) (drop (suc i) d) (getD b i 0) i (length-take-le i b (le-of-lt hb))
     ∙ sym (append-snoc (take i b) (getD b i 0) (drop (suc i) d))
     ∙ rw (add-one, take-suc b i 0))
-
--- b is copied to a buffer
-pub held-more : (l b : List ℕ) (i : ℕ) → i < length l → i < length b → take i l ≡ take i b → take (i + 1) (set l i (getD b i 0)) ≡ take (i + 1) b
-held-more l b i hl hb e = rw (add-one, take-suc-set l i (getD b i 0) hl, take-suc b i 0 hb, e)
 
 -- ---- an element that is there, whatever is said of one past the end
 

@@ -2,7 +2,6 @@
 ghost use mathlib.Core.Path.{_≡_};
 ghost use mathlib.Core.List.{List};
 ghost use Prim.Native.Nat.{ℕ, _+_};
-ghost use lib.ListN.{length, replicate};
 ghost use Rattle.lists.specs.Below.{joinBelow};
 ghost use Rattle.lists.specs.Parts.{putPart};
 ghost use Rattle.rules.specs.Numbers.{clusterOf};
@@ -79,42 +78,19 @@ pub fn find_again(
     at
 }
 
-// The bytes of one part over those of another.
-fn copy(to: &mut [u8], from: &[u8])
-    requires { ⌜ length (now to) ≡ length (now from) ⌝ }
-    ensures { λ _. ⌜ now (to .exit) ≡ now (from .entry) ⌝ }
-{
-    let mut i = 0;
-    while i < from.len() {
-        to[i] = from[i];
-        i += 1;
-    }
-}
-
-// Every byte becomes 255.
-fn blank(sector: &mut [u8])
-    ensures { λ _. ⌜ now (sector .exit) ≡ replicate (length (now (sector .entry))) 255 ⌝ }
-{
-    let mut i = 0;
-    while i < sector.len() {
-        sector[i] = 255;
-        i += 1;
-    }
-}
-
 // Sector j of a cluster that stands there.
 fn read_sector(p: Params, chip: &[u8], at: Found, j: usize, sector: &mut [u8])
     requires { ⌜ SectorAsked p (now chip) (at .kept) (at .frame) j (now sector) ⌝ }
     ensures { λ _. ⌜ now (sector .exit) ≡ sectorFrom p (now (chip .entry)) (at .kept) (at .frame) j ⌝ }
 {
     if !at.kept {
-        blank(sector);
+        chip_pages::blank(sector);
         return;
     }
     let w = chip_sizes::page_bytes(p);
     let a = (at.frame * p.alpha + j) * w;
     let b = a + p.s;
-    copy(sector, &chip[a..b]);
+    chip_pages::put(sector, &chip[a..b]);
 }
 
 // Sector j + i goes to place i of the data.

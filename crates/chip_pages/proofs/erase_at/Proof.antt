@@ -15,17 +15,17 @@ mul-a c = search needs
 add-b : tie.Need-add-b
 add-b c = search needs
 
-sub-erase : tie.Need-sub-erase
-sub-erase c = search needs
+sub-blank : tie.Need-sub-blank
+sub-blank c = search needs
 
-part-erase-start : tie.Need-part-erase-start
-part-erase-start c = search needs
+part-blank-start : tie.Need-part-blank-start
+part-blank-start c = search needs
 
-part-erase-end : tie.Need-part-erase-end
-part-erase-end c = search needs
+part-blank-end : tie.Need-part-blank-end
+part-blank-end c = search needs
 
-erase-requires : tie.Need-erase-requires
-erase-requires c κs = search needs
+blank-requires : tie.Need-blank-requires
+blank-requires c κs = search needs
 
 same-length : tie.Need-same-length
 same-length c = search needs
@@ -36,7 +36,7 @@ returns c =
     let start = c .before .before .before .before .before .before in
     let a = start in
     let n : length (part (a .args .w) (a .args .n .0) (a .args .chip .now)) ≡ a .args .w = part-length _ _ _ (a .pre) in
-    rw (width, c .before .before .erase .ensures, width) (rw n (back (a .args .w) (a .args .n .0) _ (a .args .chip .now)))
+    rw (width, c .before .before .blank .ensures, width) (rw n (back (a .args .w) (a .args .n .0) _ (a .args .chip .now)))
 
 pub erase-at-spec : {M : Type 1} → statement M
 erase-at-spec =
@@ -44,9 +44,9 @@ erase-at-spec =
     (tie.spec
     mul-a
     add-b
-    sub-erase
-    part-erase-start
-    part-erase-end
-    erase-requires
+    sub-blank
+    part-blank-start
+    part-blank-end
+    blank-requires
     same-length
     returns)

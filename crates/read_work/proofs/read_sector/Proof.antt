@@ -1,10 +1,12 @@
 -- `read_work::read_sector`: 255 throughout, or the data bytes of the page.
 -- Assumes nothing.
-use mathlib.Core.Path.{_∙_}
+use mathlib.Core.Path.{ap, sym, _∙_}
 use native.Mathlib.Omega.{arith}
+use lib.ListN.{length}
 use borrow.Author.Needs.{needs}
 use borrow.Author.Tests.{not-true, not-false}
-use Rattle.read_work.proofs.Runs.{blank-is, number-low, page-end, page-wide, sector-is}
+use Rattle.chip_pages.proofs.Places.{put-whole}
+use Rattle.read_work.proofs.Runs.{blank-is, number-low, page-end, page-wide, sector-is, sector-length}
 use Rattle.read_work.proofs.read_sector.Statement.{statement}
 use Rattle.read_work.proofs.read_sector.Tie as tie
 
@@ -53,14 +55,14 @@ add-b c =
           (start .pre .source) (start .pre .low) (not-false _ (at-if1 .if1 .left)) _ (at-page-bytes .page-bytes .ensures),
     )
 
-sub-copy : tie.Need-sub-copy
-sub-copy c = search needs
+sub-put : tie.Need-sub-put
+sub-put c = search needs
 
-part-copy-start : tie.Need-part-copy-start
-part-copy-start c = search needs
+part-put-start : tie.Need-part-put-start
+part-put-start c = search needs
 
-part-copy-end : tie.Need-part-copy-end
-part-copy-end c =
+part-put-end : tie.Need-part-put-end
+part-put-end c =
     let at-page-bytes = c .before .before .before .before in
     let at-if1 = at-page-bytes .before in
     let start = at-if1 .before .before .before .before in
@@ -71,8 +73,8 @@ part-copy-end c =
           (start .pre .source) (start .pre .low) (not-false _ (at-if1 .if1 .left)) _ (at-page-bytes .page-bytes .ensures),
     )
 
-copy-requires : tie.Need-copy-requires
-copy-requires c κs = search needs
+put-requires : tie.Need-put-requires
+put-requires c κs = search needs
 
 same-length-2 : tie.Need-same-length-2
 same-length-2 c = search needs
@@ -82,7 +84,8 @@ returns-2 c =
     let at-page-bytes = c .before .before .before .before .before .before .before .before in
     let at-if1 = at-page-bytes .before in
     let start = at-if1 .before .before .before .before in
-    c .before .before .copy .ensures ∙ sector-is _ _ _ _ _ (start .pre .source) (start .pre .low) (not-false _ (at-if1 .if1 .left)) _ (at-page-bytes .page-bytes .ensures)
+    let is = sector-is _ _ _ _ _ (start .pre .source) (start .pre .low) (not-false _ (at-if1 .if1 .left)) _ (at-page-bytes .page-bytes .ensures) in
+    c .before .before .put .ensures ∙ put-whole _ _ (start .pre .size ∙ sym (ap length is ∙ sector-length _ _ _ _ _ (start .pre .source) (start .pre .low))) ∙ is
 
 pub read-sector-spec : {M : Type 1} → statement M
 read-sector-spec =
@@ -96,9 +99,9 @@ read-sector-spec =
     add-a
     mul-a-2
     add-b
-    sub-copy
-    part-copy-start
-    part-copy-end
-    copy-requires
+    sub-put
+    part-put-start
+    part-put-end
+    put-requires
     same-length-2
     returns-2)

@@ -1,4 +1,4 @@
--- `read_work::blank`: after i turns the first i bytes are 255.
+-- `chip_pages::blank`: after i turns the first i bytes are 255.
 -- Assumes nothing.
 use mathlib.Core.Path.{ap, refl, _∙_, _≡_}
 use mathlib.Core.List.{_++_, List, append-nil}
@@ -7,20 +7,20 @@ use native.Mathlib.Omega.{arith}
 use lib.ListN.{drop, drop-of-length-le, length, length-set, replicate, set}
 use borrow.Author.Fill.{fill-more}
 use borrow.Author.Needs.{needs}
-use Rattle.read_work.proofs.blank.Statement.{statement}
-use Rattle.read_work.proofs.blank.Tie as tie
+use Rattle.chip_pages.proofs.blank.Statement.{statement}
+use Rattle.chip_pages.proofs.blank.Tie as tie
 
 abbrev Inv-loop : tie.InvT-loop
-Inv-loop sector₀ i₀ sector i = (i ≤ length sector₀) × (length sector ≡ length sector₀) × (sector ≡ replicate i 255 ++ drop i sector₀)
+Inv-loop part₀ i₀ part i = (i ≤ length part₀) × (length part ≡ length part₀) × (part ≡ replicate i 255 ++ drop i part₀)
 
 abbrev μ-loop : tie.MeasureT-loop
-μ-loop sector₀ i₀ sector i = length sector₀ - i
+μ-loop part₀ i₀ part i = length part₀ - i
 
 loop-holds : tie.Need-loop-holds Inv-loop μ-loop
 loop-holds c = (search needs, refl, refl)
 
-slice-write-sector : tie.Need-slice-write-sector Inv-loop μ-loop
-slice-write-sector c = search needs
+slice-write-part : tie.Need-slice-write-part Inv-loop μ-loop
+slice-write-part c = search needs
 
 add-i : tie.Need-add-i Inv-loop μ-loop
 add-i c = search needs
@@ -31,7 +31,7 @@ loop-less c = search needs
 loop-again : tie.Need-loop-again Inv-loop μ-loop
 loop-again c =
     let at = c .before in
-    let d = at .before .args .sector .now in
+    let d = at .before .args .part .now in
     let l : at .loop .i < length d = omega (arith, at .loop .inv .1) in
     (omega arith, simp length-set (at .loop .inv .1), ap (λ (x : List ℕ). set x (at .loop .i) 255) (at .loop .inv .2) ∙ fill-more _ _ d l)
 
@@ -40,7 +40,7 @@ same-length c = c .before .loop .inv .1
 
 returns : tie.Need-returns Inv-loop μ-loop
 returns c =
-    let d = c .before .before .args .sector .now in
+    let d = c .before .before .args .part .now in
     let e : c .before .loop .i ≡ length d = omega (arith, c .before .loop .inv .1) in
     c .before .loop .inv .2 ∙ rw (e, drop-of-length-le d {i = length d} (omega arith), append-nil)
 
@@ -51,7 +51,7 @@ blank-spec =
     Inv-loop
     μ-loop
     loop-holds
-    slice-write-sector
+    slice-write-part
     add-i
     loop-less
     loop-again
