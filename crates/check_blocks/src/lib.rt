@@ -80,5 +80,5 @@ pub fn tables_ok(p: Params, bt: &[u16], bst: &[u8]) -> bool
     if !check_tables::bt_ok(p, bt) {
         return false;
     }
-    check_tables::kinds_ok(p, bst, check_tables::assigned(bt))
+    check_tables::kinds_ok(p, bst, chip_tables::count_named(bt))
 }

@@ -11,8 +11,7 @@ ghost use Rattle.rules.specs.Orderly.{orderly};
 ghost use Rattle.rules.specs.Parameters.{allowed, frames};
 ghost use Rattle.rules.specs.Tables.{boardOf, marksLength};
 ghost use Rattle.check_rules.specs.Check.{Lengths};
-ghost use Rattle.check_board.specs.Order.{BlocksAsked, bitAt, blockHeld, countsOk, entryOk, framesOk, named, regionHeld};
-use rules::Cluster;
+ghost use Rattle.check_board.specs.Order.{BlocksAsked, bitAt, blockHeld, countsOk, entryOk, framesOk, regionHeld};
 use rules::Params;
 use rules::Segment;
 use rules::VBlock;
@@ -159,22 +158,6 @@ fn regions_ok(
     true
 }
 
-// How many entries of CT name a segment:
-// all but those that are none.
-fn count_named(ct: &[u16]) -> usize
-    ensures { λ k. ⌜ k ≡ countBelow (length (now (ct .entry))) (named (now (ct .entry))) ⌝ }
-{
-    let mut k = 0;
-    let mut c = 0;
-    while c < ct.len() {
-        if chip_tables::ct_at(ct, Cluster(c)).0 != rules::NONE {
-            k += 1;
-        }
-        c += 1;
-    }
-    k
-}
-
 // How many marks the table has:
 // the ones of all its words.
 fn count_marked(marks: &[u64]) -> usize
@@ -196,7 +179,7 @@ fn counts_ok(ct: &[u16], marks: &[u64]) -> bool
     requires { ⌜ length (now marks) ≤ 65536 ⌝ }
     ensures { λ ok. ⌜ ok ≡ countsOk (now (ct .entry)) (now (marks .entry)) ⌝ }
 {
-    let k = count_named(ct);
+    let k = chip_tables::count_named(ct);
     k == count_marked(marks)
 }
 

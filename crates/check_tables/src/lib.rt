@@ -82,21 +82,6 @@ pub fn bt_ok(p: Params, bt: &[u16]) -> bool
     true
 }
 
-// How many entries of BT are not none.
-pub fn assigned(bt: &[u16]) -> usize
-    ensures { λ k. ⌜ k ≡ countBelow (length (now (bt .entry))) (λ i. not (eqb (btEntry (now (bt .entry)) i) none)) ⌝ }
-{
-    let mut k = 0;
-    let mut i = 0;
-    while i < bt.len() {
-        if chip_tables::bt_entry(bt, i).0 != rules::NONE {
-            k += 1;
-        }
-        i += 1;
-    }
-    k
-}
-
 // 1 if a test passed, else 0.
 fn one_if(ok: bool) -> usize
     ensures { λ n. ⌜ n ≡ cond ok 1 0 ⌝ }

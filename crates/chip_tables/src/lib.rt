@@ -1,13 +1,40 @@
 // The lent tables, each read and written by its own kinds of numbers.
 ghost use mathlib.Core.Path.{_≡_};
+ghost use mathlib.Core.Bool.{not};
 ghost use Prim.Native.Nat.{_*_, _+_, _<_, min};
-ghost use lib.ListN.{length, set};
-ghost use Rattle.rules.specs.Tables.{ctAt, btEntry, btAt, fstAt, bstAt, wearAt};
+ghost use lib.Dec.{eqb};
+ghost use lib.ListN.{getD, length, set};
+ghost use Rattle.lists.specs.Below.{countBelow};
+ghost use Rattle.rules.specs.Tables.{none, ctAt, btEntry, btAt, fstAt, bstAt, wearAt};
 use rules::Cluster;
 use rules::PBlock;
 use rules::Params;
 use rules::Segment;
 use rules::VBlock;
+
+// Entry i of CT, BT or FST.
+fn entry(table: &[u16], i: usize) -> usize
+    requires { ⌜ i < length (now table) ⌝ }
+    ensures { λ n. ⌜ n ≡ getD (now (table .entry)) i none ⌝ }
+    ensures { λ n. ⌜ n < 65536 ⌝ }
+{
+    table[i] as usize
+}
+
+// How many entries of CT, BT or FST are not none.
+pub fn count_named(table: &[u16]) -> usize
+    ensures { λ k. ⌜ k ≡ countBelow (length (now (table .entry))) (λ i. not (eqb (getD (now (table .entry)) i none) none)) ⌝ }
+{
+    let mut k = 0;
+    let mut i = 0;
+    while i < table.len() {
+        if entry(table, i) != rules::NONE {
+            k += 1;
+        }
+        i += 1;
+    }
+    k
+}
 
 // The segment that CT has for a cluster.
 pub fn ct_at(ct: &[u16], c: Cluster) -> Segment
@@ -15,8 +42,7 @@ pub fn ct_at(ct: &[u16], c: Cluster) -> Segment
     ensures { λ sg. ⌜ sg .0 ≡ ctAt (now (ct .entry)) (c .0) ⌝ }
     ensures { λ sg. ⌜ sg .0 < 65536 ⌝ }
 {
-    let i = c.0;
-    Segment(ct[i] as usize)
+    Segment(entry(ct, c.0))
 }
 
 // The segment that FST has for a region.
@@ -25,7 +51,7 @@ pub fn fst_at(fst: &[u16], r: usize) -> Segment
     ensures { λ sg. ⌜ sg .0 ≡ fstAt (now (fst .entry)) r ⌝ }
     ensures { λ sg. ⌜ sg .0 < 65536 ⌝ }
 {
-    Segment(fst[r] as usize)
+    Segment(entry(fst, r))
 }
 
 // Entry i of BT.
@@ -34,7 +60,7 @@ pub fn bt_entry(bt: &[u16], i: usize) -> PBlock
     ensures { λ n. ⌜ n .0 ≡ btEntry (now (bt .entry)) i ⌝ }
     ensures { λ n. ⌜ n .0 < 65536 ⌝ }
 {
-    PBlock(bt[i] as usize)
+    PBlock(entry(bt, i))
 }
 
 // The physical block that BT has for virtual block v of region r.
