@@ -61,6 +61,10 @@ module _ (p : Params) (x : Board) (a b : Item) (bytes : List ℕ) where
   pub few-two : (own first second : Answer) (x′ : Board) → outcome own bytes (first ∷ second ∷ []) x′ ≡ outcomeOf p x call → Few (outcome own bytes (first ∷ second ∷ []) x′)
   few-two own first second x′ e = subst Few (sym e) few-call
 
+-- an outcome with the parameters that the plain numbers make
+pub with-params : (p q : Params) → p ≡ q → (x : Board) (c : Call) (o : Outcome) → o ≡ outcomeOf p x c → o ≡ outcomeOf q x c
+with-params p q e x c o f = rw (← e) f
+
 pub placed-four : (a b c d : ℕ) (list : List ℕ) → 4 ≤ length list → set (set (set (set list 0 a) 1 b) 2 c) 3 d ≡ placed (a ∷ b ∷ c ∷ d ∷ []) list
 unfolding placed
 placed-four a b c d [] h = absurd (omega (arith, h))

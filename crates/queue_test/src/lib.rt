@@ -142,16 +142,7 @@ pub extern "C" fn cnftl_queue_two(
         (queue (queueOf (itemOf lba count first ∷ itemOf lba2 count2 first2 ∷ []) (now (bytes .entry)) (unset ∷ unset ∷ [])))) (now (bytes .entry)) (now (answers .entry)) word
         (now (answers .exit)) (exitBoard chip ct bt fst bst wear marks) ⌝ }
 {
-    let p = Params {
-        s: s as usize,
-        alpha: alpha as usize,
-        beta: beta as usize,
-        d: d as usize,
-        mu: mu as usize,
-        gamma: gamma as usize,
-        C: c as usize,
-        N: n as usize,
-    };
+    let p = c_answer::params(s, alpha, beta, d, mu, gamma, c, n);
     let r = queue_two(
         p,
         chip,

@@ -6,40 +6,39 @@ use Prim.Native.Nat.{ℕ}
 use borrow.Author.Needs.{needs}
 use Rattle.rules.specs.Tables.{Board, boardOf}
 use Rattle.queue_test.specs.Two.{placed}
-use Rattle.queue_test.proofs.Few.{few-two}
+use Rattle.queue_test.proofs.Few.{few-two, with-params}
 use Rattle.queue_test.proofs.cnftl_queue_two.Statement.{statement}
 use Rattle.queue_test.proofs.cnftl_queue_two.Tie as tie
 
-abbrev board : tie.Start → Board
-board a = boardOf (a .args .chip .now) (a .args .ct .now) (a .args .bt .now) (a .args .fst .now) (a .args .bst .now) (a .args .wear .now) (a .args .marks .now)
+-- the board that the queue is served on
+abbrev board : tie.After-queue-two → Board
+board c =
+    let start = c .before .before .before .before .before .before .before .before .before .before .before .before .before .before .before .before .before .before in
+    boardOf (start .args .chip .now) (start .args .ct .now) (start .args .bt .now) (start .args .fst .now) (start .args .bst .now) (start .args .wear .now) (start .args .marks .now)
+
+params-requires : tie.Need-params-requires
+params-requires c κs = search needs
 
 queue-two-requires : tie.Need-queue-two-requires
 queue-two-requires c κs = search needs
 
 pack-requires : tie.Need-pack-requires
 pack-requires c κs =
-    let start = c .before .before .before .before .before .before .before .before .before .before .before .before .before .before .before .before .before .before in
-    let two = start in
-    (few-two _ (board (two .before .before .before .before .before .before .before .before .before .before .before .before .before .before .before .before .before)) _ _ _ _ _
-    _ _ (two .queue-two .ensures)) .1 .0
+    let at-queue-two = c .before .before .before .before .before .before .before .before .before .before .before .before .before .before .before .before .before .before in
+    (few-two _ (board at-queue-two) _ _ _ _ _ _ _ (at-queue-two .queue-two .ensures)) .1 .0
 
 pack-requires-2 : tie.Need-pack-requires-2
 pack-requires-2 c κs =
-    let start = c .before .before .before .before .before .before .before .before .before .before .before .before .before .before .before .before .before .before .before in
-    let two = start in
-    (few-two _ (board (two .before .before .before .before .before .before .before .before .before .before .before .before .before .before .before .before .before)) _ _ _ _ _
-    _ _ (two .queue-two .ensures)) .1 .1 .0
+    let at-queue-two = c .before .before .before .before .before .before .before .before .before .before .before .before .before .before .before .before .before .before .before in
+    (few-two _ (board at-queue-two) _ _ _ _ _ _ _ (at-queue-two .queue-two .ensures)) .1 .1 .0
 
 put-both-requires : tie.Need-put-both-requires
 put-both-requires c κs = search needs
 
 pack-requires-3 : tie.Need-pack-requires-3
 pack-requires-3 c κs =
-    let start = c .before .before .before .before .before .before .before .before .before .before .before
-    .before .before .before .before .before .before .before .before .before .before .before .before in
-    let two = start in
-    (few-two _ (board (two .before .before .before .before .before .before .before .before .before .before .before .before .before .before .before .before .before)) _ _ _ _ _
-    _ _ (two .queue-two .ensures)) .0
+    let at-queue-two = c .before .before .before .before .before .before .before .before .before .before .before .before .before .before .before .before .before .before .before .before .before .before .before in
+    (few-two _ (board at-queue-two) _ _ _ _ _ _ _ (at-queue-two .queue-two .ensures)) .0
 
 same-length : tie.Need-same-length
 same-length c = search needs
@@ -71,18 +70,18 @@ returns c =
     let at-pack2 = at-put-both .before in
     let at-pack = at-pack2 .before in
     let at-queue-two = at-pack .before .before .before .before .before .before .before .before .before .before .before .before .before .before .before .before .before .before .before in
-    let start = at-queue-two .before .before .before .before .before .before .before .before .before .before .before .before .before .before .before .before .before in
+    let at-params = at-queue-two .before .before .before .before .before .before .before .before in
+    let start = at-params .before .before .before .before .before .before .before .before .before .before in
     let two = at-queue-two .queue-two in
-    let entry = start in
     record {
       own = two .result .own;
       first = two .result .first;
       second = two .result .second;
-      whole = two .ensures;
+      whole = with-params _ _ (at-params .params .ensures) (board at-queue-two) _ _ (two .ensures);
       result = c .pack3 .ensures;
       list =
           at-put-both .put-both .ensures
-          ∙ ap₂ (λ (first second : ℕ). placed (first ∷ second ∷ two .result .first .looks ∷ two .result .second .looks ∷ []) (entry .args .answers .now))
+          ∙ ap₂ (λ (first second : ℕ). placed (first ∷ second ∷ two .result .first .looks ∷ two .result .second .looks ∷ []) (start .args .answers .now))
           (at-pack .pack .ensures) (at-pack2 .pack2 .ensures);
     }
 
@@ -90,6 +89,7 @@ pub cnftl-queue-two-spec : {M : Type 1} → statement M
 cnftl-queue-two-spec =
     tie.close
     (tie.spec
+    params-requires
     queue-two-requires
     pack-requires
     pack-requires-2
