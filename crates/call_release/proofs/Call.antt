@@ -50,7 +50,7 @@ module _ (p : Params) (b : Board) (c : ℕ) (r : Reply) (e : r ≡ replyOf p b (
     marks-are : b .marks ≡ marksOf p b
     marks-are = marks-in p b (acc .lengths) (acc .tidy)
 
-    pub regions : 0 < p .mu
+    regions : 0 < p .mu
     regions = (sizes p (acc .fine)) .regions
 
     -- the cluster's frame can be looked up

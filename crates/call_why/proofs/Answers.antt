@@ -132,7 +132,8 @@ module _ (p : Params) (b : Board) (c : ℕ) (kept : Bool) (frame : ℕ) (s : Sta
     place-asked look v f w =
         record {
           fine = look .fine;
-          entry = rw (look .ctLength) (look .low);
+          ctLength = look .ctLength;
+          cluster = look .low;
           btLength = look .btLength;
           low = rw (w .vblock (not-false kept k)) ((look .leads (eqb-false _ _ there)) .vblock);
         }

@@ -23,6 +23,7 @@ pub record ForecastAsked (p : Params) (chip bt fst marks : List ℕ) (r : ℕ) :
 -- cluster c has an entry in CT, and virtual block v of its region one in BT
 pub record PlaceAsked (p : Params) (ct bt : List ℕ) (c v : ℕ) : Type 0 where
   pub fine : allowed p ≡ true
-  pub entry : c < length ct
+  pub ctLength : length ct ≡ p .C
+  pub cluster : c < p .C
   pub btLength : length bt ≡ p .mu * p .gamma
   pub low : v < p .gamma

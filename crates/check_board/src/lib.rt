@@ -78,7 +78,7 @@ fn vblocks_ok(
     requires { ⌜ sg .0 < 65536 ⌝ }
     ensures { λ ok. ⌜ ok ≡ allBelow (p .gamma) (blockHeld p (now (chip .entry)) (now (ct .entry)) (now (bt .entry)) (now (bst .entry)) (now (marks .entry)) r (sg .0)) ⌝ }
 {
-    let o = chip_sizes::vblock_of(p, sg);
+    let o = rules::vblock_of(p, sg);
     let m = p.gamma;
     let mut v = 0;
     while v < m {
@@ -105,7 +105,7 @@ fn entry_ok(p: Params, bt: &[u16], r: usize, sg: Segment) -> bool
     if sg.0 >= p.gamma * p.d {
         return false;
     }
-    chip_tables::bt_at(p, bt, r, chip_sizes::vblock_of(p, sg)).0 != rules::NONE
+    chip_tables::bt_at(p, bt, r, rules::vblock_of(p, sg)).0 != rules::NONE
 }
 
 // The rules of region r:

@@ -64,7 +64,7 @@ fn open_ok(p: Params, chip: &[u8], bt: &[u16], r: usize, sg: Segment) -> bool
     if sg.0 >= p.gamma * p.d {
         return false;
     }
-    let o = chip_sizes::vblock_of(p, sg);
+    let o = rules::vblock_of(p, sg);
     let n = chip_tables::bt_at(p, bt, r, o);
     if n.0 == rules::NONE {
         return false;
@@ -117,12 +117,12 @@ fn segment_ok(p: Params, chip: &[u8], bt: &[u16], r: usize, c: Cluster, sg: Segm
     if sg.0 >= p.gamma * p.d {
         return false;
     }
-    let v = chip_sizes::vblock_of(p, sg);
+    let v = rules::vblock_of(p, sg);
     let n = chip_tables::bt_at(p, bt, r, v);
     if n.0 == rules::NONE {
         return false;
     }
-    let k = chip_sizes::place_of(p, sg);
+    let k = rules::place_of(p, sg);
     let f = chip_sizes::frames(p);
     chip_blocks::last_in(p, chip_blocks::block_of(p, chip, n), k, c).frame < f
 }

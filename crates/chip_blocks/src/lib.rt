@@ -51,7 +51,7 @@ fn good_frame(p: Params, r: usize, fr: &[u8]) -> bool
     if c.0 >= p.C {
         return false;
     }
-    if chip_sizes::region_of(p, c) != r {
+    if rules::region_of(p, c) != r {
         return false;
     }
     let m = p.alpha;

@@ -4,14 +4,10 @@ ghost use mathlib.Core.Bool.{true};
 ghost use Prim.Native.Nat.{_<_};
 ghost use lib.ListN.{length};
 ghost use Rattle.rules.specs.Parameters.{allowed, frames, pages, pageBytes, frameBytes, blockBytes, within};
-ghost use Rattle.rules.specs.Numbers.{regionOf, vblockOf, placeOf};
 ghost use Rattle.rules.specs.Tables.{Board};
 ghost use Rattle.rules.specs.Replies.{lengthsFit};
 ghost use Rattle.chip_sizes.specs.Checks.{inRanges, tied};
-use rules::Cluster;
 use rules::Params;
-use rules::Segment;
-use rules::VBlock;
 
 // The frames of a block.
 pub fn frames(p: Params) -> usize
@@ -54,33 +50,6 @@ pub fn block_bytes(p: Params) -> usize
     let f = frames(p);
     let w = frame_bytes(p);
     f * w
-}
-
-// The region of a cluster, as rules::region_of has it. In 32 bits a division has no branch that asks how wide its numbers are.
-pub fn region_of(p: Params, c: Cluster) -> usize
-    requires { ⌜ allowed p ≡ true ⌝ }
-    requires { ⌜ c .0 < 4294967296 ⌝ }
-    ensures { λ r. ⌜ r ≡ regionOf p (c .0) ⌝ }
-{
-    (c.0 as u32 % p.mu as u32) as usize
-}
-
-// The virtual block of a segment, in the same way.
-pub fn vblock_of(p: Params, sg: Segment) -> VBlock
-    requires { ⌜ allowed p ≡ true ⌝ }
-    requires { ⌜ sg .0 < 4294967296 ⌝ }
-    ensures { λ v. ⌜ v .0 ≡ vblockOf p (sg .0) ⌝ }
-{
-    VBlock((sg.0 as u32 / p.d as u32) as usize)
-}
-
-// The place of a segment in its virtual block, in the same way.
-pub fn place_of(p: Params, sg: Segment) -> usize
-    requires { ⌜ allowed p ≡ true ⌝ }
-    requires { ⌜ sg .0 < 4294967296 ⌝ }
-    ensures { λ k. ⌜ k ≡ placeOf p (sg .0) ⌝ }
-{
-    (sg.0 as u32 % p.d as u32) as usize
 }
 
 fn within(lo: usize, hi: usize, x: usize) -> bool

@@ -110,28 +110,31 @@ pub fn sector_of(p: Params, lba: usize) -> usize
     lba % p.alpha
 }
 
-// The region of a cluster.
+// The region of a cluster. In 32 bits a division has no branch that asks how wide its numbers are.
 pub fn region_of(p: Params, c: Cluster) -> usize
-    requires { ⌜ 0 < p .mu ⌝ }
+    requires { ⌜ allowed p ≡ true ⌝ }
+    requires { ⌜ c .0 < p .C ⌝ }
     ensures { λ r. ⌜ r ≡ regionOf p (c .0) ⌝ }
 {
-    c.0 % p.mu
+    (c.0 as u32 % p.mu as u32) as usize
 }
 
-// The virtual block of a segment.
+// The virtual block of a segment, in the same way.
 pub fn vblock_of(p: Params, sg: Segment) -> VBlock
-    requires { ⌜ 0 < p .d ⌝ }
+    requires { ⌜ allowed p ≡ true ⌝ }
+    requires { ⌜ sg .0 < 65536 ⌝ }
     ensures { λ v. ⌜ v .0 ≡ vblockOf p (sg .0) ⌝ }
 {
-    VBlock(sg.0 / p.d)
+    VBlock((sg.0 as u32 / p.d as u32) as usize)
 }
 
-// The place of a segment in its virtual block.
+// The place of a segment in its virtual block, in the same way.
 pub fn place_of(p: Params, sg: Segment) -> usize
-    requires { ⌜ 0 < p .d ⌝ }
+    requires { ⌜ allowed p ≡ true ⌝ }
+    requires { ⌜ sg .0 < 65536 ⌝ }
     ensures { λ k. ⌜ k ≡ placeOf p (sg .0) ⌝ }
 {
-    sg.0 % p.d
+    (sg.0 as u32 % p.d as u32) as usize
 }
 
 // The segment of frame f of a virtual block.

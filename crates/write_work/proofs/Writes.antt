@@ -93,9 +93,6 @@ module _ (p : Params) (b : Board) (q : Request) (e : replyOf p b (write q) ≡ A
   pub sectors : 0 < p .alpha
   sectors = z .sectors
 
-  pub regions : 0 < p .mu
-  regions = z .regions
-
   pub alpha-few : p .alpha ≤ 16
   alpha-few = z .alphaHigh
 

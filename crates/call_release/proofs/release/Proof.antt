@@ -3,7 +3,7 @@
 use native.Mathlib.Omega.{arith}
 use borrow.Author.Needs.{needs}
 use Rattle.rules.specs.Tables.{Board, boardOf}
-use Rattle.call_release.proofs.Call.{entry-there, regions, release-done, release-lookup, release-refused, release-unmark}
+use Rattle.call_release.proofs.Call.{entry-there, release-done, release-lookup, release-refused, release-unmark}
 use Rattle.call_release.proofs.release.Statement.{statement}
 use Rattle.call_release.proofs.release.Tie as tie
 
@@ -47,7 +47,8 @@ region-of-requires c κs =
     let at-number = at-if1 .before in
     let at-release-reply = at-number .before in
     let start = at-release-reply .before .before .before .before .before .before .before .before .before .before in
-    regions _ (board start) _ _ (at-release-reply .release-reply .ensures) _ (at-number .number .ensures) (at-if1 .if1 .left)
+    let look = release-lookup _ (board start) _ _ (at-release-reply .release-reply .ensures) _ (at-number .number .ensures) (at-if1 .if1 .left) in
+    (look .fine, look .low)
 
 unmark-requires : tie.Need-unmark-requires
 unmark-requires c κs =

@@ -49,7 +49,8 @@ region-of-requires c κs =
     let at-number = c .before .before .before in
     let at-why-reply = at-number .before in
     let start = at-why-reply .before .before .before .before .before .before .before .before in
-    (sizes _ ((passed _ (board start) _ _ (at-why-reply .why-reply .ensures) _ (at-number .number .ensures) (c .before .if2 .left)) .ordered .fine)) .regions
+    let look = looked _ (board start) _ (passed _ (board start) _ _ (at-why-reply .why-reply .ensures) _ (at-number .number .ensures) (c .before .if2 .left)) _ (c .cluster-of .ensures) in
+    (look .fine, look .low)
 
 forecast-of-requires : tie.Need-forecast-of-requires
 forecast-of-requires c κs =

@@ -10,7 +10,7 @@ use Rattle.call_why.proofs.place_at.Statement.{statement}
 use Rattle.call_why.proofs.place_at.Tie as tie
 
 region-of-requires : tie.Need-region-of-requires
-region-of-requires c κs = (sizes _ (c .before .before .pre .fine)) .regions
+region-of-requires c κs = (c .before .before .pre .fine, c .before .before .pre .cluster)
 
 ct-at-requires : tie.Need-ct-at-requires
 ct-at-requires c κs = search needs

@@ -26,7 +26,7 @@ loop-holds c = (omega arith, all-start _)
 region-of-requires : tie.Need-region-of-requires Inv-loop μ-loop
 region-of-requires c κs =
     let start = c .before .before .before .before .before in
-    (sizes _ (start .pre .0 .fine)) .regions
+    (start .pre .0 .fine, omega (arith, start .pre .1, c .loop-test .taken))
 
 cluster-ok-requires : tie.Need-cluster-ok-requires Inv-loop μ-loop
 cluster-ok-requires c κs =

@@ -31,7 +31,7 @@ region-of-requires : tie.Need-region-of-requires Inv-loop μ-loop
 region-of-requires c κs =
     let at-cluster-in = c .before .before .before in
     let start = at-cluster-in .before .before in
-    (start .pre .0, at-cluster-in .cluster-in .ensures .1)
+    (start .pre .0, omega arith)
 
 returns-2 : tie.Need-returns-2 Inv-loop μ-loop
 returns-2 c =

@@ -21,12 +21,13 @@ returns c =
 region-of-requires : tie.Need-region-of-requires
 region-of-requires c κs =
     let entered = c .before .before .before .before .before .before in
-    (sizes _ (entered .pre .fine)) .regions
+    (entered .pre .fine, entered .pre .low)
 
 vblock-of-requires : tie.Need-vblock-of-requires
 vblock-of-requires c κs =
-    let entered = c .before .before .before .before .before .before .before in
-    (sizes _ (entered .pre .fine)) .segments
+    let at-ct-at = c .before .before .before in
+    let entered = at-ct-at .before .before .before .before in
+    (entered .pre .fine, at-ct-at .ct-at .ensures .1)
 
 bt-at-requires : tie.Need-bt-at-requires
 bt-at-requires c κs =
@@ -41,8 +42,9 @@ bt-at-requires c κs =
 
 place-of-requires : tie.Need-place-of-requires
 place-of-requires c κs =
-    let entered = c .before .before .before .before .before .before .before .before .before in
-    (sizes _ (entered .pre .fine)) .segments
+    let at-ct-at = c .before .before .before .before .before in
+    let entered = at-ct-at .before .before .before .before in
+    (entered .pre .fine, at-ct-at .ct-at .ensures .1)
 
 block-of-requires : tie.Need-block-of-requires
 block-of-requires c κs =

@@ -14,7 +14,7 @@ cluster-of-requires c κs =
 region-of-requires : tie.Need-region-of-requires
 region-of-requires c κs =
     let start = c .before .before .before .before .before .before in
-    (sizes _ (start .pre .0 .fine)) .regions
+    (start .pre .0 .fine, rw (c .cluster-of .ensures) (start .pre .0 .asked .cluster))
 
 bt-at-requires : tie.Need-bt-at-requires
 bt-at-requires c κs =

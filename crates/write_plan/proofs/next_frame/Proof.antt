@@ -26,8 +26,9 @@ returns c =
 
 vblock-of-requires : tie.Need-vblock-of-requires
 vblock-of-requires c κs =
-    let entered = c .before .before .before .before .before .before in
-    (sizes _ (entered .pre .fine)) .segments
+    let at-fst-at = c .before .before in
+    let entered = at-fst-at .before .before .before .before in
+    (entered .pre .fine, at-fst-at .fst-at .ensures .1)
 
 bt-at-requires : tie.Need-bt-at-requires
 bt-at-requires c κs =
@@ -37,8 +38,9 @@ bt-at-requires c κs =
 
 place-of-requires : tie.Need-place-of-requires
 place-of-requires c κs =
-    let entered = c .before .before .before .before .before .before .before .before in
-    (sizes _ (entered .pre .fine)) .segments
+    let at-fst-at = c .before .before .before .before in
+    let entered = at-fst-at .before .before .before .before in
+    (entered .pre .fine, at-fst-at .fst-at .ensures .1)
 
 mul-from : tie.Need-mul-from
 mul-from c =

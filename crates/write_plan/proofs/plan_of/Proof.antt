@@ -1,7 +1,6 @@
 -- `write_plan::plan_of`: test by test, the rules' plan.
 -- Assumes nothing.
 use borrow.Author.Needs.{needs}
-use Rattle.rules.proofs.Sizes.{sizes}
 use Rattle.write_plan.proofs.Plans.{continues-is, opens-is, reclaims-is, victim-is}
 use Rattle.write_plan.proofs.plan_of.Statement.{statement}
 use Rattle.write_plan.proofs.plan_of.Tie as tie
@@ -22,7 +21,7 @@ fst-at-requires c κs = search needs
 vblock-of-requires : tie.Need-vblock-of-requires
 vblock-of-requires c κs =
     let start = c .before .before .before .before .before .before .before .before in
-    (sizes _ (start .pre .0 .fine)) .segments
+    (start .pre .0 .fine, c .fst-at .ensures .1)
 
 returns : tie.Need-returns
 returns c =

@@ -5,7 +5,6 @@ use mathlib.Core.Path.{ap, _∙_, _≡_}
 use Rattle.rules.specs.Numbers.{clusterOf, regionOf}
 use Rattle.write_work.proofs.Writes.{
   sectors,
-  regions,
   alpha-few,
   marks-full,
   plan-asked,
@@ -31,7 +30,8 @@ cluster-of-requires c κs =
 region-of-requires : tie.Need-region-of-requires
 region-of-requires c κs =
     let start = c .before .before .before .before .before .before .before .before .before in
-    regions _ _ _ (start .pre)
+    let look = lookup-entry _ _ _ (start .pre) _ (c .cluster-of .ensures) in
+    (look .fine, look .low)
 
 find-frame-requires : tie.Need-find-frame-requires
 find-frame-requires c κs =

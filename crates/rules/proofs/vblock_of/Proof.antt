@@ -1,11 +1,11 @@
--- `chip_sizes::vblock_of`: all numbers fit 32 bits.
+-- `rules::vblock_of`: all numbers fit 32 bits.
 -- Assumes nothing.
 use native.Mathlib.Nat.{div-le-self}
 use native.Mathlib.Omega.{arith}
 use borrow.Author.Needs.{needs}
 use Rattle.rules.proofs.Sizes.{sizes}
-use Rattle.chip_sizes.proofs.vblock_of.Statement.{statement}
-use Rattle.chip_sizes.proofs.vblock_of.Tie as tie
+use Rattle.rules.proofs.vblock_of.Statement.{statement}
+use Rattle.rules.proofs.vblock_of.Tie as tie
 
 cast-t3 : tie.Need-cast-t3
 cast-t3 c = search needs

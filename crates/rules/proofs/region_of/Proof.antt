@@ -1,14 +1,14 @@
--- `chip_sizes::region_of`: all numbers fit 32 bits.
+-- `rules::region_of`: all numbers fit 32 bits.
 -- Assumes nothing.
 use native.Mathlib.Nat.{mod-lt}
 use native.Mathlib.Omega.{arith}
 use borrow.Author.Needs.{needs}
 use Rattle.rules.proofs.Sizes.{sizes}
-use Rattle.chip_sizes.proofs.region_of.Statement.{statement}
-use Rattle.chip_sizes.proofs.region_of.Tie as tie
+use Rattle.rules.proofs.region_of.Statement.{statement}
+use Rattle.rules.proofs.region_of.Tie as tie
 
 cast-result : tie.Need-cast-result
-cast-result c = search needs
+cast-result c = let z = sizes _ (c .before .pre .0) in omega (arith, c .before .pre .1)
 
 cast-result-2 : tie.Need-cast-result-2
 cast-result-2 c = let z = sizes _ (c .before .before .pre .0) in omega arith

@@ -1,11 +1,11 @@
--- `chip_sizes::place_of`: all numbers fit 32 bits.
+-- `rules::place_of`: all numbers fit 32 bits.
 -- Assumes nothing.
 use native.Mathlib.Nat.{mod-lt}
 use native.Mathlib.Omega.{arith}
 use borrow.Author.Needs.{needs}
 use Rattle.rules.proofs.Sizes.{sizes}
-use Rattle.chip_sizes.proofs.place_of.Statement.{statement}
-use Rattle.chip_sizes.proofs.place_of.Tie as tie
+use Rattle.rules.proofs.place_of.Statement.{statement}
+use Rattle.rules.proofs.place_of.Tie as tie
 
 cast-result : tie.Need-cast-result
 cast-result c = search needs
