@@ -331,5 +331,6 @@ module _ (p : Params) (b : Board) (q : Request) (e : replyOf p b (write q) ≡ A
           → ((m : Marks) → b .marks ≡ tableOf p m → marks ≡ tableOf p (keptMarks m r′ v f copied erases kept u g)) → a ≡ acceptedAnswer p copied erases looks
           → outcome a (q .bytes) [] (boardOf chip ct bt₁ fst bst₁ wear₁ marks) ≡ outcomeOf p b (write q)
       gives looks k chip ct fst marks a x h y =
-          let el : looks ≡ looksAt p b (requestCluster p q) = unfold looksAt in (rw ec at (k .is (b .fst))) in
+          let el : looks ≡ looksAt p b (requestCluster p q) = unfold looksAt in
+          (rw ec at (k .is (b .fst))) in
           ap₂ {C = Outcome} (λ (i : Answer) (j : Board). outcome i (q .bytes) [] j) (y ∙ answer-is looks el) (board-is chip ct fst marks x (marks-kept marks h)) ∙ sym (write-accepted p b q e)

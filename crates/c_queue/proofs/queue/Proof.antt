@@ -15,8 +15,7 @@ head-flat-requires c κs = search needs
 turns-requires : tie.Need-turns-requires
 turns-requires c κs =
     let at-head-flat = c .before .before .before .before .before .before .before .before in
-    let start = at-head-flat .before .before .before .before .before .before .before .before .before .before .before .before .before .before .before .before .before .before in
-    let a = start in
+    let a = at-head-flat .before .before .before .before .before .before .before .before .before .before .before .before .before .before .before .before .before .before in
     turns-asked _ (board a) _ (a .args .bytes .now) _ _ (at-head-flat .head-flat .ensures)
 
 number-requires : tie.Need-number-requires
@@ -53,8 +52,7 @@ returns : tie.Need-returns
 returns c =
     let at-turns = c .before .before .before .before .before .before .before .before .before .before .before .before .before .before .before .before .before in
     let at-head-flat = at-turns .before .before .before .before .before .before .before .before .before in
-    let start = at-head-flat .before .before .before .before .before .before .before .before .before .before .before .before .before .before .before .before .before .before in
-    let a = start in
+    let a = at-head-flat .before .before .before .before .before .before .before .before .before .before .before .before .before .before .before .before .before .before in
     all-done _ (board a) _ _ _ _ (at-head-flat .head-flat .ensures) _ _ (at-turns .turns .ensures) _ (c .number .ensures)
 
 pub queue-spec : {M : Type 1} → statement M

@@ -24,16 +24,14 @@ board a = boardOf (a .args .chip .now) (a .args .ct .now) (a .args .bt .now) (a 
 
 loop-holds : tie.Need-loop-holds Inv-loop μ-loop
 loop-holds c =
-    let entered = c .before .before .before .before .before .before .before .before .before .before in
-    let a = entered in
+    let a = c .before .before .before .before .before .before .before .before .before .before in
     (omega arith, record { chip = refl; ct = refl; bt = refl; fst = refl; bst = refl; wear = refl; marks = refl; answers = refl }, λ k. start _ _ _ _ _ (board a) _ k)
 
 turn-requires : tie.Need-turn-requires Inv-loop μ-loop
 turn-requires c κs =
     let at-loop-test = c .before .before .before .before .before .before .before .before in
     let at-loop = at-loop-test .before in
-    let entered = at-loop .before .before .before .before .before .before .before .before .before .before .before in
-    let a = entered in
+    let a = at-loop .before .before .before .before .before .before .before .before .before .before .before in
     let inv = at-loop .loop .inv in
     (inv .2 (a .pre) .ready (omega (arith, at-loop-test .loop-test .taken)), asked _ _ _ (a .args .bytes .now) _ (board a) _ (a .pre) _ (at-loop-test .loop-test .taken) _ (inv .1 .answers))
 
@@ -59,8 +57,7 @@ loop-again c =
     let at-turn = at-chip .before in
     let at-loop-test = at-turn .before .before .before .before .before .before .before .before .before in
     let at-loop = at-loop-test .before in
-    let entered = at-loop .before .before .before .before .before .before .before .before .before .before .before in
-    let a = entered in
+    let a = at-loop .before .before .before .before .before .before .before .before .before .before .before in
     let inv = at-loop .loop .inv in (
       omega (arith, at-loop-test .loop-test .taken),
       record {
@@ -102,8 +99,7 @@ same-length-8 c = c .before .loop .inv .1 .answers
 
 returns : tie.Need-returns Inv-loop μ-loop
 returns c =
-    let entered = c .before .before .before .before .before .before .before .before .before .before .before .before in
-    let a = entered in
+    let a = c .before .before .before .before .before .before .before .before .before .before .before .before in
     done _ _ _ _ _ (board a) _ (a .pre) _ (omega (arith, c .loop-test .left)) _ _ (c .before .loop .inv .2 (a .pre))
 
 pub turns-spec : {M : Type 1} → statement M

@@ -45,8 +45,7 @@ returns : tie.Need-returns
 unfolding lent lentAnswers
 returns c =
     let at-format-reply = c .before .before .before in
-    let start = at-format-reply .before .before .before .before .before .before .before .before .before .before .before .before .before .before .before in
-    let a = start in
+    let a = at-format-reply .before .before .before .before .before .before .before .before .before .before .before .before .before .before .before in
     refused-by _ (board a) format _ (at-format-reply .format-reply .ensures) _ (c .before .before .number .ensures) (c .before .if1 .taken) _ (c .idle .ensures)
 
 clear-requires : tie.Need-clear-requires
@@ -66,8 +65,7 @@ format-blocks-requires c κs =
     let at-if1 = c .before .before .before .before .before .before .before .before .before .before .before .before .before .before .before .before .before .before .before in
     let at-number = at-if1 .before in
     let at-format-reply = at-number .before in
-    let start = at-format-reply .before .before .before .before .before .before .before .before .before .before .before .before .before .before .before in
-    let a = start in
+    let a = at-format-reply .before .before .before .before .before .before .before .before .before .before .before .before .before .before .before in
     blocks-asked _ (board a)
     (reply-zero _ (board a) format _ (at-format-reply .format-reply .ensures) _ (at-number .number .ensures) (at-if1 .if1 .left))
 
@@ -77,8 +75,7 @@ cast-t25 c =
     let at-if1 = at-format-blocks .before .before .before .before .before .before .before .before .before .before .before .before .before .before .before .before .before .before .before .before in
     let at-number = at-if1 .before in
     let at-format-reply = at-number .before in
-    let start = at-format-reply .before .before .before .before .before .before .before .before .before .before .before .before .before .before .before in
-    let a = start in
+    let a = at-format-reply .before .before .before .before .before .before .before .before .before .before .before .before .before .before .before in
     record {
       fits = few _ (board a) (reply-zero _ (board a) format _ (at-format-reply .format-reply .ensures) _ (at-number .number .ensures) (at-if1 .if1 .left)) _
           (at-format-blocks .format-blocks .ensures .few);
@@ -115,8 +112,7 @@ returns-2 c =
     let at-if1 = at-clear .before .before in
     let at-number = at-if1 .before in
     let at-format-reply = at-number .before in
-    let start = at-format-reply .before .before .before .before .before .before .before .before .before .before .before .before .before .before .before in
-    let a = start in
+    let a = at-format-reply .before .before .before .before .before .before .before .before .before .before .before .before .before .before .before in
     format-done _ (board a)
     (reply-zero _ (board a) format _ (at-format-reply .format-reply .ensures) _ (at-number .number .ensures) (at-if1 .if1 .left))
     _ (at-format-reply .format-reply .ensures) _ _ _ _ _ _ _ _

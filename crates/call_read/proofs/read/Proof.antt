@@ -28,16 +28,14 @@ returns : tie.Need-returns
 unfolding lent lentAnswers
 returns c =
     let at-access-reply = c .before .before .before in
-    let start = at-access-reply .before .before .before .before .before .before .before .before .before in
-    let a = start in
+    let a = at-access-reply .before .before .before .before .before .before .before .before .before in
     refused-by _ (board a) (read (request a)) _ (at-access-reply .access-reply .ensures .0 (request a) refl refl refl) _ (c .before .before .number .ensures)
     (c .before .if1 .taken) _ (c .idle .ensures)
 
 read-sectors-requires : tie.Need-read-sectors-requires
 read-sectors-requires c κs =
     let at-access-reply = c .before .before .before in
-    let start = at-access-reply .before .before .before .before .before .before .before .before .before in
-    let a = start in
+    let a = at-access-reply .before .before .before .before .before .before .before .before .before in
     asked _ (board a) (request a) (reply-zero _ (board a) (read (request a)) _ (at-access-reply .access-reply .ensures .0 (request a) refl refl refl) _
     (c .before .before .number .ensures) (c .before .if1 .left))
 
@@ -53,8 +51,7 @@ returns-2 c =
     let at-if1 = at-read-sectors .before .before in
     let at-number = at-if1 .before in
     let at-access-reply = at-number .before in
-    let start = at-access-reply .before .before .before .before .before .before .before .before .before in
-    let a = start in
+    let a = at-access-reply .before .before .before .before .before .before .before .before .before in
     let e = at-access-reply .access-reply .ensures .0 (request a) refl refl refl in
     let zero = reply-zero _ (board a) (read (request a)) _ e _ (at-number .number .ensures) (at-if1 .if1 .left) in
     let done = at-read-sectors .read-sectors .ensures in

@@ -28,22 +28,19 @@ same-length-2 c = search needs
 
 returns : tie.Need-returns
 returns c =
-    let entered = c .before .before .before in
-    let at-release-reply = entered in
+    let at-release-reply = c .before .before .before in
     let start = at-release-reply .before .before .before .before .before .before .before .before .before .before in
     release-refused _ (board start) _ _ (at-release-reply .release-reply .ensures) _ (c .before .before .number .ensures) (c .before .if1 .taken) _ (c .idle .ensures)
 
 find-frame-requires : tie.Need-find-frame-requires
 find-frame-requires c κs =
-    let entered = c .before .before .before in
-    let at-release-reply = entered in
+    let at-release-reply = c .before .before .before in
     let start = at-release-reply .before .before .before .before .before .before .before .before .before .before in
     release-lookup _ (board start) _ _ (at-release-reply .release-reply .ensures) _ (c .before .before .number .ensures) (c .before .if1 .left)
 
 region-of-requires : tie.Need-region-of-requires
 region-of-requires c κs =
-    let entered = c .before .before .before in
-    let at-if1 = entered in
+    let at-if1 = c .before .before .before in
     let at-number = at-if1 .before in
     let at-release-reply = at-number .before in
     let start = at-release-reply .before .before .before .before .before .before .before .before .before .before in
@@ -52,8 +49,7 @@ region-of-requires c κs =
 
 unmark-requires : tie.Need-unmark-requires
 unmark-requires c κs =
-    let entered = c .before .before .before .before in
-    let at-if1 = entered in
+    let at-if1 = c .before .before .before .before in
     let at-number = at-if1 .before in
     let at-release-reply = at-number .before in
     let start = at-release-reply .before .before .before .before .before .before .before .before .before .before in
@@ -62,8 +58,7 @@ unmark-requires c κs =
 
 set-ct-requires : tie.Need-set-ct-requires
 set-ct-requires c κs =
-    let entered = c .before .before .before .before .before .before .before .before in
-    let at-if1 = entered in
+    let at-if1 = c .before .before .before .before .before .before .before .before in
     let at-number = at-if1 .before in
     let at-release-reply = at-number .before in
     let start = at-release-reply .before .before .before .before .before .before .before .before .before .before in
@@ -80,8 +75,7 @@ same-length-4 c = search needs
 
 returns-2 : tie.Need-returns-2
 returns-2 c =
-    let entered = c .before .before .before in
-    let at-set-ct = entered in
+    let at-set-ct = c .before .before .before in
     let at-unmark = at-set-ct .before .before .before .before in
     let at-region-of = at-unmark .before in
     let at-find-frame = at-region-of .before .before in

@@ -10,8 +10,7 @@ use Rattle.call_why.proofs.forecast_of.Tie as tie
 
 plan-of-requires : tie.Need-plan-of-requires
 plan-of-requires c κs =
-    let start = c .before .before .before .before in
-    let a = start in (a .pre .plan, marks-long _ (a .args .chip .now) (a .args .bt .now) (a .args .fst .now) (a .args .marks .now) _ (a .pre))
+    let a = c .before .before .before .before in (a .pre .plan, marks-long _ (a .args .chip .now) (a .args .bt .now) (a .args .fst .now) (a .args .marks .now) _ (a .pre))
 
 enum-known-v : tie.Need-enum-known-v
 enum-known-v c = search needs
@@ -25,8 +24,7 @@ enum-known-v-3 c = search needs
 count-marks-requires : tie.Need-count-marks-requires
 count-marks-requires c κs =
     let at-plan-of = c .before .before .before in
-    let start = at-plan-of .before .before .before .before .before in
-    let a = start in
+    let a = at-plan-of .before .before .before .before .before in
     victim-words _ (a .args .chip .now) (a .args .bt .now) (a .args .fst .now) (a .args .marks .now) _ (a .pre) _ (λ ct right. rw (c .before .v3 .given .1) at (at-plan-of .plan-of .ensures ct right))
 
 returns : tie.Need-returns
@@ -45,8 +43,7 @@ returns-3 : tie.Need-returns-3
 unfolding forecastNumbers planNumbers
 returns-3 c ct right =
     let at-plan-of = c .before .before .before .before in
-    let start = at-plan-of .before .before .before .before .before in
-    let a = start in
+    let a = at-plan-of .before .before .before .before .before in
     let e = rw (c .before .before .v3 .given .1) at (at-plan-of .plan-of .ensures ct right) in
     rw (counted _ (a .pre .plan .fine) (boardOf (a .args .chip .now) ct (a .args .bt .now) (a .args .fst .now) [] [] (a .args .marks .now)) right _ _ _ (c .count-marks .ensures)) (plan-is _ _ _ e)
 

@@ -17,16 +17,14 @@ ct-at-requires c κs = search needs
 
 bt-at-requires : tie.Need-bt-at-requires
 bt-at-requires c κs =
-    let start = c .before .before .before .before .before in
-    let a = start in
+    let a = c .before .before .before .before .before in
     (a .pre .btLength, (rw (c .before .before .region-of .ensures) (mod-lt _ ((sizes _ (a .pre .fine)) .regions)), a .pre .low))
 
 returns : tie.Need-returns
 unfolding placeNumbers
 returns c chip fst bst wear marks k w =
     let at-region-of = c .before .before .before in
-    let start = at-region-of .before .before .before in
-    let a = start in
+    let a = at-region-of .before .before .before in
     rw (c .bt-at .ensures .0, c .before .ct-at .ensures .0, at-region-of .region-of .ensures) (holder-is _ (boardOf chip (a .args .ct .now) (a .args .bt .now) fst bst wear marks) _ _ _ _ k w)
 
 pub place-at-spec : {M : Type 1} → statement M

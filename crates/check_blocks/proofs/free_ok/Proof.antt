@@ -13,8 +13,7 @@ returns c = rw (← (c .before .bst-at .ensures), ne-eqb _ 0 (c .if1 .taken))
 
 block-of-requires : tie.Need-block-of-requires
 block-of-requires c κs =
-    let start = c .before .before .before .before in
-    let a = start in (a .pre .0, (a .pre .1 .0, a .pre .1 .1 .1))
+    let a = c .before .before .before .before in (a .pre .0, (a .pre .1 .0, a .pre .1 .1 .1))
 
 is-erased-requires : tie.Need-is-erased-requires
 is-erased-requires c κs = search needs

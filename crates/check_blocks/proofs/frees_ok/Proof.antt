@@ -25,8 +25,7 @@ loop-holds c = (omega arith, all-start _)
 
 free-ok-requires : tie.Need-free-ok-requires Inv-loop μ-loop
 free-ok-requires c κs =
-    let start = c .before .before .before .before in
-    let a = start in (a .pre .0, (a .pre .1 .0, (a .pre .1 .1, c .loop-test .taken)))
+    let a = c .before .before .before .before in (a .pre .0, (a .pre .1 .0, (a .pre .1 .1, c .loop-test .taken)))
 
 returns : tie.Need-returns Inv-loop μ-loop
 unfolding freeRule

@@ -16,8 +16,7 @@ low a n = name-low (a .args .p) (a .args .chip .now) (a .args .bt .now) (a .pre 
 
 bt-at-requires : tie.Need-bt-at-requires
 bt-at-requires c κs =
-    let start = c .before .before .before in
-    let a = start in (a .pre .0 .btLength, (a .pre .1 .1 .0, a .pre .1 .1 .1))
+    let a = c .before .before .before in (a .pre .0 .btLength, (a .pre .1 .1 .0, a .pre .1 .1 .1))
 
 frames-requires : tie.Need-frames-requires
 frames-requires c κs =
@@ -32,8 +31,7 @@ returns c =
 
 differs-requires : tie.Need-differs-requires
 differs-requires c κs =
-    let start = c .before .before .before .before .before .before in
-    let a = start in (a .pre .0 .btLength, (a .pre .1 .1 .0, a .pre .1 .1 .1))
+    let a = c .before .before .before .before .before .before in (a .pre .0 .btLength, (a .pre .1 .1 .0, a .pre .1 .1 .1))
 
 returns-2 : tie.Need-returns-2
 unfolding vblockFrames vblockOk
@@ -50,8 +48,8 @@ returns-2 c =
 bst-at-requires : tie.Need-bst-at-requires
 bst-at-requires c κs =
     let at-bt-at = c .before .before .before .before in
-    let start = at-bt-at .before .before .before .before in
-    let a = start in omega (arith, low a (at-bt-at .bt-at .result .0) (at-bt-at .bt-at .ensures .0) (c .before .before .if1 .left), a .pre .1 .0)
+    let a = at-bt-at .before .before .before .before in
+    omega (arith, low a (at-bt-at .bt-at .result .0) (at-bt-at .bt-at .ensures .0) (c .before .before .if1 .left), a .pre .1 .0)
 
 returns-3 : tie.Need-returns-3
 unfolding vblockFrames vblockOk
@@ -73,8 +71,8 @@ block-of-requires : tie.Need-block-of-requires
 block-of-requires c κs =
     let at-if1 = c .before .before .before .before in
     let at-bt-at = at-if1 .before .before in
-    let start = at-bt-at .before .before .before .before in
-    let a = start in (a .pre .0 .fine, (a .pre .0 .chipLength, low a (at-bt-at .bt-at .result .0) (at-bt-at .bt-at .ensures .0) (at-if1 .if1 .left)))
+    let a = at-bt-at .before .before .before .before in
+    (a .pre .0 .fine, (a .pre .0 .chipLength, low a (at-bt-at .bt-at .result .0) (at-bt-at .bt-at .ensures .0) (at-if1 .if1 .left)))
 
 used-frames-requires : tie.Need-used-frames-requires
 used-frames-requires c κs =

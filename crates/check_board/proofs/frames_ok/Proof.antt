@@ -21,8 +21,7 @@ returns-2 : tie.Need-returns-2
 unfolding framesOk
 returns-2 c =
     let at-if1 = c .before .before .before .before in
-    let start = at-if1 .before in
-    let a = start in
+    let a = at-if1 .before in
     rw (ne-eqb (a .args .k) 0 (at-if1 .if1 .left), ne-eqb (a .args .v .0) _ (λ e. c .before .if2 .taken (e ∙ sym (a .pre .1 .0))), c .frames .ensures)
 
 sub-segment-of : tie.Need-sub-segment-of
@@ -31,16 +30,15 @@ sub-segment-of c = omega arith
 segment-of-requires : tie.Need-segment-of-requires
 segment-of-requires c κs =
     let at-if1 = c .before .before .before in
-    let start = at-if1 .before in
-    let a = start in (a .pre .0, (a .pre .1 .1 .0, omega (arith, a .pre .1 .1 .1, (sizes _ (a .pre .0)) .short, at-if1 .if1 .left)))
+    let a = at-if1 .before in
+    (a .pre .0, (a .pre .1 .1 .0, omega (arith, a .pre .1 .1 .1, (sizes _ (a .pre .0)) .short, at-if1 .if1 .left)))
 
 returns-3 : tie.Need-returns-3
 unfolding framesOk
 returns-3 c =
     let at-if2 = c .before .before .before in
     let at-if1 = at-if2 .before .before .before in
-    let start = at-if1 .before in
-    let a = start in
+    let a = at-if1 .before in
     rw (ne-eqb (a .args .k) 0 (at-if1 .if1 .left), eq-eqb (a .args .v .0) _ (at-if2 .if2 .left ∙ a .pre .1 .0), c .before .before .segment-of .ensures)
 
 pub frames-ok-spec : {M : Type 1} → statement M

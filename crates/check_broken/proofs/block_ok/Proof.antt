@@ -17,8 +17,7 @@ returns c = rw (← (c .before .before .bt-at .ensures .0), eq-eqb _ none (c .if
 
 block-of-requires : tie.Need-block-of-requires
 block-of-requires c κs =
-    let start = c .before .before .before .before .before in
-    let a = start in (
+    let a = c .before .before .before .before .before in (
       a .pre .0 .fine,
       (
         a .pre .0 .chipLength,

@@ -51,8 +51,7 @@ bst-ok-requires c κs = search needs
 returns : tie.Need-returns
 unfolding brokenRule rulesOf ruleNames
 returns c =
-    let start = c .before .before .before .before .before .before .before in
-    let a = start in
+    let a = c .before .before .before .before .before .before .before in
     λ wear marks.
     let told : BstValues ≡ brokenRule (a .args .p) (board a wear marks) =
     here _ _ _ _ _ (c .before .bst-ok .ensures) (c .if1 .taken) in
@@ -65,8 +64,7 @@ returns-2 : tie.Need-returns-2
 unfolding brokenRule rulesOf ruleNames
 returns-2 c =
     let at-bst-ok = c .before .before .before in
-    let start = at-bst-ok .before .before .before .before .before .before in
-    let a = start in
+    let a = at-bst-ok .before .before .before .before .before .before in
     λ wear marks.
     let told : BtRange ≡ brokenRule (a .args .p) (board a wear marks) =
     skip _ _ _ _ _ _ (at-bst-ok .bst-ok .ensures) (c .before .before .if1 .left)
@@ -82,8 +80,7 @@ returns-3 c =
     let at-bt-ok = c .before .before .before in
     let at-if1 = at-bt-ok .before in
     let at-bst-ok = at-if1 .before in
-    let start = at-bst-ok .before .before .before .before .before .before in
-    let a = start in
+    let a = at-bst-ok .before .before .before .before .before .before in
     λ wear marks.
     let told : NamedTwice ≡ brokenRule (a .args .p) (board a wear marks) =
     skip _ _ _ _ _ _ (at-bst-ok .bst-ok .ensures) (at-if1 .if1 .left)
@@ -102,8 +99,7 @@ returns-4 c =
     let at-bt-ok = at-if2 .before in
     let at-if1 = at-bt-ok .before in
     let at-bst-ok = at-if1 .before in
-    let start = at-bst-ok .before .before .before .before .before .before in
-    let a = start in
+    let a = at-bst-ok .before .before .before .before .before .before in
     λ wear marks.
     let told : UsedIfNamed ≡ brokenRule (a .args .p) (board a wear marks) =
     skip _ _ _ _ _ _ (at-bst-ok .bst-ok .ensures) (at-if1 .if1 .left)
@@ -125,8 +121,7 @@ returns-5 c =
     let at-bt-ok = at-if2 .before in
     let at-if1 = at-bt-ok .before in
     let at-bst-ok = at-if1 .before in
-    let start = at-bst-ok .before .before .before .before .before .before in
-    let a = start in
+    let a = at-bst-ok .before .before .before .before .before .before in
     λ wear marks.
     let told : TooFewLeft ≡ brokenRule (a .args .p) (board a wear marks) =
     skip _ _ _ _ _ _ (at-bst-ok .bst-ok .ensures) (at-if1 .if1 .left)
@@ -151,8 +146,7 @@ returns-6 c =
     let at-bt-ok = at-if2 .before in
     let at-if1 = at-bt-ok .before in
     let at-bst-ok = at-if1 .before in
-    let start = at-bst-ok .before .before .before .before .before .before in
-    let a = start in
+    let a = at-bst-ok .before .before .before .before .before .before in
     λ wear marks.
     let told : FreeErased ≡ brokenRule (a .args .p) (board a wear marks) =
     skip _ _ _ _ _ _ (at-bst-ok .bst-ok .ensures) (at-if1 .if1 .left)
@@ -184,8 +178,7 @@ returns-7 c =
     let at-bt-ok = at-if2 .before in
     let at-if1 = at-bt-ok .before in
     let at-bst-ok = at-if1 .before in
-    let start = at-bst-ok .before .before .before .before .before .before in
-    let a = start in
+    let a = at-bst-ok .before .before .before .before .before .before in
     λ wear marks.
     let told : UsedBlock ≡ brokenRule (a .args .p) (board a wear marks) =
     skip _ _ _ _ _ _ (at-bst-ok .bst-ok .ensures) (at-if1 .if1 .left)
@@ -220,8 +213,7 @@ returns-8 c =
     let at-bt-ok = at-if2 .before in
     let at-if1 = at-bt-ok .before in
     let at-bst-ok = at-if1 .before in
-    let start = at-bst-ok .before .before .before .before .before .before in
-    let a = start in
+    let a = at-bst-ok .before .before .before .before .before .before in
     λ wear marks.
     let told : Fst ≡ brokenRule (a .args .p) (board a wear marks) =
     skip _ _ _ _ _ _ (at-bst-ok .bst-ok .ensures) (at-if1 .if1 .left)
@@ -260,8 +252,7 @@ returns-9 c =
     let at-bt-ok = at-if2 .before in
     let at-if1 = at-bt-ok .before in
     let at-bst-ok = at-if1 .before in
-    let start = at-bst-ok .before .before .before .before .before .before in
-    let a = start in
+    let a = at-bst-ok .before .before .before .before .before .before in
     λ wear marks.
     let told : Ct ≡ brokenRule (a .args .p) (board a wear marks) =
     skip _ _ _ _ _ _ (at-bst-ok .bst-ok .ensures) (at-if1 .if1 .left)
@@ -294,8 +285,7 @@ returns-10 c =
     let at-bt-ok = at-if2 .before in
     let at-if1 = at-bt-ok .before in
     let at-bst-ok = at-if1 .before in
-    let start = at-bst-ok .before .before .before .before .before .before in
-    let a = start in
+    let a = at-bst-ok .before .before .before .before .before .before in
     λ wear marks.
     let told : Marks ≡ brokenRule (a .args .p) (board a wear marks) =
     skip _ _ _ _ _ _ (at-bst-ok .bst-ok .ensures) (at-if1 .if1 .left)

@@ -17,8 +17,7 @@ returns c = rw (← (c .before .before .ct-at .ensures .0), eq-eqb _ none (c .if
 
 segment-ok-requires : tie.Need-segment-ok-requires
 segment-ok-requires c κs =
-    let start = c .before .before .before .before .before .before in
-    let a = start in (a .pre .0, a .pre .1 .0)
+    let a = c .before .before .before .before .before .before in (a .pre .0, a .pre .1 .0)
 
 returns-2 : tie.Need-returns-2
 unfolding clusterOk

@@ -19,8 +19,7 @@ returns c = rw (eq-eqb _ _ (c .if1 .taken))
 
 bt-at-requires : tie.Need-bt-at-requires
 bt-at-requires c κs =
-    let start = c .before .before .before .before .before in
-    let a = start in (a .pre .0 .btLength, (a .pre .1 .0, a .pre .1 .1))
+    let a = c .before .before .before .before .before in (a .pre .0 .btLength, (a .pre .1 .0, a .pre .1 .1))
 
 returns-2 : tie.Need-returns-2
 unfolding fullOk
@@ -30,8 +29,8 @@ returns-2 c =
 
 block-of-requires : tie.Need-block-of-requires
 block-of-requires c κs =
-    let start = c .before .before .before .before .before .before .before .before in
-    let a = start in (a .pre .0 .fine, (a .pre .0 .chipLength, low a (c .before .before .bt-at .result .0) (c .before .before .bt-at .ensures .0) (c .if2 .left)))
+    let a = c .before .before .before .before .before .before .before .before in
+    (a .pre .0 .fine, (a .pre .0 .chipLength, low a (c .before .before .bt-at .result .0) (c .before .before .bt-at .ensures .0) (c .if2 .left)))
 
 is-full-requires : tie.Need-is-full-requires
 is-full-requires c κs =

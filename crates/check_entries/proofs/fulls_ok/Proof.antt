@@ -22,8 +22,7 @@ loop-holds c = (omega arith, all-start _)
 
 full-ok-requires : tie.Need-full-ok-requires Inv-loop μ-loop
 full-ok-requires c κs =
-    let start = c .before .before .before .before in
-    let a = start in (a .pre .0, (a .pre .1, c .loop-test .taken))
+    let a = c .before .before .before .before in (a .pre .0, (a .pre .1, c .loop-test .taken))
 
 returns : tie.Need-returns Inv-loop μ-loop
 returns c =

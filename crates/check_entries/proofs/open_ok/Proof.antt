@@ -32,13 +32,11 @@ returns c = rw (le-ltb _ _ (c .if1 .taken))
 
 vblock-of-requires : tie.Need-vblock-of-requires
 vblock-of-requires c κs =
-    let start = c .before .before .before .before .before in
-    let a = start in (a .pre .0 .fine, small a (c .if1 .left))
+    let a = c .before .before .before .before .before in (a .pre .0 .fine, small a (c .if1 .left))
 
 bt-at-requires : tie.Need-bt-at-requires
 bt-at-requires c κs =
-    let start = c .before .before .before .before .before .before in
-    let a = start in (a .pre .0 .btLength, (a .pre .1, vlow a _ (c .vblock-of .ensures) (c .before .if1 .left)))
+    let a = c .before .before .before .before .before .before in (a .pre .0 .btLength, (a .pre .1, vlow a _ (c .vblock-of .ensures) (c .before .if1 .left)))
 
 returns-2 : tie.Need-returns-2
 unfolding openOk
@@ -51,8 +49,7 @@ block-of-requires : tie.Need-block-of-requires
 block-of-requires c κs =
     let at-vblock-of = c .before .before .before in
     let at-if1 = at-vblock-of .before in
-    let start = at-if1 .before .before .before .before .before in
-    let a = start in (
+    let a = at-if1 .before .before .before .before .before in (
       a .pre .0 .fine,
       (
         a .pre .0 .chipLength,
@@ -73,8 +70,7 @@ segment-of-requires : tie.Need-segment-of-requires
 segment-of-requires c κs =
     let at-vblock-of = c .before .before .before .before .before .before in
     let at-if1 = at-vblock-of .before in
-    let start = at-if1 .before .before .before .before .before in
-    let a = start in
+    let a = at-if1 .before .before .before .before .before in
     let z = sizes _ (a .pre .0 .fine) in (
       a .pre .0 .fine,
       (
@@ -109,8 +105,8 @@ returns-3 c =
 
 fulls-ok-requires : tie.Need-fulls-ok-requires
 fulls-ok-requires c κs =
-    let start = c .before .before .before .before .before .before .before .before .before .before .before .before .before .before .before .before in
-    let a = start in (a .pre .0, a .pre .1)
+    let a = c .before .before .before .before .before .before .before .before .before .before .before .before .before .before .before .before in
+    (a .pre .0, a .pre .1)
 
 returns-4 : tie.Need-returns-4
 unfolding openOk

@@ -31,13 +31,11 @@ returns c = rw (le-ltb _ _ (c .if1 .taken))
 
 vblock-of-requires : tie.Need-vblock-of-requires
 vblock-of-requires c κs =
-    let start = c .before .before .before .before .before in
-    let a = start in (a .pre .0 .fine, small a (c .if1 .left))
+    let a = c .before .before .before .before .before in (a .pre .0 .fine, small a (c .if1 .left))
 
 bt-at-requires : tie.Need-bt-at-requires
 bt-at-requires c κs =
-    let start = c .before .before .before .before .before .before in
-    let a = start in (a .pre .0 .btLength, (a .pre .1, vlow a _ (c .vblock-of .ensures) (c .before .if1 .left)))
+    let a = c .before .before .before .before .before .before in (a .pre .0 .btLength, (a .pre .1, vlow a _ (c .vblock-of .ensures) (c .before .if1 .left)))
 
 returns-2 : tie.Need-returns-2
 unfolding segmentOk
@@ -49,8 +47,8 @@ returns-2 c =
 place-of-requires : tie.Need-place-of-requires
 place-of-requires c κs =
     let at-if1 = c .before .before .before .before in
-    let start = at-if1 .before .before .before .before .before in
-    let a = start in (a .pre .0 .fine, small a (at-if1 .if1 .left))
+    let a = at-if1 .before .before .before .before .before in
+    (a .pre .0 .fine, small a (at-if1 .if1 .left))
 
 frames-requires : tie.Need-frames-requires
 frames-requires c κs =
@@ -62,8 +60,7 @@ block-of-requires c κs =
     let at-bt-at = c .before .before .before .before in
     let at-vblock-of = at-bt-at .before in
     let at-if1 = at-vblock-of .before in
-    let start = at-if1 .before .before .before .before .before in
-    let a = start in (
+    let a = at-if1 .before .before .before .before .before in (
       a .pre .0 .fine,
       (
         a .pre .0 .chipLength,
@@ -74,8 +71,8 @@ block-of-requires c κs =
 
 last-in-requires : tie.Need-last-in-requires
 last-in-requires c κs =
-    let start = c .before .before .before .before .before .before .before .before .before .before .before .before in
-    let a = start in (a .pre .0 .fine, (c .block-of .ensures .1, rw (c .before .before .place-of .ensures) (mod-lt _ ((sizes _ (a .pre .0 .fine)) .segments))))
+    let a = c .before .before .before .before .before .before .before .before .before .before .before .before in
+    (a .pre .0 .fine, (c .block-of .ensures .1, rw (c .before .before .place-of .ensures) (mod-lt _ ((sizes _ (a .pre .0 .fine)) .segments))))
 
 returns-3 : tie.Need-returns-3
 unfolding segmentOk

@@ -35,8 +35,8 @@ returns-3 c =
     let at-if2 = c .before .before .before in
     let at-bt-entry = at-if2 .before .before in
     let at-if1 = at-bt-entry .before in
-    let start = at-if1 .before .before in
-    let a = start in differ (a .args .bt .now) (a .args .i) (a .args .j) _ _ (at-if1 .if1 .left) (at-bt-entry .bt-entry .ensures .0) (at-if2 .if2 .left) (c .before .before .bt-entry2 .ensures .0)
+    let a = at-if1 .before .before in
+    differ (a .args .bt .now) (a .args .i) (a .args .j) _ _ (at-if1 .if1 .left) (at-bt-entry .bt-entry .ensures .0) (at-if2 .if2 .left) (c .before .before .bt-entry2 .ensures .0)
 
 pub pair-ok-spec : {M : Type 1} → statement M
 pair-ok-spec =

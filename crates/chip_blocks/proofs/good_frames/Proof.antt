@@ -39,8 +39,7 @@ returns c =
     let at-loop-test = c .before .before .before in
     let at-loop = at-loop-test .before in
     let at-frames = at-loop .before in
-    let start = at-frames .before .before in
-    let a = start in
+    let a = at-frames .before .before in
     let e = c .before .good-frame .ensures ∙ ap (goodFrame (a .args .p) (a .args .r)) (c .before .before .frame-of .ensures .0) in
     (omega (arith, at-loop-test .loop-test .taken, at-frames .frames .ensures), (at-loop .loop .inv .1, λ h. sym e ∙ not-true _ (c .if1 .taken)))
 
@@ -53,8 +52,7 @@ loop-less c = omega arith
 loop-again : tie.Need-loop-again Inv-loop μ-loop
 loop-again c =
     let at-loop = c .before .before .before .before in
-    let start = at-loop .before .before .before in
-    let a = start in
+    let a = at-loop .before .before .before in
     let e = c .before .good-frame .ensures ∙ ap (goodFrame (a .args .p) (a .args .r)) (c .before .before .frame-of .ensures .0) in
     (omega arith, all-more _ _ (at-loop .loop .inv .1) (sym e ∙ not-false _ (c .if1 .left)))
 

@@ -41,8 +41,7 @@ sub-f c = omega (arith, c .loop-test .taken)
 
 frame-of-requires : tie.Need-frame-of-requires Inv-loop μ-loop
 frame-of-requires c κs =
-    let entered = c .before .before .before .before .before in
-    let a = entered in
+    let a = c .before .before .before .before .before in
     let s = c .before .loop .inv (sizes _ (a .pre .0)) in
     (a .pre .0, (a .pre .1 .0, omega (arith, seg a, c .loop-test .taken, s .few)))
 
@@ -59,8 +58,7 @@ seen a n f fr e is = e ∙ ap (λ (x : List ℕ). cond (programmed (a .args .p) 
 add-looks : tie.Need-add-looks Inv-loop μ-loop
 add-looks c =
     let at-loop = c .before .before .before in
-    let entered = at-loop .before .before .before .before in
-    let a = entered in
+    let a = at-loop .before .before .before .before in
     let z = sizes _ (a .pre .0) in
     let s = at-loop .loop .inv z in
     omega (arith, z .betaHigh, looks-few _ z _ _ _ _ _ s (c .before .before .loop-test .taken) _ (seen a _ _ _ (c .looked .ensures) (c .before .frame-of .ensures .0)))
@@ -75,8 +73,7 @@ returns c =
     let at-frame-of = c .before .before .before in
     let at-loop-test = at-frame-of .before in
     let at-loop = at-loop-test .before in
-    let entered = at-loop .before .before .before .before in
-    let a = entered in
+    let a = at-loop .before .before .before .before in
     let z = sizes _ (a .pre .0) in
     let s = at-loop .loop .inv z in
     let t = at-loop-test .loop-test .taken in
@@ -94,9 +91,8 @@ loop-again c =
     let at-frame-of = c .before .before .before in
     let at-loop-test = at-frame-of .before in
     let at-loop = at-loop-test .before in
-    let entered = at-loop .before .before .before .before in
+    let a = at-loop .before .before .before .before in
     λ z.
-    let a = entered in
     let s = at-loop .loop .inv z in
     let t = at-loop-test .loop-test .taken in
     let n = seen a _ _ _ (c .before .before .looked .ensures) (at-frame-of .frame-of .ensures .0) in
@@ -104,8 +100,7 @@ loop-again c =
 
 returns-2 : tie.Need-returns-2 Inv-loop μ-loop
 returns-2 c =
-    let entered = c .before .before .before .before .before in
-    let a = entered in
+    let a = c .before .before .before .before .before in
     let z = sizes _ (a .pre .0) in
     let s = c .before .loop .inv z in
     (nothing _ z _ _ _ _ _ s (omega (arith, c .loop-test .left)), (omega (arith, s .few, s .low), λ l. absurd (omega (arith, l, z .short))))

@@ -15,8 +15,7 @@ good-frames-requires c κs = search needs
 
 returns : tie.Need-returns
 returns c =
-    let start = c .before .before .before in
-    let a = start in
+    let a = c .before .before .before in
     let k = c .before .good-frames .ensures in
     let e : false ≡ blockRule (a .args .p) (a .args .r) (a .args .blk .now) = none-good _ (sizes _ (a .pre .0)) _ _ (a .pre .1) _ (k .0) (k .1 .0) (k .1 .1) (c .if1 .taken) in
     rw (← e)
@@ -27,8 +26,7 @@ rest-erased-requires c κs = search needs
 returns-2 : tie.Need-returns-2
 returns-2 c =
     let at-good-frames = c .before .before .before in
-    let start = at-good-frames .before .before in
-    let a = start in
+    let a = at-good-frames .before .before in
     let k = at-good-frames .good-frames .ensures in
     let e : false ≡ blockRule (a .args .p) (a .args .r) (a .args .blk .now) =
     sym (not-true _ (c .if2 .taken)) ∙ c .before .rest-erased .ensures ∙ rest-is _ (sizes _ (a .pre .0)) _ _ (a .pre .1) _ (k .0) (k .1 .0) (k .1 .1) (c .before .before .if1 .left) in
@@ -37,8 +35,7 @@ returns-2 c =
 returns-3 : tie.Need-returns-3
 returns-3 c =
     let at-good-frames = c .before .before .before in
-    let start = at-good-frames .before .before in
-    let a = start in
+    let a = at-good-frames .before .before in
     let k = at-good-frames .good-frames .ensures in
     let e : true ≡ blockRule (a .args .p) (a .args .r) (a .args .blk .now) =
     sym (not-false _ (c .if2 .left)) ∙ c .before .rest-erased .ensures ∙ rest-is _ (sizes _ (a .pre .0)) _ _ (a .pre .1) _ (k .0) (k .1 .0) (k .1 .1) (c .before .before .if1 .left) in

@@ -30,13 +30,13 @@ loop-holds c = (search needs, refl)
 
 add-copy-at : tie.Need-add-copy-at Inv-loop μ-loop
 add-copy-at c =
-    let start = c .before .before .before .before in
-    let a = start in omega (arith, low-page _ _ _ _ _ (a .pre) (a .args .from) (c .before .before .loop .k) (a .pre .source) (c .before .loop-test .taken))
+    let a = c .before .before .before .before in
+    omega (arith, low-page _ _ _ _ _ (a .pre) (a .args .from) (c .before .before .loop .k) (a .pre .source) (c .before .loop-test .taken))
 
 add-copy-at-2 : tie.Need-add-copy-at-2 Inv-loop μ-loop
 add-copy-at-2 c =
-    let start = c .before .before .before .before in
-    let a = start in omega (arith, low-page _ _ _ _ _ (a .pre) (a .args .to) (c .before .before .loop .k) (a .pre .fits) (c .before .loop-test .taken))
+    let a = c .before .before .before .before in
+    omega (arith, low-page _ _ _ _ _ (a .pre) (a .args .to) (c .before .before .loop .k) (a .pre .fits) (c .before .loop-test .taken))
 
 copy-at-requires : tie.Need-copy-at-requires Inv-loop μ-loop
 copy-at-requires c κs =
@@ -52,8 +52,7 @@ loop-less c = omega arith
 loop-again : tie.Need-loop-again Inv-loop μ-loop
 loop-again c =
     let at-loop-test = c .before .before .before .before in
-    let start = at-loop-test .before in
-    let l = start in
+    let l = at-loop-test .before in
     (omega arith, copy-done _ _ _ _ _ (l .before .before .pre) _ _ _ (at-loop-test .loop-test .taken) (l .loop .inv .1) (c .before .before .copy-at .ensures))
 
 same-length : tie.Need-same-length Inv-loop μ-loop

@@ -32,13 +32,13 @@ loop-holds c = (search needs, refl)
 
 add-host-page : tie.Need-add-host-page Inv-loop μ-loop
 add-host-page c =
-    let start = c .before .before .before .before .before in
-    let a = start in omega (arith, low-page _ _ _ _ _ _ _ _ _ _ (a .pre) (a .args .to) (c .before .before .loop .k) (a .pre .fits) (c .before .loop-test .taken))
+    let a = c .before .before .before .before .before in
+    omega (arith, low-page _ _ _ _ _ _ _ _ _ _ (a .pre) (a .args .to) (c .before .before .loop .k) (a .pre .fits) (c .before .loop-test .taken))
 
 add-host-page-2 : tie.Need-add-host-page-2 Inv-loop μ-loop
 add-host-page-2 c =
-    let start = c .before .before .before .before .before in
-    let a = start in omega (arith, low-page _ _ _ _ _ _ _ _ _ _ (a .pre) (a .args .old) (c .before .before .loop .k) (a .pre .source) (c .before .loop-test .taken))
+    let a = c .before .before .before .before .before in
+    omega (arith, low-page _ _ _ _ _ _ _ _ _ _ (a .pre) (a .args .old) (c .before .before .loop .k) (a .pre .source) (c .before .loop-test .taken))
 
 host-page-requires : tie.Need-host-page-requires Inv-loop μ-loop
 host-page-requires c κs =
@@ -54,8 +54,7 @@ loop-less c = omega arith
 loop-again : tie.Need-loop-again Inv-loop μ-loop
 loop-again c =
     let at-loop-test = c .before .before .before .before in
-    let start = at-loop-test .before in
-    let l = start in
+    let l = at-loop-test .before in
     (omega arith, page-done _ _ _ _ _ _ _ _ _ _ (l .before .before .before .pre) _ _ _ (at-loop-test .loop-test .taken) (l .loop .inv .1) (c .before .before .host-page .ensures))
 
 same-length : tie.Need-same-length Inv-loop μ-loop

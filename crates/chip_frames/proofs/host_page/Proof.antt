@@ -13,18 +13,17 @@ add-end c = search needs
 
 sub-a : tie.Need-sub-a
 sub-a c =
-    let start = c .before .before .before in
-    let a = start in (given-in _ _ (a .args .count) (c .if1 .taken)) .0
+    let a = c .before .before .before in (given-in _ _ (a .args .count) (c .if1 .taken)) .0
 
 mul-a : tie.Need-mul-a
 mul-a c =
-    let start = c .before .before .before in
-    let a = start in omega (arith, given-fits (a .args .s) (a .args .off) (a .args .j) (a .args .count) (a .args .bytes .now) (c .if1 .taken) (a .pre .given))
+    let a = c .before .before .before in
+    omega (arith, given-fits (a .args .s) (a .args .off) (a .args .j) (a .args .count) (a .args .bytes .now) (c .if1 .taken) (a .pre .given))
 
 add-b : tie.Need-add-b
 add-b c =
-    let start = c .before .before .before in
-    let a = start in omega (arith, given-fits (a .args .s) (a .args .off) (a .args .j) (a .args .count) (a .args .bytes .now) (c .if1 .taken) (a .pre .given))
+    let a = c .before .before .before in
+    omega (arith, given-fits (a .args .s) (a .args .off) (a .args .j) (a .args .count) (a .args .bytes .now) (c .if1 .taken) (a .pre .given))
 
 sub-program-at : tie.Need-sub-program-at
 sub-program-at c = search needs
@@ -34,8 +33,8 @@ part-program-at-start c = search needs
 
 part-program-at-end : tie.Need-part-program-at-end
 part-program-at-end c =
-    let start = c .before .before .before .before in
-    let a = start in given-fits (a .args .s) (a .args .off) (a .args .j) (a .args .count) (a .args .bytes .now) (c .before .if1 .taken) (a .pre .given)
+    let a = c .before .before .before .before in
+    given-fits (a .args .s) (a .args .off) (a .args .j) (a .args .count) (a .args .bytes .now) (c .before .if1 .taken) (a .pre .given)
 
 cast-program-at : tie.Need-cast-program-at
 cast-program-at c = search needs

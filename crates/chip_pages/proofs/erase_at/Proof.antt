@@ -33,8 +33,7 @@ same-length c = search needs
 returns : tie.Need-returns
 unfolding part
 returns c =
-    let start = c .before .before .before .before .before .before in
-    let a = start in
+    let a = c .before .before .before .before .before .before in
     let n : length (part (a .args .w) (a .args .n .0) (a .args .chip .now)) ≡ a .args .w = part-length _ _ _ (a .pre) in
     rw (width, c .before .before .blank .ensures, width) (rw n (back (a .args .w) (a .args .n .0) _ (a .args .chip .now)))
 

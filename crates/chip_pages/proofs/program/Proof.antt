@@ -11,19 +11,17 @@ use Rattle.chip_pages.proofs.program.Tie as tie
 
 put-requires : tie.Need-put-requires
 put-requires c κs =
-    let start = c .before .before .before in
-    let a = start in omega (arith, ap length (a .pre) ∙ length-replicate {A = ℕ} (length (a .args .bytes .now) + 16) 255)
+    let a = c .before .before .before in
+    omega (arith, ap length (a .pre) ∙ length-replicate {A = ℕ} (length (a .args .bytes .now) + 16) 255)
 
 sub-mark : tie.Need-sub-mark
 sub-mark c =
-    let start = c .before .before .before .before .before .before in
-    let a = start in
+    let a = c .before .before .before .before .before .before in
     omega (arith, c .before .before .put .kept .0, ap length (a .pre) ∙ length-replicate {A = ℕ} (length (a .args .bytes .now) + 16) 255)
 
 part-mark-start : tie.Need-part-mark-start
 part-mark-start c =
-    let start = c .before .before .before .before .before .before in
-    let a = start in
+    let a = c .before .before .before .before .before .before in
     omega (arith, c .before .before .put .kept .0, ap length (a .pre) ∙ length-replicate {A = ℕ} (length (a .args .bytes .now) + 16) 255)
 
 part-mark-end : tie.Need-part-mark-end
@@ -32,8 +30,7 @@ part-mark-end c = search needs
 mark-requires : tie.Need-mark-requires
 mark-requires c κs =
     let at-put = c .before .before .before in
-    let start = at-put .before .before .before .before in
-    let a = start in
+    let a = at-put .before .before .before .before in
     spare-left (a .args .bytes .now) _ _ refl (put-erased (a .args .bytes .now) (a .args .page .now) _ (a .pre) (at-put .put .ensures))
 
 same-length : tie.Need-same-length
@@ -42,8 +39,7 @@ same-length c = search needs
 returns : tie.Need-returns
 returns c =
     let at-put = c .before .before .before .before .before .before in
-    let start = at-put .before .before .before .before in
-    let a = start in
+    let a = at-put .before .before .before .before in
     rw (c .before .before .mark .ensures) (page-done (a .args .bytes .now) _ _ refl (put-erased (a .args .bytes .now) (a .args .page .now) _ (a .pre) (at-put .put .ensures)) _)
 
 pub program-spec : {M : Type 1} → statement M

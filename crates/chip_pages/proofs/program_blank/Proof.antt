@@ -28,8 +28,7 @@ same-length c = search needs
 
 returns : tie.Need-returns
 returns c =
-    let start = c .before .before .before .before .before in
-    let a = start in
+    let a = c .before .before .before .before .before in
     rw (c .before .before .mark .ensures) (page-done (replicate (a .args .s) 255) (a .args .page .now) (a .args .s) (length-replicate _ _) (a .pre ∙ erased-split (a .args .s)) _)
 
 pub program-blank-spec : {M : Type 1} → statement M

@@ -11,16 +11,15 @@ use Rattle.chip_pages.proofs.program_copy.Tie as tie
 
 put-requires : tie.Need-put-requires
 put-requires c κs =
-    let start = c .before .before .before in
-    let a = start in omega (arith, ap length (a .pre) ∙ length-replicate {A = ℕ} (length (a .args .bytes .now)) 255)
+    let a = c .before .before .before in
+    omega (arith, ap length (a .pre) ∙ length-replicate {A = ℕ} (length (a .args .bytes .now)) 255)
 
 same-length : tie.Need-same-length
 same-length c = search needs
 
 returns : tie.Need-returns
 returns c =
-    let start = c .before .before .before .before .before .before in
-    let a = start in
+    let a = c .before .before .before .before .before .before in
     c .before .before .put .ensures ∙ put-whole _ _ (ap length (a .pre) ∙ length-replicate {A = ℕ} (length (a .args .bytes .now)) 255)
 
 pub program-copy-spec : {M : Type 1} → statement M

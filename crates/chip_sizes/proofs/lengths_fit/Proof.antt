@@ -30,8 +30,7 @@ returns : tie.Need-returns
 unfolding lengthsFit allTrue
 returns c =
     let at-block-bytes = c .before .before .before .before .before .before in
-    let start = at-block-bytes .before in
-    let a = start in
+    let a = at-block-bytes .before in
     λ b h t n l k w m. rw (h, t, n, l, k, w, m, at-block-bytes .block-bytes .ensures, chip-size (a .args .p)) (simp (and-assoc, and-true))
 
 pub lengths-fit-spec : {M : Type 1} → statement M

@@ -61,8 +61,7 @@ returns : tie.Need-returns
 returns c =
     let at-wide2 = c .before .before .before .before in
     let at-wide = at-wide2 .before .before in
-    let start = at-wide .before .before .before in
-    let at = start in
+    let at = at-wide .before .before .before in
     let w4 = c .wide4 .ensures in
     let w3 = c .before .before .wide3 .ensures in
     let w2 = at-wide2 .wide2 .ensures in

@@ -58,8 +58,7 @@ returns c =
     let at-word = at-word2 .before .before in
     let at-shared-slice-known2 = at-word .before .before in
     let at-shared-slice-known = at-shared-slice-known2 .before in
-    let start = at-shared-slice-known .before in
-    let at = start in
+    let at = at-shared-slice-known .before in
     same-words (at .args .a .now) (at .args .b .now) _ _ _ _ (at .pre .0) (at .pre .1) (λ i. omega (arith, at-shared-slice-known .shared-slice-known .given i))
     (λ i. omega (arith, at-shared-slice-known2 .shared-slice-known2 .given i))
     (at-word .word .ensures) (at-word2 .word2 .ensures) (c .before .before .word3 .ensures) (c .word4 .ensures)

@@ -45,8 +45,7 @@ returns : tie.Need-returns
 returns c =
     let at-queue = c .before .before .before .before .before .before .before .before .before .before .before .before .before .before .before .before in
     let at-params = at-queue .before .before .before .before .before .before .before .before .before in
-    let start = at-params .before .before .before .before .before .before .before .before .before .before .before in
-    let a = start in
+    let a = at-params .before .before .before .before .before .before .before .before .before .before .before in
     at-queue .queue .ensures ∙ ap (λ (p : Params). flatCall p (board a) (a .args .requests .now) (a .args .bytes .now) (a .args .answers .now)) (at-params .params .ensures)
 
 pub cnftl-queue-spec : {M : Type 1} → statement M

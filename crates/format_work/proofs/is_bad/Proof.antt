@@ -29,8 +29,7 @@ returns-2 c =
 
 has-bad-mark-requires-2 : tie.Need-has-bad-mark-requires-2
 has-bad-mark-requires-2 c κs =
-    let start = c .before .before .before .before .before in
-    let a = start in (a .pre .0, (a .pre .1 .0, (a .pre .1 .1, omega (arith, c .before .pages .ensures, c .if2 .left))))
+    let a = c .before .before .before .before .before in (a .pre .0, (a .pre .1 .0, (a .pre .1 .1, omega (arith, c .before .pages .ensures, c .if2 .left))))
 
 returns-3 : tie.Need-returns-3
 unfolding bad

@@ -30,8 +30,7 @@ returns-2 c =
 state-reply-requires : tie.Need-state-reply-requires
 state-reply-requires c κs =
     let at-board-reply = c .before .before .before in
-    let start = at-board-reply .before .before .before .before .before .before .before .before in
-    let a = start in
+    let a = at-board-reply .before .before .before .before .before .before .before .before in
     let h = head-passed _ (board a) (a .args .items) (a .args .answers) _ (at-board-reply .board-reply .ensures) _ (c .before .before .number .ensures) (c .before .if1 .left) in
     (lengths-in _ (board a) (h .fine) (h .fits), marks-fit _ (board a) (h .fits))
 

@@ -37,8 +37,7 @@ returns : tie.Need-returns
 returns c =
     let at-item-reply = c .before .before .before in
     let at-has-bytes = at-item-reply .before in
-    let start = at-has-bytes .before .before .before .before .before .before .before .before .before in
-    let a = start in
+    let a = at-has-bytes .before .before .before .before .before .before .before .before .before in
     item-refused _ _ (board a) (a .pre) _ (asked a) _ (at-has-bytes .has-bytes .ensures (a .args .bytes .now) (a .args .lba) refl) _ (at-item-reply .item-reply .ensures) _
     (c .before .before .number .ensures) (c .before .if1 .taken) _ (c .idle .ensures)
 
@@ -64,8 +63,7 @@ part-write-orderly-end c =
     let at-number = at-if1 .before in
     let at-item-reply = at-number .before in
     let at-has-bytes = at-item-reply .before in
-    let start = at-has-bytes .before .before .before .before .before .before .before .before .before in
-    let a = start in
+    let a = at-has-bytes .before .before .before .before .before .before .before .before .before in
     omega (
       arith,
       inside _ _ (board a) (a .pre) _ (asked a) _ (at-has-bytes .has-bytes .ensures (a .args .bytes .now) (a .args .lba) refl) _
@@ -78,8 +76,7 @@ write-orderly-requires c κs =
     let at-number = at-if1 .before in
     let at-item-reply = at-number .before in
     let at-has-bytes = at-item-reply .before in
-    let start = at-has-bytes .before .before .before .before .before .before .before .before .before in
-    let a = start in
+    let a = at-has-bytes .before .before .before .before .before .before .before .before .before in
     asked-accepted _ _ (board a) (a .pre) _ (asked a) _ (at-has-bytes .has-bytes .ensures (a .args .bytes .now) (a .args .lba) refl) _ (at-item-reply .item-reply .ensures) _
     (at-number .number .ensures) (at-if1 .if1 .left)
 

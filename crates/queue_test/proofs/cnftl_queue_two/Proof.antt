@@ -37,7 +37,8 @@ put-both-requires c κs = search needs
 
 pack-requires-3 : tie.Need-pack-requires-3
 pack-requires-3 c κs =
-    let at-queue-two = c .before .before .before .before .before .before .before .before .before .before .before .before .before .before .before .before .before .before .before .before .before .before .before in
+    let at-queue-two = c .before .before .before .before .before .before .before .before .before .before .before
+    .before .before .before .before .before .before .before .before .before .before .before .before in
     (few-two _ (board at-queue-two) _ _ _ _ _ _ _ (at-queue-two .queue-two .ensures)) .0
 
 same-length : tie.Need-same-length

@@ -28,16 +28,14 @@ returns c = both (λ q l k n. refuses _ _ _ (c .before .before .board-reply .ens
 
 wrong-data-requires : tie.Need-wrong-data-requires
 wrong-data-requires c κs =
-    let start = c .before .before .before .before .before .before .before .before .before .before in
-    let a = start in
+    let a = c .before .before .before .before .before .before .before .before .before .before in
     let h = lent-passes _ (board a) _ _ (c .before .before .board-reply .ensures) (c .before .number .ensures) (c .if1 .left) in
     h .fine
 
 request-reply-requires : tie.Need-request-reply-requires
 request-reply-requires c κs =
     let at-board-reply = c .before .before .before in
-    let start = at-board-reply .before .before .before .before .before .before .before .before in
-    let a = start in
+    let a = at-board-reply .before .before .before .before .before .before .before .before in
     let h = lent-passes _ (board a) _ _ (at-board-reply .board-reply .ensures) (c .before .before .number .ensures) (c .before .if1 .left) in
     h .fine
 
@@ -51,8 +49,7 @@ returns-2 c =
     let at-if1 = at-wrong-data .before in
     let at-number = at-if1 .before in
     let at-board-reply = at-number .before in
-    let start = at-board-reply .before .before .before .before .before .before .before .before in
-    let a = start in
+    let a = at-board-reply .before .before .before .before .before .before .before .before in
     let h = lent-passes _ (board a) _ _ (at-board-reply .board-reply .ensures) (at-number .number .ensures) (at-if1 .if1 .left) in
     both (λ q l k n. after-lent _ (board a) h _ _ (refuses _ _ _ (c .before .before .request-reply .ensures q l k (λ _. sym (at-wrong-data .wrong-data .ensures q k n)))
     (c .before .number2 .ensures) (c .if2 .taken) _))
@@ -62,8 +59,7 @@ state-reply-requires c κs =
     let at-if1 = c .before .before .before .before in
     let at-number = at-if1 .before in
     let at-board-reply = at-number .before in
-    let start = at-board-reply .before .before .before .before .before .before .before .before in
-    let a = start in
+    let a = at-board-reply .before .before .before .before .before .before .before .before in
     let h = lent-passes _ (board a) _ _ (at-board-reply .board-reply .ensures) (at-number .number .ensures) (at-if1 .if1 .left) in
     (lengths-in _ (board a) (h .fine) (h .fits), marks-fit _ (board a) (h .fits))
 
@@ -75,8 +71,7 @@ returns-3 c =
     let at-if1 = at-wrong-data .before in
     let at-number = at-if1 .before in
     let at-board-reply = at-number .before in
-    let start = at-board-reply .before .before .before .before .before .before .before .before in
-    let a = start in
+    let a = at-board-reply .before .before .before .before .before .before .before .before in
     let h = lent-passes _ (board a) _ _ (at-board-reply .board-reply .ensures) (at-number .number .ensures) (at-if1 .if1 .left) in
     both (λ q l k n. after-lent _ (board a) h _ _ (after-access _ q _ _ (at-request-reply .request-reply .ensures q l k (λ _. sym (at-wrong-data .wrong-data .ensures q k n)))
     (c .before .before .number2 .ensures) (c .before .if2 .left) _ _ (c .state-reply .ensures _)))

@@ -29,8 +29,7 @@ unfolding replyOf rowsOf
 returns-2 c =
     let at-number = c .before .before .before in
     let at-board-reply = at-number .before in
-    let start = at-board-reply .before .before .before .before .before .before .before .before in
-    let a = start in
+    let a = at-board-reply .before .before .before .before .before .before .before .before in
     let h = lent-passes _ (board a) _ _ (at-board-reply .board-reply .ensures) (at-number .number .ensures) (c .before .before .if1 .left) in
     after-lent _ (board a) h _ _ (here _ _ _ _ (c .before .bad-cluster .ensures) (c .if2 .taken))
 
@@ -38,8 +37,7 @@ state-reply-requires : tie.Need-state-reply-requires
 state-reply-requires c κs =
     let at-number = c .before .before .before in
     let at-board-reply = at-number .before in
-    let start = at-board-reply .before .before .before .before .before .before .before .before in
-    let a = start in
+    let a = at-board-reply .before .before .before .before .before .before .before .before in
     let h = lent-passes _ (board a) _ _ (at-board-reply .board-reply .ensures) (at-number .number .ensures) (c .before .before .if1 .left) in
     (lengths-in _ (board a) (h .fine) (h .fits), marks-fit _ (board a) (h .fits))
 
@@ -49,8 +47,7 @@ returns-3 c =
     let at-if1 = c .before .before .before in
     let at-number = at-if1 .before in
     let at-board-reply = at-number .before in
-    let start = at-board-reply .before .before .before .before .before .before .before .before in
-    let a = start in
+    let a = at-board-reply .before .before .before .before .before .before .before .before in
     let h = lent-passes _ (board a) _ _ (at-board-reply .board-reply .ensures) (at-number .number .ensures) (at-if1 .if1 .left) in
     after-lent _ (board a) h _ _ (skip _ _ _ _ _ (c .before .before .bad-cluster .ensures) (c .before .if2 .left) (c .state-reply .ensures _))
 

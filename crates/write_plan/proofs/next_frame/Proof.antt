@@ -47,8 +47,7 @@ mul-from c =
     let at-vblock-of = c .before .before .before in
     let at-if1 = at-vblock-of .before in
     let at-fst-at = at-if1 .before .before in
-    let entered = at-fst-at .before .before .before .before in
-    let a = entered in
+    let a = at-fst-at .before .before .before .before in
     let z = sizes _ (a .pre .fine) in
     let from = from-low _ _ _ _ _ (a .pre) _ (at-fst-at .fst-at .ensures .0) (at-if1 .if1 .left) _ (at-vblock-of .vblock-of .ensures) _ (c .before .before .bt-at .ensures .0)
     (c .before .place-of .result) (c .before .place-of .result * a .args .p .beta) (c .before .place-of .ensures) refl in
@@ -74,8 +73,7 @@ next-free-requires c κs =
     let at-vblock-of = at-bt-at .before in
     let at-if1 = at-vblock-of .before in
     let at-fst-at = at-if1 .before .before in
-    let entered = at-fst-at .before .before .before .before in
-    let a = entered in (
+    let a = at-fst-at .before .before .before .before in (
       a .pre .fine,
       (
         c .block-of .ensures .1,

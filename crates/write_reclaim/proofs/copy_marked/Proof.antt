@@ -28,8 +28,7 @@ loop-holds c = (omega arith, λ a m e. start _ _ _ _ _ _ a _)
 
 move-marked-requires : tie.Need-move-marked-requires Inv-loop μ-loop
 move-marked-requires c κs =
-    let entered = c .before .before .before in
-    let at = entered in
+    let at = c .before .before .before in
     let a = at .before .before .before .before .before in
     let low : at .loop .f < frames (a .args .p) = omega (arith, at .before .frames .ensures, c .before .before .loop-test .taken) in
     let e = holds (a .args .p) (a .args .marks .now) (a .pre .1 .long) (at .before .before .shared-slice-known .given) in
@@ -39,8 +38,7 @@ add-k : tie.Need-add-k Inv-loop μ-loop
 add-k c =
     let at-move-marked = c .before .before .before .before in
     let at-loop-test = at-move-marked .before .before .before in
-    let entered = at-loop-test .before in
-    let at = entered in
+    let at = at-loop-test .before in
     let a = at .before .before .before .before .before in
     let low : at .loop .f < frames (a .args .p) = omega (arith, at .before .frames .ensures, at-loop-test .loop-test .taken) in
     let e = holds (a .args .p) (a .args .marks .now) (a .pre .1 .long) (at .before .before .shared-slice-known .given) in
@@ -48,8 +46,7 @@ add-k c =
 
 add-f : tie.Need-add-f Inv-loop μ-loop
 add-f c =
-    let entered = c .before .before .before .before .before .before .before .before in
-    let at = entered in
+    let at = c .before .before .before .before .before .before .before .before in
     omega (arith, at .loop .inv .0, (sizes _ (at .before .before .before .before .before .pre .0 .whole .fine)) .short)
 
 loop-less : tie.Need-loop-less Inv-loop μ-loop
@@ -62,8 +59,7 @@ loop-again : tie.Need-loop-again Inv-loop μ-loop
 loop-again c =
     let at-move-marked = c .before .before .before .before in
     let at-loop-test = at-move-marked .before .before .before in
-    let entered = at-loop-test .before in
-    let at = entered in
+    let at = at-loop-test .before in
     let low : at .loop .f < frames (at .before .before .before .before .before .args .p) = omega (arith, at .before .frames .ensures, at-loop-test .loop-test .taken) in
     (omega (arith, low), λ a m e. turn _ _ _ _ _ _ a _ _ low _ _ _ (at .loop .inv .1 a m e) _ _ _ (at-move-marked .move-marked .ensures m e))
 
@@ -83,8 +79,7 @@ same-length-2 c =
 
 returns : tie.Need-returns Inv-loop μ-loop
 returns c m e =
-    let entered = c .before .before .before .before .before .before in
-    let a = entered in
+    let a = c .before .before .before .before .before .before in
     let q : c .before .loop .f ≡ frames (a .args .p) = omega (arith, c .before .loop .inv .0, c .loop-test .left, c .before .before .frames .ensures) in
     done _ _ _ _ _ _ (a .pre .0) _ _ _ _ _ q (c .before .loop .inv .1 (a .pre .0) m e)
 

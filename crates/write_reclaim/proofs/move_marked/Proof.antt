@@ -28,8 +28,7 @@ returns : tie.Need-returns
 returns c m e =
     let at-move-frame = c .before .before .before .before in
     let at-if1 = at-move-frame .before .before .before in
-    let start = at-if1 .before in
-    let at = start in
+    let at = at-if1 .before in
     let passed : at .is-marked .result ≡ true = at-if1 .if1 .taken in
     moved-yes _ _ _ _ _ _ _ _ _ _ _ (sym (at .is-marked .ensures m e) ∙ passed) (at-move-frame .move-frame .ensures)
 

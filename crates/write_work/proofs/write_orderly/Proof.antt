@@ -43,14 +43,12 @@ plan-of-requires : tie.Need-plan-of-requires
 plan-of-requires c κs =
     let at-region-of = c .before .before .before .before .before .before .before .before in
     let at-cluster-of = at-region-of .before in
-    let start = at-cluster-of .before .before .before .before .before .before .before .before .before in
-    let entry = start in
+    let entry = at-cluster-of .before .before .before .before .before .before .before .before .before in
     (plan-asked _ _ _ (entry .pre) _ (at-region-of .region-of .ensures ∙ ap (regionOf (entry .args .p)) (at-cluster-of .cluster-of .ensures)), marks-full _ _ _ (entry .pre))
 
 make-room-requires : tie.Need-make-room-requires
 make-room-requires c κs =
-    let start = c .before .before .before .before .before .before in
-    let d = start in
+    let d = c .before .before .before .before .before .before in
     let entry = d .before .before .before .before .before .before .before .before .before .before .before .before .before .before .before .before .before .before .before in
     let cluster = d .before .before .before .before .before .before .before .before .before .before .cluster-of .ensures in
     let region = d .before .before .before .before .before .before .before .before .before .region-of .ensures ∙ ap (regionOf (entry .args .p)) cluster in
@@ -59,8 +57,7 @@ make-room-requires c κs =
 find-again-requires : tie.Need-find-again-requires
 find-again-requires c κs =
     let at-make-room = c .before .before .before .before .before .before .before .before .before .before .before .before .before in
-    let start = at-make-room .before .before .before .before .before .before .before in
-    let d = start in
+    let d = at-make-room .before .before .before .before .before .before .before in
     let entry = d .before .before .before .before .before .before .before .before .before .before .before .before .before .before .before .before .before .before .before in
     let cluster = d .before .before .before .before .before .before .before .before .before .before .cluster-of .ensures in
     let region = d .before .before .before .before .before .before .before .before .before .region-of .ensures ∙ ap (regionOf (entry .args .p)) cluster in
@@ -77,8 +74,7 @@ put-cluster-requires : tie.Need-put-cluster-requires
 put-cluster-requires c κs =
     let at-find-again = c .before .before .before .before in
     let at-make-room = at-find-again .before .before .before .before .before .before .before .before .before .before .before .before .before .before in
-    let start = at-make-room .before .before .before .before .before .before .before in
-    let d = start in
+    let d = at-make-room .before .before .before .before .before .before .before in
     let entry = d .before .before .before .before .before .before .before .before .before .before .before .before .before .before .before .before .before .before .before in
     let cluster = d .before .before .before .before .before .before .before .before .before .before .cluster-of .ensures in
     let region = d .before .before .before .before .before .before .before .before .before .region-of .ensures ∙ ap (regionOf (entry .args .p)) cluster in
@@ -89,8 +85,7 @@ keep-marks-requires : tie.Need-keep-marks-requires
 keep-marks-requires c κs =
     let at-find-again = c .before .before .before .before .before .before .before .before .before .before .before .before in
     let at-make-room = at-find-again .before .before .before .before .before .before .before .before .before .before .before .before .before .before in
-    let start = at-make-room .before .before .before .before .before .before .before in
-    let d = start in
+    let d = at-make-room .before .before .before .before .before .before .before in
     let entry = d .before .before .before .before .before .before .before .before .before .before .before .before .before .before .before .before .before .before .before in
     let cluster = d .before .before .before .before .before .before .before .before .before .before .cluster-of .ensures in
     let region = d .before .before .before .before .before .before .before .before .before .region-of .ensures ∙ ap (regionOf (entry .args .p)) cluster in
@@ -104,8 +99,7 @@ answered-requires : tie.Need-answered-requires
 answered-requires c κs =
     let at-make-room = c .before .before .before .before .before .before .before .before .before .before .before .before .before .before
     .before .before .before .before .before .before .before .before .before .before .before .before .before .before .before in
-    let start = at-make-room .before .before .before .before .before .before .before in
-    let d = start in
+    let d = at-make-room .before .before .before .before .before .before .before in
     let entry = d .before .before .before .before .before .before .before .before .before .before .before .before .before .before .before .before .before .before .before in
     let cluster = d .before .before .before .before .before .before .before .before .before .before .cluster-of .ensures in
     let region = d .before .before .before .before .before .before .before .before .before .region-of .ensures ∙ ap (regionOf (entry .args .p)) cluster in
@@ -157,8 +151,7 @@ returns c =
     let at-put-cluster = at-keep-marks .before .before .before .before .before .before .before .before in
     let at-find-again = at-put-cluster .before .before .before .before .before in
     let at-make-room = at-find-again .before .before .before .before .before .before .before .before .before .before .before .before .before .before in
-    let start = at-make-room .before .before .before .before .before .before .before in
-    let d = start in
+    let d = at-make-room .before .before .before .before .before .before .before in
     let entry = d .before .before .before .before .before .before .before .before .before .before .before .before .before .before .before .before .before .before .before in
     let cluster = d .before .before .before .before .before .before .before .before .before .before .cluster-of .ensures in
     let region = d .before .before .before .before .before .before .before .before .before .region-of .ensures ∙ ap (regionOf (entry .args .p)) cluster in
