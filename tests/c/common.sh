@@ -12,7 +12,8 @@ crate=${crate:-cnftl}
 exported="cnftl_api_1 cnftl_format cnftl_queue cnftl_read cnftl_release cnftl_why cnftl_write" # what the archive offers, sorted
 if [ "$(uname -m)" = x86_64 ] || [ -n "${here:-}" ]; then
     cc=gcc cxx=g++ objdump=objdump link=() runner=()
-    archive=$(tools/native "$crate" | tail -n 1)
+    archive=$(tools/native "$crate" 2>"$room/native" | tail -n 1)
+    [ -f "$archive" ] || cat "$room/native"
 else
     # the toolchain brings an emulator; a program without shared libraries needs nothing else
     cc=x86_64-linux-gnu-gcc cxx=x86_64-linux-gnu-g++ objdump=x86_64-linux-gnu-objdump link=(-static)
