@@ -23,6 +23,8 @@
 #include <stdbool.h>
 #include <string.h>
 
+#define BEGUN UINT32_MAX /* in place of a cluster's number */
+
 enum { SPARE = 16, NONE = 65535, FREE = 0, USED = 1, RESERVED = 2, WORDS = 4 };
 enum {
     ACCEPTED, BAD_PARAMETER, WRONG_LENGTH, BAD_COUNT, BAD_ADDRESS, WRONG_DATA,
@@ -129,31 +131,43 @@ static uint64_t word_at(const uint8_t *p)
     return w;
 }
 
-/* Whether all pages of a frame have the spare bytes of the cluster, by words:
-   cluster, place, 255, 0, 255, and then eight times 255. */
-static bool spares_right(const struct board *b, const uint8_t *spare,
-                         uint32_t cluster)
+/* How many pages of a frame, from the first on, have the spare bytes of the
+   cluster, by words: cluster, place, 255, 0, 255, and then eight times 255. */
+static uint32_t spares_right(const struct board *b, const uint8_t *spare,
+                             uint32_t cluster)
 {
     uint64_t right = UINT64_C(0xff00ff0000000000) | cluster;
+    uint32_t place = 0;
 
-    for (uint32_t place = 0; place < b->alpha; place++) {
+    for (; place < b->alpha; place++) {
         if (word_at(spare) != (right | (uint64_t)place << 32)
             || word_at(spare + 8) != UINT64_MAX)
-            return false;
+            break;
         spare += b->page;
     }
-    return true;
+    return place;
+}
+
+/* Whether a frame that begins with so many right pages is whole, or only begun
+   and erased after them. */
+static bool whole_or_begun(const struct board *b, const uint8_t *frame,
+                           uint32_t pages)
+{
+    return pages == b->alpha
+        || (pages > 0 && all_ones(frame + pages * b->page,
+                                  (b->alpha - pages) * b->page));
 }
 
 /* Whether each marked one of a segment's first k frames, with these clusters,
-   is valid; the first frame's mark is the lowest bit. */
+   BEGUN for a frame that is not whole, is valid; the first frame's mark is the
+   lowest bit. */
 static bool marked_valid(const struct board *b, const uint32_t *cluster,
                          uint32_t k, uint32_t segment, uint64_t bits)
 {
     for (uint32_t i = 0; i < k; i++) {
         if (!(bits >> i & 1))
             continue;
-        if (b->ct[cluster[i]] != segment)
+        if (cluster[i] == BEGUN || b->ct[cluster[i]] != segment)
             return false;
         for (uint32_t later = i + 1; later < k; later++)
             if (cluster[later] == cluster[i])
@@ -188,7 +202,7 @@ static uint32_t check_used_block(const struct board *b, uint32_t region,
                                  uint32_t virtual_block, uint32_t block)
 {
     const uint64_t *words = b->marks + words_at(b, region, virtual_block);
-    uint32_t cluster[16], k, held = 0, segment = virtual_block * b->d;
+    uint32_t cluster[16], pages, k, held = 0, segment = virtual_block * b->d;
 
     for (k = 0; k < b->frames; k++) {
         const uint8_t *spare = spare_at(b, block, k);
@@ -196,9 +210,12 @@ static uint32_t check_used_block(const struct board *b, uint32_t region,
 
         if (spare[6] != 0)
             break;
-        if (x >= b->c || x % b->mu != region || !spares_right(b, spare, x))
+        if (x >= b->c || x % b->mu != region)
             return 0;
-        cluster[held++] = x;
+        pages = spares_right(b, spare, x);
+        if (!whole_or_begun(b, spare - b->s, pages))
+            return 0;
+        cluster[held++] = pages == b->alpha ? x : BEGUN;
         if (held == b->beta) {
             if (!marked_valid(b, cluster, held, segment,
                               marks_from(words, k + 1 - held)))
@@ -395,7 +412,8 @@ static struct holder valid_frame(const struct board *b, uint32_t cluster)
     h.virtual_block = segment / b->d;
     block = b->bt[(size_t)(cluster % b->mu) * b->gamma + h.virtual_block];
     h.frame = segment % b->d * b->beta + b->beta - 1;
-    while (cluster_in(spare_at(b, block, h.frame)) != cluster)
+    while (cluster_in(spare_at(b, block, h.frame)
+                      + (b->alpha - 1) * b->page) != cluster)
         h.frame--;
     h.at = frame_at(b, block, h.frame);
     return h;

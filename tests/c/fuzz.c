@@ -674,12 +674,13 @@ static uint8_t *frame_at(uint32_t block, uint32_t frame)
     return chip + block * block_bytes() + frame * frame_bytes();
 }
 
-/* Programs a frame as document 01 says, with random data. */
-static void put_frame(uint32_t block, uint32_t frame, uint32_t cluster)
+/* Programs the first pages of a frame as document 01 says, with random data. */
+static void begin_frame(uint32_t block, uint32_t frame, uint32_t cluster,
+                        uint32_t pages)
 {
     uint8_t *page = frame_at(block, frame);
 
-    for (uint32_t place = 0; place < par.alpha; place++) {
+    for (uint32_t place = 0; place < pages; place++) {
         uint8_t *spare = page + par.s;
 
         fill_random(page, par.s);
@@ -701,6 +702,32 @@ static uint32_t cluster_at(uint32_t block, uint32_t frame)
 
     return spare[0] | (uint32_t)spare[1] << 8 | (uint32_t)spare[2] << 16
          | (uint32_t)spare[3] << 24;
+}
+
+/* Programs all of them. */
+static void put_frame(uint32_t block, uint32_t frame, uint32_t cluster)
+{
+    begin_frame(block, frame, cluster, par.alpha);
+}
+
+/* Programs a frame, or, at times, only its first pages.  Whether it is whole. */
+static bool put_some_frame(uint32_t block, uint32_t frame, uint32_t cluster)
+{
+    uint32_t pages = once_in(6) ? between(1, par.alpha) : par.alpha;
+
+    begin_frame(block, frame, cluster, pages);
+    return pages == par.alpha;
+}
+
+/* Whether a frame is whole and holds a cluster, by its last page. */
+static bool holds_at(uint32_t block, uint32_t frame, uint32_t cluster)
+{
+    const uint8_t *spare = frame_at(block, frame)
+        + (par.alpha - 1) * cnftl_page_bytes(&par) + par.s;
+    uint32_t held = spare[0] | (uint32_t)spare[1] << 8
+        | (uint32_t)spare[2] << 16 | (uint32_t)spare[3] << 24;
+
+    return spare[6] == 0 && held == cluster;
 }
 
 /* Leading programmed frames of a block. */
@@ -795,8 +822,7 @@ static void put_block(uint32_t region, uint32_t virtual_block, uint32_t k)
     for (uint32_t frame = 0; frame < k; frame++) {
         uint32_t cluster = region + par.mu * below(kinds_of);
 
-        put_frame(block, frame, cluster);
-        if (once_in(2))
+        if (put_some_frame(block, frame, cluster) && once_in(2))
             ct[cluster] =
                 (uint16_t)(virtual_block * par.d + frame / par.beta);
     }
@@ -821,7 +847,7 @@ static void shuffle_clusters(uint32_t region, uint32_t *list)
 }
 
 /* Gives a region all of its blocks, full, with a frame of every cluster, each
-   in CT.  Where C is tight, few frames are stale, and those of each block count
+   in CT that has a whole one.  Where C is tight, few frames are stale, and those of each block count
    when the next writes reclaim. */
 static void pack_region(uint32_t region)
 {
@@ -835,8 +861,8 @@ static void pack_region(uint32_t region)
             bt[entry] = (uint16_t)some_block(CNFTL_BLOCK_FREE);
             bst[bt[entry]] = CNFTL_BLOCK_USED;
         }
-        put_frame(bt[entry], i % frames(), list[i]);
-        if (ct[list[i]] == CNFTL_NONE || once_in(2))
+        if (put_some_frame(bt[entry], i % frames(), list[i])
+            && (ct[list[i]] == CNFTL_NONE || once_in(2)))
             ct[list[i]] = (uint16_t)(i / par.beta);
     }
     fst[region] = (uint16_t)(between(1, par.gamma) * par.d - 1);
@@ -886,8 +912,7 @@ static void put_mark(uint32_t cluster)
         return;
     first = segment % par.d * par.beta;
     for (uint32_t frame = first + par.beta; frame-- > first;)
-        if (frame_at(bt[entry], frame)[par.s + 6] == 0
-            && cluster_at(bt[entry], frame) == cluster) {
+        if (holds_at(bt[entry], frame, cluster)) {
             *mark_word(entry, frame) |= mark_bit(frame);
             return;
         }

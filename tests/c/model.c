@@ -236,34 +236,52 @@ static bool frame_erased(const struct view *v, uint32_t block, uint32_t frame)
     return true;
 }
 
-/* "The alpha pages of a frame hold one cluster in order." */
+/* "The alpha pages of a frame hold one cluster in order."  T-07: "A frame with
+   only its first pages programmed counts as programmed"; its others are
+   erased. */
 static bool frame_programmed(const struct view *v, uint32_t block,
                              uint32_t frame)
 {
-    uint32_t cluster = cluster_in(spare_at(v, block, frame, 0));
+    uint32_t cluster = cluster_in(spare_at(v, block, frame, 0)), place = 0;
 
-    for (uint32_t place = 0; place < v->p.alpha; place++) {
-        if (!spare_right(spare_at(v, block, frame, place), cluster, place))
+    while (place < v->p.alpha
+           && spare_right(spare_at(v, block, frame, place), cluster, place))
+        place++;
+    if (place == 0)
+        return false;
+    if (MUTANT(FIRST_PAGE_ONLY))
+        return true;
+    if (place < v->p.alpha && MUTANT(BEGUN_REFUSED))
+        return false;
+    for (; place < v->p.alpha; place++)
+        if (!page_erased(v, block, frame, place))
             return false;
-        if (MUTANT(FIRST_PAGE_ONLY))
-            return true;
-    }
     return true;
 }
 
-/* Whether a frame is programmed, in a block where each frame is programmed
-   or erased (spare byte 6 parts the two). */
+/* Whether a frame is programmed, or begun, in a block where each frame is that
+   or erased (spare byte 6 of its first page parts the two). */
 static bool frame_taken(const struct view *v, uint32_t block, uint32_t frame)
 {
     return spare_at(v, block, frame, 0)[6] == 0;
 }
 
-/* Whether a frame of such a block is programmed and holds this cluster. */
+/* Whether all pages of such a frame are programmed, which its last one tells.
+   T-07: a frame of which only the first are "is never valid and hides no
+   earlier frame". */
+static bool frame_whole(const struct view *v, uint32_t block, uint32_t frame)
+{
+    return spare_at(v, block, frame, v->p.alpha - 1)[6] == 0;
+}
+
+/* Whether a frame of such a block is whole and holds this cluster. */
 static bool frame_holds(const struct view *v, uint32_t block, uint32_t frame,
                         uint32_t cluster)
 {
-    return frame_taken(v, block, frame)
-        && cluster_in(spare_at(v, block, frame, 0)) == cluster;
+    uint32_t place = MUTANT(BEGUN_HIDES) ? 0 : v->p.alpha - 1;
+
+    return spare_at(v, block, frame, place)[6] == 0
+        && cluster_in(spare_at(v, block, frame, place)) == cluster;
 }
 
 /* "A frame is valid if its cluster's CT entry names its segment and no later
@@ -276,8 +294,9 @@ static bool frame_valid(const struct view *v, uint32_t region,
     uint32_t segment = segment_of(&v->p, virtual_block, frame);
     uint32_t first = first_frame_of(&v->p, segment);
 
-    if (!frame_taken(v, block, frame) || cluster >= v->p.c
-        || v->ct[cluster] != segment)
+    if (!(MUTANT(BEGUN_VALID) ? frame_taken(v, block, frame)
+                              : frame_whole(v, block, frame))
+        || cluster >= v->p.c || v->ct[cluster] != segment)
         return false;
     if (MUTANT(FIRST_FRAME)) {
         for (uint32_t g = first; g < frame; g++)
@@ -512,7 +531,7 @@ static bool fst_entries_orderly(const struct view *v)
     return true;
 }
 
-/* Whether a segment of a region holds a programmed frame of a cluster. */
+/* Whether a segment of a region holds a whole frame of a cluster. */
 static bool segment_holds(const struct view *v, uint32_t region,
                           uint32_t segment, uint32_t cluster)
 {
@@ -530,7 +549,8 @@ static bool segment_holds(const struct view *v, uint32_t region,
 }
 
 /* "A CT entry is none or names a segment, in its own region, that holds a
-   programmed frame of that cluster." */
+   programmed frame of that cluster"; T-07: one that is only begun does not
+   count there. */
 static bool ct_entries_orderly(const struct view *v)
 {
     for (uint32_t x = 0; x < v->p.c; x++)

@@ -39,6 +39,7 @@
     X(EMPTY_USED, "orderly: a used block with no frame accepted")              \
     X(REST_NOT_ERASED, "orderly: pages after the last frame not checked")      \
     X(FIRST_PAGE_ONLY, "orderly: only the first page of a frame checked")      \
+    X(BEGUN_REFUSED, "orderly: a frame that is only begun refused")            \
     X(PLACE_BYTE, "orderly: spare byte 4 not checked")                         \
     X(MARK_BYTE, "orderly: spare byte 5 not checked")                          \
     X(TAIL_BYTES, "orderly: spare bytes 7 to 15 not checked")                  \
@@ -67,6 +68,8 @@
     X(FORMAT_KEEPS_FST, "format: FST stays as it was")                         \
     /* read and write */                                                       \
     X(FIRST_FRAME, "read: the first frame of the cluster, not the last")       \
+    X(BEGUN_VALID, "valid: a frame that is only begun may be")                 \
+    X(BEGUN_HIDES, "valid: a frame that is only begun hides an earlier one")   \
     X(READ_PLACE_0, "read: from place 0 of the cluster")                       \
     X(NO_MERGE, "write: sectors not given become 255")                         \
     X(VIRTUAL_HIGHEST, "write: the highest virtual block without a block")     \

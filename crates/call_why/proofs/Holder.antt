@@ -12,7 +12,7 @@ use Rattle.rules.specs.Regions.{view, viewOf}
 use Rattle.rules.specs.Replies.{OrderlyBoard}
 use Rattle.rules.specs.Tables.{Board, btAt, ctAt, none}
 use Rattle.rules.proofs.Admitted.{orderly-region}
-use Rattle.rules.proofs.RegionFacts.{Entry, neat}
+use Rattle.rules.proofs.RegionFacts.{Entry, Neat, neat, neat-fronts}
 use Rattle.rules.proofs.Sizes.{Sizes, sizes}
 use Rattle.rules.proofs.TableFacts.{Tables, tables-in}
 use Rattle.rules.proofs.ValidFrames.{named-valid}
@@ -34,8 +34,11 @@ module _ (p : Params) (b : Board) (h : OrderlyBoard p b) (c : ℕ) (low : c < p 
   unfolding viewOf
   seg-is = rw (eq-eqb (regionOf p c) (regionOf p c) refl)
 
+  tidy : Neat p (regionOf p c) (view p b (regionOf p c))
+  tidy = neat p (regionOf p c) (view p b (regionOf p c)) (orderly-region p b (h .tidy) (regionOf p c) region)
+
   entry : Entry p (view p b (regionOf p c)) c
-  entry = go ((neat p (regionOf p c) (view p b (regionOf p c)) (orderly-region p b (h .tidy) (regionOf p c) region)) .entries c low)
+  entry = go (tidy .entries c low)
     where
       go : ((view p b (regionOf p c)) .segOf c ≡ none) ⊎ Entry p (view p b (regionOf p c)) c → Entry p (view p b (regionOf p c)) c
       go (inl e) = absurd (ne (sym seg-is ∙ e))
@@ -56,7 +59,7 @@ module _ (p : Params) (b : Board) (h : OrderlyBoard p b) (c : ℕ) (low : c < p 
   pub holder-true : HolderTrue p b c
   unfolding holderAt holderOf
   holder-true =
-      let w = named-valid p z (view p b (regionOf p c)) c entry in
+      let w = named-valid p z (regionOf p c) (view p b (regionOf p c)) (neat-fronts tidy) c entry in
       record {
         blockLow = block-low p z b t (regionOf p c) (vblockOf p (ctAt (b .ct) c)) region vblock-low there;
         frameLow = rw (seg-is, body-is) at (entry .held);

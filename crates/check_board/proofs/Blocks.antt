@@ -12,11 +12,12 @@ use borrow.Author.Tests.{ne-eqb}
 use Rattle.lists.proofs.Tests.{and-right, never}
 use Rattle.rules.specs.declared.Params.{Params}
 use Rattle.rules.specs.Orderly.{blockRule}
-use Rattle.rules.specs.Pages.{block, filled, frame, programmed}
+use Rattle.rules.specs.Pages.{block, filled, frame, programmed, whole}
 use Rattle.rules.specs.Parameters.{frames}
 use Rattle.rules.specs.Tables.{bstAt, btAt, none}
 use Rattle.rules.proofs.Frames.{erased-not}
-use Rattle.rules.proofs.RegionFacts.{GoodFrame, UpTo, up-to}
+use Rattle.rules.proofs.RegionFacts.{GoodFrame, UpTo, good-holds, up-to, whole-front}
+use Rattle.rules.proofs.Sizes.{sizes}
 use Rattle.check_tables.specs.Entries.{differs}
 use Rattle.check_rules.specs.Check.{vblockOk}
 use Rattle.check_blocks.proofs.Blocks.{name-low}
@@ -31,6 +32,13 @@ good p r blk h f low e = go (decLt f (filled p blk)) (up-to p r (filled p blk) b
     go : Dec (f < filled p blk) → UpTo p r (filled p blk) blk → GoodFrame p r (frame p blk f)
     go (yes a) u = u .front f a low
     go (no a) u = absurd (never e (erased-not p (frame p blk f) (u .rest f (omega arith) low)))
+
+-- and so is a whole one
+whole-good : (p : Params) (r : ℕ) (blk : List ℕ) → blockRule p r blk ≡ true → (f : ℕ) → f < frames p → whole p (frame p blk f) ≡ true → GoodFrame p r (frame p blk f)
+unfolding blockRule
+whole-good p r blk h f low e =
+    let u = up-to p r (filled p blk) blk (and-right (ltb 0 (filled p blk)) h) in
+    u .front f (whole-front p r (filled p blk) blk u f low e) low
 
 module _ (p : Params) (chip bt bst : List ℕ) (r v : ℕ) (ok : vblockOk p chip bt bst r v ≡ true) where
   pub rule-of-block : (btAt p bt r v ≡ none → ⊥) → blockRule p r (block p chip (btAt p bt r v)) ≡ true
@@ -54,6 +62,7 @@ module _ (p : Params) (chip bt bst : List ℕ) (r v : ℕ) (ok : vblockOk p chip
       mine : (btAt p bt r v ≡ none → ⊥) → Mine p r (block p chip (btAt p bt r v))
       mine ne =
           record {
-            low = λ f h e. (good p r (block p chip (btAt p bt r v)) (rule-of-block ne) f h e) .low;
-            region = λ f h e. (good p r (block p chip (btAt p bt r v)) (rule-of-block ne) f h e) .mine;
+            low = λ f h e. (whole-good p r (block p chip (btAt p bt r v)) (rule-of-block ne) f h e) .low;
+            region = λ f h e. (whole-good p r (block p chip (btAt p bt r v)) (rule-of-block ne) f h e) .mine;
+            kept = λ f h e. let g = whole-good p r (block p chip (btAt p bt r v)) (rule-of-block ne) f h e in (g .on, good-holds p (sizes p (a .lent .fine)) r _ g e);
           }

@@ -5,7 +5,7 @@ use mathlib.Core.Path.{_≡_, ap, refl, sym, _∙_}
 use mathlib.Core.Bool.{not, true}
 use Prim.Native.Nat.{ℕ, _<_}
 use native.Mathlib.Omega.{arith}
-use native.Mathlib.Nat.{div-lt-iff-lt-mul}
+use native.Mathlib.Nat.{div-lt-iff-lt-mul, mod-lt}
 use lib.Dec.{eqb, ltb}
 use borrow.Author.Tests.{eq-eqb, lt-ltb, ltb-true, ne-eqb}
 use Rattle.lists.specs.Below.{allTrue}
@@ -18,7 +18,7 @@ use Rattle.rules.specs.Parameters.{frames}
 use Rattle.rules.specs.Regions.{view, viewOf}
 use Rattle.rules.specs.Tables.{Board, btAt, ctAt, none}
 use Rattle.rules.proofs.Frames.{seg-low, seg-place, seg-vblock}
-use Rattle.rules.proofs.RegionFacts.{Entry, GoodFrame}
+use Rattle.rules.proofs.RegionFacts.{Entry, Fronts, GoodFrame, block-in}
 use Rattle.rules.proofs.Sizes.{Sizes}
 use Rattle.rules.proofs.Victims.{Valid, valid-in, valid-one}
 use Rattle.rules.proofs.ValidFrames.{named-valid}
@@ -96,11 +96,18 @@ module _ (p : Params) (b : Board) (n : Names p b)
       (rw (h .is .names, seg-vblock p z v f (h .low), seg-place p z v f (h .low), h .is .last)
       (and-intro (lt-ltb _ _ (seg-low p z v f (h .low) hv)) (and-intro (assigned-yes p b n r hr v hv (h .block)) (and-intro (lt-ltb _ _ (h .low)) refl))))
 
+  -- the blocks of a region have their first frames programmed
+  fronts : (r : ℕ) → r < p .mu → Fronts p r (view p b r)
+  fronts r hr v hv a = rw (body-is p b n r hr v hv has) ((block-in p r _ (rule r v hr hv has)) .1)
+    where
+      has : btAt p (b .bt) r v ≡ none → ⊥
+      has e = never a (assigned-no p b n r hr v hv e)
+
   -- the frame that the entry of a cluster leads to is marked, and has the cluster
   pub entry-held : (c : ℕ) → Entry p (view p b (regionOf p c)) c
       → (vblockNamed p b c < p .gamma) × (frameNamed p b c < frames p) × (marked p (view p b (regionOf p c)) (vblockNamed p b c) (frameNamed p b c) ≡ true)
       × (clusterIn p b (regionOf p c) (vblockNamed p b c) (frameNamed p b c) ≡ c)
   unfolding marked
   entry-held c e =
-      let w = named-valid p z (view p b (regionOf p c)) c e in
+      let w = named-valid p z (regionOf p c) (view p b (regionOf p c)) (fronts (regionOf p c) (mod-lt c (z .regions))) c e in
       (div-lt-iff-lt-mul (z .segments) .1 (e .low), e .held, and-intro (lt-ltb _ _ (e .held)) (w .0), w .1)

@@ -45,7 +45,7 @@ module _ (p : Params) (chip ct bt marks : List ℕ) (r v : ℕ) (a : CheckAsked 
 
       module _ (blk : List ℕ) (eb : blk ≡ block p chip n) where
         pub one-block : length blk ≡ blockBytes p → OneBlock p blk ct v
-        one-block e = record { fine = a .fine; size = e; ctLength = a .ctLength; low = a .low; clusters = rw eb (named .1 .low) }
+        one-block e = record { fine = a .fine; size = e; ctLength = a .ctLength; low = a .low; clusters = rw eb (named .1 .low); kept = rw eb (named .1 .kept) }
 
         pub shows : Shows p r v blk ct vw
         unfolding viewOf bodyAt

@@ -1,7 +1,7 @@
 -- Each test of `is_valid`, as the rule of validity takes it: of any view that shows the lent bytes; and the search of `is_last`.
 -- Assumes nothing.
 use mathlib.Core.Path.{_≡_, ap, refl, sym, _∙_}
-use mathlib.Core.Bool.{Bool, true, false, _&&_, cond}
+use mathlib.Core.Bool.{Bool, true, false, _&&_, and-false, cond}
 use mathlib.Core.List.{List}
 use Prim.Native.Nat.{ℕ, zero, suc, _+_, _*_, _/_, _≤_, _<_}
 use native.Mathlib.Decide.{decLt, ℕ-discrete}
@@ -17,9 +17,10 @@ use Rattle.rules.specs.declared.Params.{Params}
 use Rattle.rules.specs.Parameters.{frames}
 use Rattle.rules.specs.Numbers.{regionOf, segmentOf}
 use Rattle.rules.specs.Tables.{none, ctAt}
-use Rattle.rules.specs.Pages.{frame, held, holds, programmed, lastIn}
+use Rattle.rules.specs.Pages.{frame, held, holds, lastIn, programmed, whole}
 use Rattle.rules.specs.Regions.{View, valid}
 use Rattle.rules.proofs.Sizes.{Sizes, sizes}
+use Rattle.rules.proofs.FramePut.{last-holds}
 use Rattle.rules.proofs.Frames.{seg-low}
 use Rattle.check_marks.specs.Shown.{HoldsAt, OneFrame, Shows}
 
@@ -36,24 +37,28 @@ module _ (p : Params) (blk ct : List ℕ) (v f : ℕ) (a : OneFrame p blk ct v f
   place-is-low k e = rw e place-low
 
   -- its cluster has an entry in CT
-  pub cluster-low : (fr : List ℕ) → fr ≡ frame p blk f → programmed p fr ≡ true → (c : ℕ) → c ≡ held p fr → c < length ct
+  pub cluster-low : (fr : List ℕ) → fr ≡ frame p blk f → whole p fr ≡ true → (c : ℕ) → c ≡ held p fr → c < length ct
   cluster-low fr is h c e = rw (a .block .ctLength, e, is) (a .block .clusters f (a .low) (rw is at h))
 
   -- it is there that it holds its cluster
-  pub holds-at : (fr : List ℕ) → fr ≡ frame p blk f → programmed p fr ≡ true → (c : ℕ) → c ≡ held p fr → (k : ℕ) → k ≡ f / p .beta → HoldsAt p blk k f c
-  unfolding holds
+  pub holds-at : (fr : List ℕ) → fr ≡ frame p blk f → whole p fr ≡ true → (c : ℕ) → c ≡ held p fr → (k : ℕ) → k ≡ f / p .beta → HoldsAt p blk k f c
   holds-at fr is h c e k at =
-      record { fine = a .block .fine; size = a .block .size; low = a .low; place = at; here = rw (← is, h) (eq-eqb _ _ (sym e)) }
+      record { fine = a .block .fine; size = a .block .size; low = a .low; place = at; here = rw (e, is) ((a .block .kept f (a .low) (rw is at h)) .1) }
 
   module _ (r : ℕ) (vw : View) (s : Shows p r v blk ct vw) (fr : List ℕ) (is : fr ≡ frame p blk f) where
-    pub unprogrammed : programmed p fr ≡ false → false ≡ valid p vw v f
-    unfolding valid
-    unprogrammed h = rw (s .body, ← is, h)
+    -- the last whole frame of a segment is not one that is only begun
+    not-last : (x : ℕ) → whole p fr ≡ false → eqb (lastIn p blk (f / p .beta) x) f ≡ false
+    unfolding holds
+    not-last x h = ne-eqb _ f (λ e. never ((last-holds p z blk (f / p .beta) x (rw e (a .low))) .1) (rw (e, ← is, h)))
 
-    module _ (h : programmed p fr ≡ true) (c : ℕ) (e : c ≡ held p fr) where
+    pub begun : whole p fr ≡ false → false ≡ valid p vw v f
+    unfolding valid
+    begun h = rw (s .body, not-last _ h, and-false, and-false)
+
+    module _ (h : whole p fr ≡ true) (c : ℕ) (e : c ≡ held p fr) where
       valid-is : valid p vw v f ≡ eqb (vw .segOf c) (segmentOf p v f) && eqb (lastIn p blk (f / p .beta) c) f
       unfolding valid
-      valid-is = rw (s .body, ← is, h, ← e)
+      valid-is = rw (s .body, (a .block .kept f (a .low) (rw is at h)) .0, ← is, ← e)
 
       not-here : (x : ℕ) → vw .segOf c ≡ x → (x ≡ segmentOf p v f → ⊥) → false ≡ valid p vw v f
       not-here x w ne = rw (valid-is, w, ne-eqb x (segmentOf p v f) ne)

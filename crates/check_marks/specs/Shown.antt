@@ -10,22 +10,27 @@ use Rattle.lists.specs.Below.{allBelow}
 use Rattle.rules.specs.declared.Params.{Params}
 use Rattle.rules.specs.Parameters.{allowed, frames, blockBytes, chipBytes}
 use Rattle.rules.specs.Numbers.{regionOf}
-use Rattle.rules.specs.Pages.{block, frame, held, holds, programmed}
+use Rattle.rules.specs.Pages.{block, frame, held, holds, programmed, whole}
 use Rattle.rules.specs.Tables.{none, ctAt, btAt, markIndex, marksLength, wordAt}
 use Rattle.rules.specs.Regions.{View, viewOf}
 use Rattle.rules.specs.Marks.{marked}
 
--- this is so of each cluster that a programmed frame of the block holds
-abbrev pub EachHeld : Params → List ℕ → (ℕ → Type 0) → Type 0
-EachHeld p blk is = (f : ℕ) → f < frames p → programmed p (frame p blk f) ≡ true → is (held p (frame p blk f))
+-- this is so of each whole frame of the block
+abbrev pub EachWhole : Params → List ℕ → (List ℕ → Type 0) → Type 0
+EachWhole p blk is = (f : ℕ) → f < frames p → whole p (frame p blk f) ≡ true → is (frame p blk f)
 
--- the bytes of a block, which virtual block v has, and CT; its programmed frames hold clusters of the board
+-- it is programmed from its first page on, and its first page says what its last one says
+abbrev pub Kept : Params → List ℕ → Type 0
+Kept p fr = (programmed p fr ≡ true) × (holds p fr (held p fr) ≡ true)
+
+-- the bytes of a block, which virtual block v has, and CT; its whole frames hold clusters of the board
 pub record OneBlock (p : Params) (blk ct : List ℕ) (v : ℕ) : Type 0 where
   pub fine : allowed p ≡ true
   pub size : length blk ≡ blockBytes p
   pub ctLength : length ct ≡ p .C
   pub low : v < p .gamma
-  pub clusters : EachHeld p blk (λ c. c < p .C)
+  pub clusters : EachWhole p blk (λ fr. held p fr < p .C)
+  pub kept : EachWhole p blk (Kept p)
 
 pub record OneFrame (p : Params) (blk ct : List ℕ) (v f : ℕ) : Type 0 where
   pub block : OneBlock p blk ct v
@@ -39,16 +44,17 @@ pub record HoldsAt (p : Params) (blk : List ℕ) (k f c : ℕ) : Type 0 where
   pub place : k ≡ f / p .beta
   pub here : holds p (frame p blk f) c ≡ true
 
--- virtual block v of the view, which is region r's, has these bytes, its programmed frames hold clusters of that region, and these have their segments in CT
+-- virtual block v of the view, which is region r's, has these bytes, its whole frames hold clusters of that region, and these have their segments in CT
 pub record Shows (p : Params) (r v : ℕ) (blk ct : List ℕ) (vw : View) : Type 0 where
   pub body : vw .body v ≡ blk
   pub segs : (c : ℕ) → vw .segOf c ≡ cond (eqb (regionOf p c) r) (ctAt ct c) none
-  pub mine : EachHeld p blk (λ c. regionOf p c ≡ r)
+  pub mine : EachWhole p blk (λ fr. regionOf p (held p fr) ≡ r)
 
--- the programmed frames of a block hold clusters of region r
+-- the whole frames of a block hold clusters of region r
 pub record Mine (p : Params) (r : ℕ) (blk : List ℕ) : Type 0 where
-  pub low : EachHeld p blk (λ c. c < p .C)
-  pub region : EachHeld p blk (λ c. regionOf p c ≡ r)
+  pub low : EachWhole p blk (λ fr. held p fr < p .C)
+  pub region : EachWhole p blk (λ fr. regionOf p (held p fr) ≡ r)
+  pub kept : EachWhole p blk (Kept p)
 
 -- the lent chip and tables are whole, and the block that BT has for virtual block v of region r is one of that region
 pub record CheckAsked (p : Params) (chip ct bt marks : List ℕ) (r v : ℕ) : Type 0 where

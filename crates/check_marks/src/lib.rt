@@ -73,7 +73,7 @@ fn is_valid(p: Params, blk: &[u8], ct: &[u16], v: VBlock, k: usize, f: usize) ->
     ensures { λ ok. ⌜ ((r : ℕ) (vw : View) → Shows p r (v .0) (now (blk .entry)) (now (ct .entry)) vw → ok ≡ valid p vw (v .0) f) ⌝ }
 {
     let fr = chip_blocks::frame_of(p, blk, f);
-    if !chip_spares::is_programmed(p, fr) {
+    if !chip_spares::is_whole(p, fr) {
         return false;
     }
     let c = chip_spares::cluster_in(p, fr);

@@ -21,7 +21,7 @@ use Rattle.rules.specs.Pages.{block, filled, frame, lastIn, programmed}
 use Rattle.rules.specs.Parameters.{blockBytes, frames}
 use Rattle.rules.specs.Regions.{assigned, bodyAt, view, viewOf}
 use Rattle.rules.specs.Tables.{Board, btAt, ctAt, fstAt, none}
-use Rattle.rules.proofs.Frames.{erased-not, marked-programmed}
+use Rattle.rules.proofs.Frames.{erased-not}
 use Rattle.rules.proofs.RegionFacts.{UpTo, filled-le, up-to}
 use Rattle.rules.proofs.Replays.{block-size}
 use Rattle.rules.proofs.Sizes.{Sizes}
@@ -47,7 +47,7 @@ last-full p z r blk h = go (up-to p r (filled p blk) blk (and-right (ltb 0 (fill
     go : UpTo p r (filled p blk) blk → Dec (filled p blk ≡ frames p) → eqb (filled p blk) (frames p) ≡ programmed p (frame p blk (frames p - 1))
     go u (yes e) =
         rw (eq-eqb (filled p blk) (frames p) e)
-        (sym (marked-programmed p (frame p blk (frames p - 1)) _ ((u .front (frames p - 1) (omega (arith, z .some)) (omega (arith, z .some))) .marks 0 (z .sectors))))
+        (sym ((u .front (frames p - 1) (omega (arith, z .some)) (omega (arith, z .some))) .on))
     go u (no e) =
         rw (ne-eqb (filled p blk) (frames p) e)
         (sym (erased-not p (frame p blk (frames p - 1)) (u .rest (frames p - 1) (omega (arith, z .some, filled-le p blk)) (omega (arith, z .some)))))

@@ -1,7 +1,7 @@
 -- The blocks of the chip and the frames of a block: where they stand, when one is good, and the last in a place that holds a cluster.
 -- Assumes nothing.
 use mathlib.Core.Path.{ap, sym, _∙_, _≡_}
-use mathlib.Core.Bool.{_&&_, Bool, and-true, false}
+use mathlib.Core.Bool.{_&&_, Bool, and-false, and-true, false}
 use mathlib.Core.List.{List}
 use Prim.Native.Nat.{_%_, _*_, _+_, _-_, _/_, _<_, ℕ, _≤_}
 use native.Mathlib.Nat.{mul-le-mul-right}
@@ -15,7 +15,7 @@ use Rattle.lists.specs.Parts.{sameList}
 use Rattle.lists.proofs.Parts.{in-place, next, over-place, under-place}
 use Rattle.rules.specs.declared.Params.{Params}
 use Rattle.rules.specs.Orderly.{goodFrame}
-use Rattle.rules.specs.Pages.{block, frame, held, holds, lastIn, spare, spareBytes}
+use Rattle.rules.specs.Pages.{block, frame, held, holds, lastIn, programmed}
 use Rattle.rules.specs.Parameters.{blockBytes, chipBytes, frameBytes, frames, pageBytes}
 use Rattle.rules.specs.Tables.{none}
 use Rattle.rules.proofs.Sizes.{Sizes}
@@ -50,15 +50,11 @@ frame-lent p blk f w e = lent-part w f blk ∙ rw e
 
 pub good-high : (p : Params) (r : ℕ) (fr : List ℕ) (c : ℕ) → c ≡ held p fr → p .C ≤ c → false ≡ goodFrame p r fr
 unfolding goodFrame allTrue
-good-high p r fr c e h = rw (← e, le-ltb c (p .C) h)
+good-high p r fr c e h = rw (← e, le-ltb c (p .C) h) (sym (and-false (programmed p fr)))
 
 pub good-other : (p : Params) (r : ℕ) (fr : List ℕ) (c : ℕ) → c ≡ held p fr → c < p .C → (c % p .mu ≡ r → ⊥) → false ≡ goodFrame p r fr
 unfolding goodFrame allTrue
-good-other p r fr c e h n = rw (← e, lt-ltb c (p .C) h, ne-eqb (c % p .mu) r n)
-
-pub good-is : (p : Params) (r : ℕ) (fr : List ℕ) (c : ℕ) → c ≡ held p fr → c < p .C → c % p .mu ≡ r → allBelow (p .alpha) (λ j. sameList (spare p fr j) (spareBytes c j)) ≡ goodFrame p r fr
-unfolding goodFrame allTrue
-good-is p r fr c e h n = rw (← e, lt-ltb c (p .C) h, eq-eqb (c % p .mu) r n, and-true)
+good-other p r fr c e h n = rw (← e, lt-ltb c (p .C) h, ne-eqb (c % p .mu) r n) (sym (and-false (programmed p fr)))
 
 -- ---- the last frame of a place
 

@@ -16,40 +16,14 @@ use borrow.Author.Tests.{lt-ltb, ltb-true, ne-eqb}
 use Rattle.lists.specs.Below.{allBelow}
 use Rattle.lists.specs.Parts.{allAre, part}
 use Rattle.lists.proofs.Tests.{all-at, and-left, and-right, never, so}
-use Rattle.loops.proofs.Elements.{parts-fail, parts-more, part-from}
+use Rattle.chip_blocks.proofs.Rest.{parts-back, parts-from}
 use Rattle.rules.specs.declared.Params.{Params}
 use Rattle.rules.specs.Orderly.{blockRule, goodFrame}
 use Rattle.rules.specs.Pages.{filled, frame}
 use Rattle.rules.specs.Parameters.{blockBytes, frameBytes, frames}
-use Rattle.rules.proofs.Frames.{erased-not, marked-programmed}
+use Rattle.rules.proofs.Frames.{erased-not}
 use Rattle.rules.proofs.RegionFacts.{GoodFrame, UpTo, filled-le, good-frame, good-frame-back, up-to, up-to-back, up-to-filled}
 use Rattle.rules.proofs.Sizes.{Sizes}
-
--- ---- the parts from one on
-
--- where everything from part k on is x, so is each part from there on
-parts-from : (x w k : ℕ) (l : List ℕ) → allAre x (drop (k * w) l) ≡ true → (i : ℕ) → k ≤ i → allAre x (part w i l) ≡ true
-parts-from x w k l h i le = go (so (allAre x (part w i l)))
-  where
-    go : (allAre x (part w i l) ≡ true) ⊎ (allAre x (part w i l) ≡ false) → allAre x (part w i l) ≡ true
-    go (inl e) = e
-    go (inr e) =
-        let at : k + (i - k) ≡ i = omega arith in
-        absurd (never h (sym (parts-fail x w (i - k) (drop (k * w) l) (rw (part-from w k (i - k) l, at) e))))
-
--- and back, where there are n parts
-parts-upto : (x w n : ℕ) (l : List ℕ) → ((i : ℕ) → i < n → allAre x (part w i l) ≡ true) → allAre x (take (n * w) l) ≡ true
-unfolding allAre
-parts-upto x w zero l h = rw (zero-mul w)
-parts-upto x w (suc n) l h =
-    let e : n + 1 ≡ suc n = omega arith in
-    rw e at (parts-more x w n l (parts-upto x w n l (λ i a. h i (omega arith))) (h n (omega arith)))
-
-parts-back : (x w k n : ℕ) (l : List ℕ) → k ≤ n → length l ≡ n * w → ((i : ℕ) → k ≤ i → i < n → allAre x (part w i l) ≡ true) → allAre x (drop (k * w) l) ≡ true
-parts-back x w k n l le size h =
-    let up = parts-upto x w (n - k) (drop (k * w) l) (λ i a. rw (part-from w k i l) (h (k + i) (omega arith) (omega arith))) in
-    let e : n * w ≡ k * w + (n - k) * w = rw (← (add-mul k (n - k) w)) (ap (λ (m : ℕ). m * w) (omega arith)) in
-    rw (take-all ((n - k) * w) (drop (k * w) l) (rw length-drop (omega (arith, size, e)))) at up
 
 -- ---- the good frames
 
@@ -66,7 +40,7 @@ module _ (p : Params) (z : Sizes p) (r : ℕ) (blk : List ℕ) (size : length bl
       go : UpTo p r (filled p blk) blk → Dec (filled p blk < k) → Dec (k < filled p blk) → filled p blk ≡ k
       go u (yes a) b =
           absurd
-          (never (marked-programmed p (frame p blk (filled p blk)) _ ((good-at (filled p blk) a) .marks 0 (z .sectors)))
+          (never ((good-at (filled p blk) a) .on)
           (erased-not p (frame p blk (filled p blk)) (u .rest (filled p blk) (omega arith) (omega arith))))
       go u (no a) (yes b) =
           let in-block : k < frames p = omega (arith, filled-le p blk) in

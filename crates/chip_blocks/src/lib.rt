@@ -4,9 +4,9 @@ ghost use mathlib.Core.Bool.{cond, false, true};
 ghost use Prim.Native.Nat.{ℕ, _*_, _-_, _≤_, _<_};
 ghost use lib.ListN.{drop, length};
 ghost use Rattle.lists.specs.Below.{allBelow};
-ghost use Rattle.lists.specs.Parts.{allAre};
+ghost use Rattle.lists.specs.Parts.{allAre, sameList};
 ghost use Rattle.rules.specs.Parameters.{allowed, frames, frameBytes, blockBytes, chipBytes};
-ghost use Rattle.rules.specs.Pages.{block, frame, programmed, holds, filled, lastIn, programmedDownTo};
+ghost use Rattle.rules.specs.Pages.{block, frame, programmed, holds, filled, lastIn, programmedDownTo, spare, spareBytes};
 ghost use Rattle.rules.specs.Orderly.{goodFrame, blockRule};
 ghost use Rattle.chip_blocks.specs.First.{FirstFrames};
 use rules::Cluster;
@@ -41,7 +41,26 @@ pub fn frame_of(p: Params, blk: &[u8], f: usize) -> &[u8]
     &blk[a..b]
 }
 
-// True if a frame is as programming leaves it, with a cluster of region r.
+// How many pages of a frame, from the first on, have the spare bytes of cluster c: up to the first that has not.
+fn marked_pages(p: Params, fr: &[u8], c: Cluster) -> usize
+    requires { ⌜ allowed p ≡ true ⌝ }
+    requires { ⌜ length (now fr) ≡ frameBytes p ⌝ }
+    ensures { λ k. ⌜ k ≤ p .alpha ⌝ }
+    ensures { λ k. ⌜ allBelow k (λ j. sameList (spare p (now (fr .entry)) j) (spareBytes (c .0) j)) ≡ true ⌝ }
+    ensures { λ k. ⌜ (k < p .alpha → sameList (spare p (now (fr .entry)) k) (spareBytes (c .0) k) ≡ false) ⌝ }
+{
+    let m = p.alpha;
+    let mut j = 0;
+    while j < m {
+        if !chip_spares::is_marked(p, fr, c, j) {
+            return j;
+        }
+        j += 1;
+    }
+    j
+}
+
+// True if a frame is as programming leaves it, whole or in its first pages, with a cluster of region r.
 fn good_frame(p: Params, r: usize, fr: &[u8]) -> bool
     requires { ⌜ allowed p ≡ true ⌝ }
     requires { ⌜ length (now fr) ≡ frameBytes p ⌝ }
@@ -54,27 +73,27 @@ fn good_frame(p: Params, r: usize, fr: &[u8]) -> bool
     if rules::region_of(p, c) != r {
         return false;
     }
-    let m = p.alpha;
-    let mut j = 0;
-    while j < m {
-        if !chip_spares::is_marked(p, fr, c, j) {
-            return false;
-        }
-        j += 1;
+    let m = marked_pages(p, fr, c);
+    if m == p.alpha {
+        return true;
     }
-    true
+    if m == 0 {
+        return false;
+    }
+    let a = m * chip_sizes::page_bytes(p);
+    chip_erased::is_erased(&fr[a..])
 }
 
-// True if a frame holds cluster c. Its number is looked at first: where many frames are asked, most hold another.
+// True if a whole frame holds cluster c, by its last page. Its number is looked at first: where many frames are asked, most hold another.
 pub fn holds(p: Params, fr: &[u8], c: Cluster) -> bool
     requires { ⌜ allowed p ≡ true ⌝ }
     requires { ⌜ length (now fr) ≡ frameBytes p ⌝ }
     ensures { λ ok. ⌜ ok ≡ holds p (now (fr .entry)) (c .0) ⌝ }
 {
-    if chip_spares::cluster_in(p, fr).0 != c.0 {
+    if chip_spares::last_cluster(p, fr).0 != c.0 {
         return false;
     }
-    chip_spares::is_programmed(p, fr)
+    chip_spares::is_whole(p, fr)
 }
 
 // How many frames of the block are programmed.

@@ -1,9 +1,9 @@
 -- The spare areas of a frame, byte by byte, and where they stand in the frame.
 -- Assumes nothing.
-use mathlib.Core.Path.{_≡_}
+use mathlib.Core.Path.{_≡_, ap, _∙_}
 use mathlib.Core.List.{List, [], _∷_}
 use Prim.Native.Nat.{_*_, _+_, _-_, _<_, suc, zero, ℕ, _≤_}
-use native.Mathlib.Nat.{add-zero, suc-add, zero-add, zero-mul}
+use native.Mathlib.Nat.{add-mul, add-zero, one-mul, suc-add, zero-add, zero-mul}
 use native.Mathlib.Omega.{arith}
 use lib.Dec.{eqb}
 use lib.ListN.{drop, getD, length, take}
@@ -11,7 +11,7 @@ use lib.Seq.{drop-drop, getD-drop, getD-take, take-nil}
 use Rattle.lists.specs.Parts.{part}
 use Rattle.lists.proofs.Parts.{next}
 use Rattle.rules.specs.declared.Params.{Params}
-use Rattle.rules.specs.Pages.{held, le32, page, programmed, spare}
+use Rattle.rules.specs.Pages.{held, le32, page, pageUsed, programmed, spare, whole}
 use Rattle.rules.specs.Parameters.{frameBytes, pageBytes}
 use Rattle.loops.proofs.Elements.{default}
 use Rattle.loops.proofs.Lent.{lent}
@@ -40,8 +40,32 @@ held-is p fr = rw (four-bytes (p .s) fr, spare-at p fr 0 0 (omega arith), spare-
 
 -- whether it is programmed, from byte 6
 pub programmed-is : (p : Params) (fr : List ℕ) → p .s + 6 < length fr → programmed p fr ≡ eqb (getD fr (p .s + 6) 0) 0
-unfolding programmed
+unfolding programmed pageUsed
 programmed-is p fr h = rw (spare-at p fr 6 255 (omega arith), default fr (p .s + 6) 255 0 h)
+
+-- the spare area of the last page is the end of the frame
+module _ (p : Params) (fr : List ℕ) (some : 0 < p .alpha) (size : length fr ≡ frameBytes p) where
+  pub last-fits : 16 ≤ length fr
+  unfolding frameBytes pageBytes
+  last-fits = omega (arith, size, next (p .s + 16) 0 (p .alpha) some)
+
+  last-at : (p .alpha - 1) * pageBytes p + p .s ≡ length fr - 16
+  unfolding frameBytes pageBytes
+  last-at =
+      let n : p .alpha ≡ p .alpha - 1 + 1 = omega arith in
+      let e : p .alpha * (p .s + 16) ≡ (p .alpha - 1) * (p .s + 16) + 1 * (p .s + 16) = ap (λ (m : ℕ). m * (p .s + 16)) n ∙ add-mul (p .alpha - 1) 1 (p .s + 16) in
+      omega (arith, size, e, one-mul (p .s + 16))
+
+  end-at : (k z : ℕ) → k < 16 → getD (spare p fr (p .alpha - 1)) k z ≡ getD fr (length fr - 16 + k) z
+  end-at k z h = rw (spare-is, getD-take 16 _ k z h, drop-drop, getD-drop, last-at)
+
+  pub last-held : le32 (spare p fr (p .alpha - 1)) ≡ le32 (drop (length fr - 16) fr)
+  unfolding le32
+  last-held = rw (four-bytes (length fr - 16) fr, end-at 0 0 (omega arith), end-at 1 0 (omega arith), end-at 2 0 (omega arith), end-at 3 0 (omega arith), add-zero)
+
+  pub whole-is : whole p fr ≡ eqb (getD fr (length fr - 16 + 6) 0) 0
+  unfolding whole pageUsed
+  whole-is = rw (end-at 6 255 (omega arith), default fr (length fr - 16 + 6) 255 0 (omega (arith, last-fits)))
 
 -- a frame has at least its first page
 pub first-page : (p : Params) → 0 < p .alpha → p .s + 16 ≤ frameBytes p

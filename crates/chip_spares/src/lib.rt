@@ -1,11 +1,11 @@
 // The spare bytes of a page: what a program writes there, and what those of a frame say.
 ghost use mathlib.Core.Path.{_≡_};
 ghost use mathlib.Core.Bool.{true};
-ghost use Prim.Native.Nat.{_+_, _<_, _≤_};
+ghost use Prim.Native.Nat.{_+_, _-_, _<_, _≤_};
 ghost use lib.ListN.{length, drop};
 ghost use Rattle.lists.specs.Parts.{sameList};
 ghost use Rattle.rules.specs.Parameters.{allowed, frameBytes};
-ghost use Rattle.rules.specs.Pages.{le32, spare, spareBytes, held, programmed};
+ghost use Rattle.rules.specs.Pages.{le32, spare, spareBytes, held, programmed, whole};
 ghost use Rattle.chip_spares.specs.Words.{le};
 use rules::Cluster;
 use rules::Params;
@@ -89,6 +89,27 @@ pub fn is_programmed(p: Params, frame: &[u8]) -> bool
     ensures { λ ok. ⌜ ok ≡ programmed p (now (frame .entry)) ⌝ }
 {
     let a = p.s + 6;
+    frame[a] == 0
+}
+
+// The cluster that a frame's last page names. Its spare area is the end of the frame.
+pub fn last_cluster(p: Params, frame: &[u8]) -> Cluster
+    requires { ⌜ allowed p ≡ true ⌝ }
+    requires { ⌜ length (now frame) ≡ frameBytes p ⌝ }
+    ensures { λ c. ⌜ c .0 ≡ le32 (spare p (now (frame .entry)) (p .alpha - 1)) ⌝ }
+{
+    let a = frame.len() - rules::SPARE_BYTES;
+    let n = half(frame, a);
+    Cluster(n)
+}
+
+// True if a frame is whole: its last page is programmed.
+pub fn is_whole(p: Params, frame: &[u8]) -> bool
+    requires { ⌜ allowed p ≡ true ⌝ }
+    requires { ⌜ length (now frame) ≡ frameBytes p ⌝ }
+    ensures { λ ok. ⌜ ok ≡ whole p (now (frame .entry)) ⌝ }
+{
+    let a = frame.len() - rules::SPARE_BYTES + 6;
     frame[a] == 0
 }
 

@@ -36,10 +36,11 @@ use Rattle.rules.proofs.Continues.{Makes}
 use Rattle.rules.proofs.Frames.{erased-not}
 use Rattle.rules.proofs.FramePut.{Sheet}
 use Rattle.rules.proofs.NewFrames.{host-sheet}
-use Rattle.rules.proofs.RegionFacts.{Neat, neat}
+use Rattle.rules.proofs.RegionFacts.{Neat, neat, good-all}
 use Rattle.rules.proofs.Replays.{one-fits}
 use Rattle.rules.proofs.Sizes.{Sizes}
 use Rattle.rules.proofs.TableFacts.{Tables}
+use Rattle.rules.proofs.ValidFrames.{valid-holds}
 use Rattle.rules.proofs.Victims.{Valid, valid-in}
 use Rattle.rules.proofs.Views.{block-low, body-size, has-block}
 use Rattle.rules.proofs.Words.{spares-exactly}
@@ -115,7 +116,7 @@ module _ (p : Params) (z : Sizes p) (b : Board) (t : Tables p b) (r : ℕ) (regi
                     (one-fits p ((view p b r) .body v) f (body-size p z b t r v region mine a) h);
                 cluster = held p (frame p ((view p b r) .body v) f);
                 low = g .low;
-                marks = g .marks;
+                marks = good-all p z r (frame p ((view p b r) .body v) f) g _ (valid-holds p z (view p b r) v f h w);
               }
           pick (no k) = absurd (never (w .written) (erased-not p _ ((nt .blocks v mine a) .1 .rest f (omega arith) h)))
 

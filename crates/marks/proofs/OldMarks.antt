@@ -17,7 +17,7 @@ use Rattle.rules.specs.Parameters.{frames}
 use Rattle.rules.specs.Regions.{View, valid}
 use Rattle.rules.specs.Tables.{none}
 use Rattle.rules.proofs.Frames.{seg-low}
-use Rattle.rules.proofs.RegionFacts.{Entry}
+use Rattle.rules.proofs.RegionFacts.{Entry, Fronts}
 use Rattle.rules.proofs.Sizes.{Sizes}
 use Rattle.rules.proofs.Victims.{Valid, valid-in, valid-one}
 use Rattle.rules.proofs.ValidFrames.{named-valid}
@@ -34,13 +34,13 @@ module _ (p : Params) (z : Sizes p) (vw : View) (r c : ℕ) (m : Marks) where
   unfolding marked
   marked-in v f e = (ltb-true f (frames p) (and-left (ltb f (frames p)) _ e), valid-in p vw v f (and-right (ltb f (frames p)) e))
 
-  pub old-cleared : (vw .segOf c ≡ none) ⊎ Entry p vw c → (v f : ℕ) → v < p .gamma → m r v f ≡ marked p vw v f
+  pub old-cleared : Fronts p r vw → (vw .segOf c ≡ none) ⊎ Entry p vw c → (v f : ℕ) → v < p .gamma → m r v f ≡ marked p vw v f
       → withoutOld p vw r c m r v f ≡ marked p vw v f && not (eqb (held p (frame p (vw .body v) f)) c)
   unfolding withoutOld putMark
-  old-cleared (inl e) v f low is =
+  old-cleared fs (inl e) v f low is =
       rw e (is ∙ apart (marked p vw v f) (held p (frame p (vw .body v) f)) c (λ t h.
       let w = marked-in v f t in omega (arith, seg-low p z v f (w .0) low, z .few, sym (w .1 .names) ∙ ap (vw .segOf) h ∙ e)))
-  old-cleared (inr e) v f low is = rw (ne-eqb (vw .segOf c) none (λ x. omega (arith, e .low, z .few)), eq-eqb r r refl) (go (ℕ-discrete v at) (ℕ-discrete f last))
+  old-cleared fs (inr e) v f low is = rw (ne-eqb (vw .segOf c) none (λ x. omega (arith, e .low, z .few)), eq-eqb r r refl) (go (ℕ-discrete v at) (ℕ-discrete f last))
     where
       at : ℕ
       at = vblockOf p (vw .segOf c)
@@ -49,7 +49,7 @@ module _ (p : Params) (z : Sizes p) (vw : View) (r c : ℕ) (m : Marks) where
       last = lastIn p (vw .body at) (placeOf p (vw .segOf c)) c
 
       named : (valid p vw at last ≡ true) × (held p (frame p (vw .body at) last) ≡ c)
-      named = named-valid p z vw c e
+      named = named-valid p z r vw fs c e
 
       else : (v ≡ at → f ≡ last → ⊥) → m r v f ≡ marked p vw v f && not (eqb (held p (frame p (vw .body v) f)) c)
       else ne =

@@ -19,7 +19,7 @@ use Rattle.rules.specs.Replies.{replyOf}
 use Rattle.rules.specs.Requests.{release}
 use Rattle.rules.specs.Tables.{Board}
 use Rattle.rules.proofs.Admitted.{ReleaseAdmitted, orderly-region, release-admitted}
-use Rattle.rules.proofs.RegionFacts.{Neat, neat}
+use Rattle.rules.proofs.RegionFacts.{Neat, neat, neat-fronts}
 use Rattle.rules.proofs.Releases.{release-valid, released-else}
 use Rattle.rules.proofs.Sizes.{Sizes, sizes}
 use Rattle.marks.specs.Kept.{withoutOld}
@@ -54,7 +54,7 @@ module _ (p : Params) (b : Board) (c : ℕ) (e : replyOf p b (release c) ≡ Acc
   mark-at r′ v f low = go (ℕ-discrete r′ r)
     where
       go : Dec (r′ ≡ r) → marksOn p (released p b c) r′ v f ≡ withoutOld p (view p b r) r c (marksOn p b) r′ v f
-      go (yes k) = rw (k, old-cleared p z (view p b r) r c (marksOn p b) (tidy .entries c (acc .cluster)) v f low refl) (mark-here v f low)
+      go (yes k) = rw (k, old-cleared p z (view p b r) r c (marksOn p b) (neat-fronts tidy) (tidy .entries c (acc .cluster)) v f low refl) (mark-here v f low)
       go (no k) = rw (released-else p b c r′ (λ x. k (sym x))) (sym (old-elsewhere p z (view p b r) r c (marksOn p b) r′ v f k))
 
   pub released-marks : marksOf p (released p b c) ≡ tableOf p (withoutOld p (view p b (regionOf p c)) (regionOf p c) c (marksOn p b))

@@ -16,6 +16,7 @@ use Rattle.rules.proofs.Admitted.{Admitted, admitted, write-checks}
 use Rattle.rules.proofs.Continues.{Makes}
 use Rattle.rules.proofs.FramePut.{Sheet}
 use Rattle.rules.proofs.NewFrames.{host-sheet}
+use Rattle.rules.proofs.RegionKept.{base-fronts}
 use Rattle.rules.proofs.RegionFacts.{Neat, neat}
 use Rattle.rules.proofs.Views.{body-size}
 use Rattle.rules.proofs.WritePromise.{makes, write-promise}
@@ -63,7 +64,8 @@ module _ (p : Params) (b : Board) (q : Request) (e : replyOf p b (write q) ≡ A
             k,
             (write-promise p b q e) .own,
             eq-eqb r r refl,
-            old-cleared p (acc .sized) (withRoom p vw pl) r (requestCluster p q) (roomMarks p vw r pl (marksOn p b)) (makes-room .base .entries (requestCluster p q) (acc .asked .cluster)) v f low
+            old-cleared p (acc .sized) (withRoom p vw pl) r (requestCluster p q) (roomMarks p vw r pl (marksOn p b))
+                (base-fronts p (acc .sized) r (withRoom p vw pl) (planVBlock pl) (planFrame p vw pl) (makes-room .base)) (makes-room .base .entries (requestCluster p q) (acc .asked .cluster)) v f low
                 (room-marks p (acc .sized) b (acc .tables) r region tidy (marksOn p b) v f refl),
           )
           (unfold viewAfter in frame-marks p (acc .sized) (withRoom p vw pl) (planVBlock pl) (planFrame p vw pl) (requestCluster p q) (newFrame p vw q) (makes-room .base .ready) sheet v f)

@@ -22,6 +22,7 @@ use Rattle.rules.specs.declared.Reply.the-variants.{Accepted}
 use Rattle.rules.specs.Parameters.{blockBytes, frameBytes, frames, pageBytes, pages}
 use Rattle.rules.specs.Tables.{Board, bstAt, btAt, btEntry, none}
 use Rattle.rules.specs.Pages.{block, bytes32, frame, page, spare, spareBytes}
+use Rattle.rules.specs.Orderly.{usedPages}
 use Rattle.rules.specs.Regions.{assigned, view}
 use Rattle.rules.specs.Format.{bad, badMark, formatted}
 use Rattle.rules.specs.Write.{Plan, planOf, written}
@@ -31,7 +32,7 @@ use Rattle.rules.proofs.Admitted.{Admitted, admitted, format-admitted, 
 use Rattle.rules.proofs.Continues.{Makes}
 use Rattle.rules.proofs.FormatPromise.{format-bad, format-good}
 use Rattle.rules.proofs.Opens.{fresh-all, fresh-size}
-use Rattle.rules.proofs.RegionFacts.{UpTo, neat}
+use Rattle.rules.proofs.RegionFacts.{GoodFrame, UpTo, neat}
 use Rattle.rules.proofs.Replays.{block-size}
 use Rattle.rules.proofs.Sizes.{Sizes, sizes, some-page}
 use Rattle.rules.proofs.TableFacts.{Tables, tables-in}
@@ -71,7 +72,11 @@ module _ (p : Params) (blk : List ℕ) (whole : length blk ≡ blockBytes p) whe
   frame-fifth r k u f j lf lj h = go (decLt f k)
     where
       go : Dec (f < k) → getD (spare p blk (f * p .alpha + j)) 5 0 ≡ 255
-      go (yes a) = rw (← frame-spare f j lj, (u .front f a lf) .marks j lj) (unfold spareBytes bytes32 in refl)
+      go (yes a) = used (u .front f a lf) (decLt j (usedPages p (frame p blk f)))
+        where
+          used : GoodFrame p r (frame p blk f) → Dec (j < usedPages p (frame p blk f)) → getD (spare p blk (f * p .alpha + j)) 5 0 ≡ 255
+          used g (yes m) = rw (← frame-spare f j lj, g .marks j m lj) (unfold spareBytes bytes32 in refl)
+          used g (no m) = erased-fifth (f * p .alpha + j) h (rw (← frame-spare f j lj) (unfold spare in allAre-drop 255 (p .s) _ (g .blank j (omega arith) lj)))
       go (no a) = erased-fifth (f * p .alpha + j) h (rw (← frame-spare f j lj)
           (unfold spare page in allAre-drop 255 (p .s) _ (allAre-part 255 (pageBytes p) j (frame p blk f) (u .rest f (omega arith) lf))))
 

@@ -7,7 +7,7 @@ use mathlib.Core.List.{List, [], _∷_}
 use Rattle.lists.specs.Parts.{sameList}
 use Rattle.lists.proofs.Tests.{and-left, and-right}
 use Rattle.lists.proofs.Joins.{sameList→eq}
-use Rattle.rules.specs.BoardT.{sessionT, outputT, markedCases, asSaid, sameLists}
+use Rattle.rules.specs.BoardT.{sessionT, outputT, markedCases, asSaid, begunCases, begunSaid, sameLists}
 use Rattle.rules.proofs.Names.{all-boardT}
 
 sameLists→eq : (x y : List (List ℕ)) → sameLists x y ≡ true → x ≡ y
@@ -25,6 +25,14 @@ marked-test = refl
 -- (a) to (j)
 pub marked-cases : markedCases ≡ asSaid
 marked-cases = sameLists→eq markedCases asSaid marked-test
+
+begun-test : sameLists begunCases begunSaid ≡ true
+unfolding all-boardT
+begun-test = refl
+
+-- T-07: a board with a frame that is only begun
+pub begun-case : begunCases ≡ begunSaid
+begun-case = sameLists→eq begunCases begunSaid begun-test
 
 session-test : sameLists sessionT outputT ≡ true
 unfolding all-boardT

@@ -18,10 +18,10 @@ use Rattle.rules.specs.declared.Params.{Params}
 use Rattle.rules.specs.Parameters.{blockBytes, frameBytes, frames}
 use Rattle.rules.specs.Numbers.{placeOf, segmentOf, vblockOf}
 use Rattle.rules.specs.Tables.{none}
-use Rattle.rules.specs.Pages.{frame, held, holds, lastIn, page, programmed, spare, spareBytes}
+use Rattle.rules.specs.Pages.{frame, held, holds, lastIn, page, spare, spareBytes, whole}
 use Rattle.rules.specs.Regions.{View, frameOf, sectorIn}
 use Rattle.rules.specs.Machine.{withFrame}
-use Rattle.rules.proofs.Frames.{erased-not, marked-held, marked-programmed, seg-low, seg-place, seg-vblock}
+use Rattle.rules.proofs.Frames.{erased-holds, marked-cluster, marked-held, marked-used, seg-low, seg-place, seg-vblock}
 use Rattle.rules.proofs.Sizes.{Sizes}
 
 -- frame f of virtual block v is the next to be written
@@ -36,6 +36,21 @@ pub record Sheet (p : Params) (c : ℕ) (x : List ℕ) : Type 0 where
   pub whole : length x ≡ frameBytes p
   pub small : c < 4294967296
   pub marked : (j : ℕ) → j < p .alpha → spare p x j ≡ spareBytes c j
+
+module _ (p : Params) (z : Sizes p) (c : ℕ) (x : List ℕ) (sheet : Sheet p c x) where
+  pub sheet-held : held p x ≡ c
+  sheet-held = marked-held p x c (sheet .marked 0 (z .sectors)) (sheet .small)
+
+  last-page : p .alpha - 1 < p .alpha
+  last-page = omega (arith, z .sectors)
+
+  pub sheet-holds : (d : ℕ) → holds p x d ≡ eqb c d
+  unfolding holds whole
+  sheet-holds d =
+      rw (
+        marked-used p x (p .alpha - 1) c (sheet .marked (p .alpha - 1) last-page),
+        marked-cluster p x (p .alpha - 1) c (sheet .marked (p .alpha - 1) last-page) (sheet .small),
+      )
 
 -- the cluster's CT entry, if any, names a segment that holds it
 unfoldable pub Named : Params → View → ℕ → Type 0
@@ -64,17 +79,11 @@ module _ (p : Params) (z : Sizes p) (vw : View) (v f c : ℕ) (x : List ℕ) (re
 
   -- the written cluster's last frame in its place is the written one
   pub last-new : lastIn p ((withFrame p vw v f c x) .body v) (f / p .beta) c ≡ f
-  unfolding lastIn holds
+  unfolding lastIn
   last-new =
       last-is none (frames p) _ f (ready .low)
-      (rw (
-        frame-new,
-        eq-eqb (f / p .beta) (f / p .beta) refl,
-        marked-programmed p x c (sheet .marked 0 (z .sectors)),
-        eq-eqb (held p x) c
-            (marked-held p x c (sheet .marked 0 (z .sectors)) (sheet .small)),
-      ))
-      (λ g a b. rw (frame-old g (omega arith), erased-not p (frame p (vw .body v) g) (ready .rest g (omega arith) b)) (none-pass (eqb (g / p .beta) (f / p .beta))))
+      (rw (frame-new, eq-eqb (f / p .beta) (f / p .beta) refl, sheet-holds p z c x sheet c, eq-eqb c c refl))
+      (λ g a b. rw (frame-old g (omega arith), erased-holds p (frame p (vw .body v) g) c (ready .rest g (omega arith) b)) (none-pass (eqb (g / p .beta) (f / p .beta))))
     where
       none-pass : (t : Bool) → t && false ≡ false
       none-pass true = refl
@@ -87,13 +96,7 @@ module _ (p : Params) (z : Sizes p) (vw : View) (v f c : ℕ) (x : List ℕ) (re
     where
       go : Dec (g ≡ f) → holds p (frame p ((withFrame p vw v f c x) .body v) g) c′ ≡ holds p (frame p (vw .body v) g) c′
       go (yes e) =
-          rw (
-            e,
-            frame-new,
-            erased-not p (frame p (vw .body v) f) (ready .rest f (omega arith) (ready .low)),
-            marked-programmed p x c (sheet .marked 0 (z .sectors)),
-            ne-eqb (held p x) c′ (λ k. ne (sym k ∙ marked-held p x c (sheet .marked 0 (z .sectors)) (sheet .small))),
-          )
+          rw (e, frame-new, erased-holds p (frame p (vw .body v) f) c′ (ready .rest f (omega arith) (ready .low)), sheet-holds p z c x sheet c′) (ne-eqb c c′ (λ k. ne (sym k)))
       go (no e) = rw (frame-old g e)
 
   pub last-old : (c′ : ℕ) → (c′ ≡ c → ⊥) → (k : ℕ) → lastIn p ((withFrame p vw v f c x) .body v) k c′ ≡ lastIn p (vw .body v) k c′
@@ -130,7 +133,7 @@ module _ (p : Params) (z : Sizes p) (vw : View) (v f c : ℕ) (x : List ℕ) (re
   unfolding holds
   frames-differ k c′ h e =
       let t : holds p (frame p (vw .body v) f) c′ ≡ true = rw e at ((last-holds p z (vw .body v) k c′ h) .1) in
-      never (and-left (programmed p (frame p (vw .body v) f)) _ t) (erased-not p (frame p (vw .body v) f) (ready .rest f (omega arith) (ready .low)))
+      never t (erased-holds p (frame p (vw .body v) f) c′ (ready .rest f (omega arith) (ready .low)))
 
   same-frame : (c′ : ℕ) → (c′ ≡ c → ⊥) → (u k : ℕ) → lastIn p (vw .body u) k c′ < frames p
       → frame p ((withFrame p vw v f c x) .body u) (lastIn p ((withFrame p vw v f c x) .body u) k c′) ≡ frame p (vw .body u) (lastIn p (vw .body u) k c′)

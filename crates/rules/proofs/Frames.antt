@@ -4,16 +4,16 @@ use mathlib.Core.Path.{_≡_, sym, ap, _∙_}
 use Prim.Native.Nat.{ℕ, _+_, _-_, _*_, _/_, _%_, _<_}
 use native.Mathlib.Nat.{mul-add-div-right, div-eq-of-lt, div-lt-iff-lt-mul, mul-add-mod-self-right, mod-eq-of-lt, add-zero, div-div-eq-div-mul, div-add-mod'}
 use native.Mathlib.Omega.{arith}
-use mathlib.Core.Bool.{true, false}
+use mathlib.Core.Bool.{true, false, _&&_}
 use mathlib.Core.List.{List}
 use lib.ListN.{drop}
-use Rattle.lists.specs.Parts.{allAre, part}
+use Rattle.lists.specs.Parts.{allAre}
 use Rattle.lists.proofs.Joins.{allAre-at, allAre-drop, allAre-part}
 use Rattle.lists.proofs.Parts.{next}
 use Rattle.rules.specs.declared.Params.{Params}
 use Rattle.rules.specs.Parameters.{frames, pageBytes}
 use Rattle.rules.specs.Numbers.{placeOf, segmentOf, vblockOf}
-use Rattle.rules.specs.Pages.{bytes32, held, le32, page, programmed, spare, spareBytes}
+use Rattle.rules.specs.Pages.{bytes32, held, holds, le32, page, pageUsed, programmed, spare, spareBytes, whole}
 use Rattle.rules.proofs.Sizes.{Sizes}
 
 -- ---- segments
@@ -45,15 +45,42 @@ le-bytes c h =
     (div-add-mod' c 256) (div-add-mod' (c / 256) 256) (div-add-mod' (c / 256 / 256) 256) h in
     rw (e₁, e₂, mod-eq-of-lt (r .0)) (r .1)
 
+-- a page with the spare bytes of cluster c
+module _ (p : Params) (x : List ℕ) (j c : ℕ) (marked : spare p x j ≡ spareBytes c j) where
+  pub marked-used : pageUsed p x j ≡ true
+  unfolding pageUsed spareBytes bytes32
+  marked-used = rw marked
+
+  pub marked-cluster : c < 4294967296 → le32 (spare p x j) ≡ c
+  unfolding spareBytes bytes32 le32
+  marked-cluster h = rw marked (le-bytes c h)
+
 module _ (p : Params) (x : List ℕ) (c : ℕ) (marked : spare p x 0 ≡ spareBytes c 0) where
   pub marked-programmed : programmed p x ≡ true
-  unfolding programmed spareBytes bytes32
-  marked-programmed = rw marked
+  unfolding programmed
+  marked-programmed = marked-used p x 0 c marked
 
   pub marked-held : c < 4294967296 → held p x ≡ c
-  unfolding held spareBytes bytes32 le32
-  marked-held h = rw marked (le-bytes c h)
+  unfolding held
+  marked-held h = marked-cluster p x 0 c marked h
 
+-- an erased page is not programmed
+pub page-not : (p : Params) (fr : List ℕ) (j : ℕ) → allAre 255 (page p fr j) ≡ true → pageUsed p fr j ≡ false
+unfolding pageUsed spare
+page-not p fr j h = rw (allAre-at 255 (drop (p .s) (page p fr j)) 6 (allAre-drop 255 (p .s) _ h))
+
+pub erased-page : (p : Params) (fr : List ℕ) (j : ℕ) → allAre 255 fr ≡ true → pageUsed p fr j ≡ false
+erased-page p fr j h = page-not p fr j (unfold page in allAre-part 255 (pageBytes p) j fr h)
+
+-- an erased frame is not programmed, and holds nothing
 pub erased-not : (p : Params) (fr : List ℕ) → allAre 255 fr ≡ true → programmed p fr ≡ false
-unfolding programmed spare page
-erased-not p fr h = rw (allAre-at 255 (drop (p .s) (part (pageBytes p) 0 fr)) 6 (allAre-drop 255 (p .s) _ (allAre-part 255 (pageBytes p) 0 fr h)))
+unfolding programmed
+erased-not p fr h = erased-page p fr 0 h
+
+pub erased-whole : (p : Params) (fr : List ℕ) → allAre 255 fr ≡ true → whole p fr ≡ false
+unfolding whole
+erased-whole p fr h = erased-page p fr (p .alpha - 1) h
+
+pub erased-holds : (p : Params) (fr : List ℕ) (c : ℕ) → allAre 255 fr ≡ true → holds p fr c ≡ false
+unfolding holds
+erased-holds p fr c h = rw (erased-whole p fr h)

@@ -34,5 +34,6 @@ pub mod ItemData
 pub mod Words
 pub mod CopiesStand
 pub mod OrderlyWords
+pub mod BegunWords
 pub mod LooksWords
 pub mod BadBlocks

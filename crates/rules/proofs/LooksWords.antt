@@ -23,14 +23,14 @@ use Rattle.rules.specs.Regions.{View, looksAt, looksIn, view, viewOf}
 use Rattle.rules.specs.Words.{LooksExactly, LooksListed}
 use Rattle.rules.proofs.Admitted.{orderly-region}
 use Rattle.rules.proofs.Frames.{erased-not, marked-programmed}
-use Rattle.rules.proofs.RegionFacts.{Entry, Neat, UpTo, filled-le, neat}
+use Rattle.rules.proofs.RegionFacts.{Entry, Neat, UpTo, filled-le, neat, neat-fronts}
 use Rattle.rules.proofs.Sizes.{Sizes, sizes}
 use Rattle.rules.proofs.ValidFrames.{block-of, found, frame-of, held-is, is-valid}
 use Rattle.rules.proofs.Victims.{valid-out}
 
 module _ (p : Params) (z : Sizes p) (r : ℕ) (vw : View) (nt : Neat p r vw) (c : ℕ) (e : Entry p vw c) where
   abbrev v : ℕ
-  v = block-of p z vw c e
+  v = block-of p z r vw (neat-fronts nt) c e
 
   abbrev blk : List ℕ
   blk = vw .body v
@@ -40,7 +40,7 @@ module _ (p : Params) (z : Sizes p) (r : ℕ) (vw : View) (nt : Neat p r vw) (c 
 
   -- the valid frame, how many frames are programmed, and the first frame behind those that are looked at
   abbrev g : ℕ
-  g = frame-of p z vw c e
+  g = frame-of p z r vw (neat-fronts nt) c e
 
   abbrev k : ℕ
   k = filled p blk
@@ -55,13 +55,13 @@ module _ (p : Params) (z : Sizes p) (r : ℕ) (vw : View) (nt : Neat p r vw) (c 
   up = (nt .blocks v v-low (e .has)) .1
 
   written : (f : ℕ) → f < k → programmed p (frame p blk f) ≡ true
-  written f h = marked-programmed p (frame p blk f) _ ((up .front f h (omega (arith, filled-le p blk))) .marks 0 (z .sectors))
+  written f h = (up .front f h (omega (arith, filled-le p blk))) .on
 
   bare : (f : ℕ) → k ≤ f → f < frames p → programmed p (frame p blk f) ≡ false
   bare f h l = erased-not p (frame p blk f) (up .rest f h l)
 
   in-segment : g / p .beta ≡ place
-  in-segment = (found p z vw c e) .0
+  in-segment = (found p z r vw (neat-fronts nt) c e) .0
 
   -- the valid frame is programmed, and lies in the segment
   low : place * p .beta ≤ g
@@ -77,7 +77,7 @@ module _ (p : Params) (z : Sizes p) (r : ℕ) (vw : View) (nt : Neat p r vw) (c 
     where
       go : Dec (g < k) → g < k
       go (yes h) = h
-      go (no h) = absurd (never ((is-valid p z vw c e) .written) (bare g (omega arith) (e .held)))
+      go (no h) = absurd (never ((is-valid p z r vw (neat-fronts nt) c e) .written) (bare g (omega arith) (e .held)))
 
   inside : (f : ℕ) → g ≤ f → f < end → f / p .beta ≡ place
   inside f a h = in-place (p .beta) place f (z .perSegment) (omega (arith, low)) (omega (arith, h))
@@ -107,9 +107,9 @@ module _ (p : Params) (z : Sizes p) (r : ℕ) (vw : View) (nt : Neat p r vw) (c 
         last = g;
         low = v-low;
         inside = omega (arith, filled-le p blk, below, high);
-        isValid = valid-out p vw v g (is-valid p z vw c e);
-        holds = held-is p z vw c e;
-        names = ap (vw .segOf) (sym (held-is p z vw c e)) ∙ (is-valid p z vw c e) .names;
+        isValid = valid-out p vw v g (is-valid p z r vw (neat-fronts nt) c e);
+        holds = held-is p z r vw (neat-fronts nt) c e;
+        names = ap (vw .segOf) (sym (held-is p z r vw (neat-fronts nt) c e)) ∙ (is-valid p z r vw (neat-fronts nt) c e) .names;
         segment = inside (end - 1) (omega (arith, below, high)) (omega (arith, below, high)) ∙ sym in-segment;
         written = λ f a h. written f (omega (arith, h, below, high));
         after = λ f a h s. behind f a h s (decLt f k);

@@ -9,27 +9,28 @@ use native.Mathlib.Omega.{arith}
 use native.Mathlib.Decide.{ℕ-discrete, decLt}
 use mathlib.Core.Bool.{true, false}
 use mathlib.Core.List.{List}
+use lib.ListN.{drop, getD}
 use lib.Dec.{eqb}
-use borrow.Author.Tests.{eq-eqb}
+use borrow.Author.Tests.{eq-eqb, eqb-true}
 use Rattle.lists.specs.Parts.{allAre}
 use Rattle.lists.proofs.Searches.{last-found}
-use Rattle.lists.proofs.Tests.{and-intro, never, so}
+use Rattle.lists.proofs.Tests.{and-intro, and-left, count-is, count-le, never, so}
 use Rattle.rules.specs.declared.Params.{Params}
 use Rattle.rules.specs.Parameters.{allowed, frames}
 use Rattle.rules.specs.Numbers.{placeOf, regionOf, segmentOf, vblockOf}
 use Rattle.rules.specs.Tables.{Board, bstAt, none, notFound}
-use Rattle.rules.specs.Pages.{filled, frame, held, holds, lastIn, programmed, spare, spareBytes}
+use Rattle.rules.specs.Pages.{filled, frame, held, holds, lastIn, page, pageUsed, programmed, spare, spareBytes, whole}
 use Rattle.rules.specs.Regions.{View, assigned, view}
-use Rattle.rules.specs.Orderly.{orderly}
+use Rattle.rules.specs.Orderly.{orderly, usedPages}
 use Rattle.rules.specs.Replies.{lengthsFit}
 use Rattle.rules.specs.Words.{BlockListed, EntryListed, FrameListed, OpenListed, OrderlyExactly, OrderlyListed, RegionListed}
 use Rattle.rules.proofs.Admitted.{orderly-all, orderly-region}
 use Rattle.rules.proofs.Continues.{open-low, segs-out}
-use Rattle.rules.proofs.Frames.{erased-not, marked-held, marked-programmed, seg-low, seg-place, seg-vblock}
-use Rattle.rules.proofs.RegionFacts.{Entry, GoodFrame, Neat, Open, UpTo, filled-le, neat, neat-none, neat-out, regionOrderly, up-to-filled}
+use Rattle.rules.proofs.Frames.{erased-not, marked-held, marked-programmed, marked-used, page-not, seg-low, seg-place, seg-vblock}
+use Rattle.rules.proofs.RegionFacts.{Entry, GoodFrame, Neat, Open, UpTo, filled-le, good-holds, good-used, neat, neat-none, neat-out, regionOrderly, up-to-filled, neat-fronts}
 use Rattle.rules.proofs.Sizes.{Sizes, sizes}
 use Rattle.rules.proofs.TableFacts.{Tables, lengths-in, marks-in, tables-in}
-use Rattle.rules.proofs.ValidFrames.{block-of, frame-of, held-is, is-valid}
+use Rattle.rules.proofs.ValidFrames.{block-of, found, frame-of, held-is, is-valid}
 use Rattle.rules.proofs.Words.{spares-exactly}
 
 -- ---- frames and blocks
@@ -41,20 +42,37 @@ frame-in p z r fr g =
       cluster = held p fr;
       low = g .low;
       mine = g .mine;
-      spares = λ j k. (spares-exactly (held p fr) j (omega (arith, g .low, z .clusters)) _) .0 (g .marks j k);
+      m = usedPages p fr;
+      some = good-used p r fr g 0 (z .sectors) (unfold programmed in g .on);
+      most = used-le;
+      spares = λ j k. (spares-exactly (held p fr) j (omega (arith, g .low, z .clusters)) _) .0 (g .marks j k (omega (arith, used-le)));
+      blank = g .blank;
     }
+  where
+    used-le : usedPages p fr ≤ p .alpha
+    used-le = unfold usedPages in count-le (p .alpha) _
 
 frame-out : (p : Params) (z : Sizes p) (r : ℕ) (fr : List ℕ) → FrameListed p r fr → GoodFrame p r fr
-frame-out p z r fr l = record { low = rw e (l .low); mine = rw e (l .mine); marks = λ j k. rw e (marks j k) }
+frame-out p z r fr l =
+    record {
+      on = marked-programmed p fr (l .cluster) (marks 0 (l .some));
+      low = rw e (l .low);
+      mine = rw e (l .mine);
+      marks = λ j m k. rw e (marks j (omega (arith, used)));
+      blank = λ j m k. l .blank j (omega (arith, used)) k;
+    }
   where
     small : l .cluster < 4294967296
     small = omega (arith, l .low, z .clusters)
 
-    marks : (j : ℕ) → j < p .alpha → spare p fr j ≡ spareBytes (l .cluster) j
+    marks : (j : ℕ) → j < l .m → spare p fr j ≡ spareBytes (l .cluster) j
     marks j k = unfold spare in (spares-exactly (l .cluster) j small _) .1 (l .spares j k)
 
     e : held p fr ≡ l .cluster
-    e = marked-held p fr (l .cluster) (marks 0 (z .sectors)) small
+    e = marked-held p fr (l .cluster) (marks 0 (l .some)) small
+
+    used : usedPages p fr ≡ l .m
+    used = unfold usedPages in count-is (p .alpha) (l .m) _ (l .most) (λ j h. marked-used p fr j (l .cluster) (marks j h)) (λ j a b. page-not p fr j (l .blank j a b))
 
 block-in : (p : Params) (z : Sizes p) (r : ℕ) (blk : List ℕ) → (0 < filled p blk) × UpTo p r (filled p blk) blk → BlockListed p r blk
 unfolding frames
@@ -80,7 +98,7 @@ block-out p z r blk l = rw (block-filled p z r blk l) (l .some, block-upto p z r
 
 -- a frame below `filled` is programmed, one from there on is erased
 front-written : (p : Params) (z : Sizes p) (r : ℕ) (blk : List ℕ) → UpTo p r (filled p blk) blk → (f : ℕ) → f < filled p blk → f < frames p → programmed p (frame p blk f) ≡ true
-front-written p z r blk u f h k = marked-programmed p (frame p blk f) _ ((u .front f h k) .marks 0 (z .sectors))
+front-written p z r blk u f h k = (u .front f h k) .on
 
 written-front : (p : Params) (r : ℕ) (blk : List ℕ) → UpTo p r (filled p blk) blk → (f : ℕ) → f < frames p → programmed p (frame p blk f) ≡ true → f < filled p blk
 written-front p r blk u f k e = go (decLt f (filled p blk))
@@ -116,22 +134,30 @@ module _ (p : Params) (z : Sizes p) (r : ℕ) (vw : View) (nt : Neat p r vw) whe
         full = λ u h ne a g k. front-written p z r (vw .body u) ((nt .blocks u h a) .1) g (rw (o .full u h ne a) k) k;
       }
 
+  -- the last page of the frame that an entry leads to is programmed
+  last-page : (c : ℕ) → (e : Entry p vw c) → getD (drop (p .s) (page p (frame p (vw .body (block-of p z r vw (neat-fronts nt) c e)) (frame-of p z r vw (neat-fronts nt) c e)) (p .alpha - 1))) 6 255 ≡ 0
+  unfolding holds whole pageUsed spare
+  last-page c e =
+      eqb-true _ _ (and-left
+      (eqb (getD (drop (p .s) (page p (frame p (vw .body (block-of p z r vw (neat-fronts nt) c e)) (frame-of p z r vw (neat-fronts nt) c e)) (p .alpha - 1))) 6 255) 0) _ ((found p z r vw (neat-fronts nt) c e) .1))
+
   entry-in : (c : ℕ) → Entry p vw c → EntryListed p vw c
   unfolding frames
   entry-in c e =
-      let w = is-valid p z vw c e in
+      let w = is-valid p z r vw (neat-fronts nt) c e in
       record {
-        v = block-of p z vw c e;
-        f = frame-of p z vw c e;
+        v = block-of p z r vw (neat-fronts nt) c e;
+        f = frame-of p z r vw (neat-fronts nt) c e;
         low = entry-low c e;
         has = e .has;
         inside = e .held;
         written = w .written;
-        holds = held-is p z vw c e;
-        names = sym (ap (vw .segOf) (held-is p z vw c e)) ∙ w .names;
+        whole = last-page c e;
+        holds = held-is p z r vw (neat-fronts nt) c e;
+        names = sym (ap (vw .segOf) (held-is p z r vw (neat-fronts nt) c e)) ∙ w .names;
       }
     where
-      entry-low : (c : ℕ) → (e : Entry p vw c) → block-of p z vw c e < p .gamma
+      entry-low : (c : ℕ) → (e : Entry p vw c) → block-of p z r vw (neat-fronts nt) c e < p .gamma
       entry-low c e = div-lt-iff-lt-mul (z .segments) .1 (e .low)
 
   region-in : RegionListed p r vw
@@ -157,14 +183,23 @@ module _ (p : Params) (z : Sizes p) (r : ℕ) (vw : View) (l : RegionListed p r 
   blocks : (v : ℕ) → v < p .gamma → assigned vw v ≡ true → (0 < filled p (vw .body v)) × UpTo p r (filled p (vw .body v)) (vw .body v)
   blocks v h a = block-out p z r (vw .body v) (l .blocks v h a)
 
+  -- the frame that a listed entry names is one of its block's first, and whole
+  entry-good : {c : ℕ} (e : EntryListed p vw c) → e .f < frames p → GoodFrame p r (frame p (vw .body (e .v)) (e .f))
+  entry-good e inside =
+      let u = (blocks (e .v) (e .low) (e .has)) .1 in
+      u .front (e .f) (written-front p r (vw .body (e .v)) u (e .f) inside (e .written)) inside
+
+  last-whole : {c : ℕ} (e : EntryListed p vw c) → whole p (frame p (vw .body (e .v)) (e .f)) ≡ true
+  unfolding whole pageUsed spare
+  last-whole e = eq-eqb _ _ (e .whole)
+
   entry-out : (c : ℕ) → EntryListed p vw c → Entry p vw c
   entry-out c e =
       let inside : e .f < frames p = unfold frames in e .inside in
       let names : vw .segOf c ≡ segmentOf p (e .v) (e .f) = e .names in
       let block : vblockOf p (vw .segOf c) ≡ e .v = rw names (seg-vblock p z (e .v) (e .f) inside) in
       let place : placeOf p (vw .segOf c) ≡ e .f / p .beta = rw names (seg-place p z (e .v) (e .f) inside) in
-      let here : holds p (frame p (vw .body (e .v)) (e .f)) c ≡ true =
-      unfold holds in and-intro (e .written) (eq-eqb (held p (frame p (vw .body (e .v)) (e .f))) c (e .holds)) in
+      let here : holds p (frame p (vw .body (e .v)) (e .f)) c ≡ true = rw (e .holds) at (good-holds p z r _ (entry-good e inside) (last-whole e)) in
       record {
         low = rw names (seg-low p z (e .v) (e .f) inside (e .low));
         has = rw block (e .has);

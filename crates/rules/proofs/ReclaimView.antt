@@ -16,7 +16,7 @@ use Rattle.lists.specs.Parts.{allAre}
 use Rattle.lists.proofs.Joins.{updated-other, updated-same}
 use Rattle.lists.proofs.Parts.{part-length}
 use Rattle.lists.proofs.Ranks.{keep-at, keep-length, keep-nth, map-at, rank-low}
-use Rattle.lists.proofs.Tests.{and-intro, and-left, and-right, last-is}
+use Rattle.lists.proofs.Tests.{and-intro, last-is, so}
 use Rattle.rules.specs.declared.Params.{Params}
 use Rattle.rules.specs.Parameters.{blockBytes, frameBytes, frames}
 use Rattle.rules.specs.Numbers.{placeOf, segmentOf, vblockOf}
@@ -29,9 +29,9 @@ use Rattle.rules.proofs.Continues.{frames-pos}
 use Rattle.rules.proofs.Following.{follow-hit, follow-miss}
 use Rattle.rules.proofs.FramePut.{last-holds}
 use Rattle.rules.proofs.Sizes.{Sizes}
-use Rattle.rules.proofs.Frames.{erased-not, seg-low, seg-place, seg-vblock}
+use Rattle.rules.proofs.Frames.{erased-holds, seg-low, seg-place, seg-vblock}
 use Rattle.rules.proofs.Opens.{all-full, fresh-frame, fresh-size}
-use Rattle.rules.proofs.RegionFacts.{Entry, Neat, UpTo, neat}
+use Rattle.rules.proofs.RegionFacts.{Entry, GoodFrame, Neat, UpTo, good-held, neat}
 use Rattle.rules.proofs.RegionKept.{Base}
 use Rattle.rules.proofs.Replays.{Wholes, one-fits, put-frames-else, put-frames-new, put-frames-size}
 use Rattle.rules.proofs.Victims.{Valid, good-at, valid-in, valid-one, valid-out}
@@ -130,16 +130,23 @@ module _ (p : Params) (z : Sizes p) (r : ℕ) (vw : View) (neat : Neat p r vw) (
     moved-frame = frame-copy rank rank-few ∙ ap (frame p (vw .body v)) nth-rank
 
     holds-here : holds p (frame p (vw .body v) f) c ≡ true
-    unfolding holds
-    holds-here = and-intro (ok .written) (eq-eqb _ _ is)
+    holds-here =
+        let k : lastIn p (vw .body v) (f / p .beta) (held p (frame p (vw .body v) f)) < frames p = rw (ok .last) hf in
+        rw (ok .last, is) at ((last-holds p z (vw .body v) (f / p .beta) (held p (frame p (vw .body v) f)) k) .1)
 
     not-later : (g : ℕ) → rank < g → g < frames p → holds p (frame p ((withRoom p vw (reclaims v)) .body v) g) c ≡ false
-    unfolding holds
     not-later g a h = go (decLt g (length (validFrames p vw v)))
       where
         go : Dec (g < length (validFrames p vw v)) → holds p (frame p ((withRoom p vw (reclaims v)) .body v) g) c ≡ false
-        go (yes k) = rw (frame-copy g k, (nth-spec g k) .1 .written, ne-eqb (held p (frame p (vw .body v) (nthValid p vw v g))) c (λ e. omega (arith, only g k e)))
-        go (no k) = rw (erased-not p _ (frame-rest g (omega arith)))
+        go (yes k) = rw (frame-copy g k) (other (so (holds p (frame p (vw .body v) (nthValid p vw v g)) c)))
+          where
+            other : (holds p (frame p (vw .body v) (nthValid p vw v g)) c ≡ true) ⊎ (holds p (frame p (vw .body v) (nthValid p vw v g)) c ≡ false)
+                → holds p (frame p (vw .body v) (nthValid p vw v g)) c ≡ false
+            other (inl t) =
+                let e = only g k (good-held p z r (frame p (vw .body v) (nthValid p vw v g)) (good-at p z vw r neat no-room every v (nthValid p vw v g) low ((nth-spec g k) .0)) c t) in
+                absurd (omega (arith, e))
+            other (inr t) = t
+        go (no k) = erased-holds p _ c (frame-rest g (omega arith))
 
     moved-last : lastIn p ((withRoom p vw (reclaims v)) .body v) (rank / p .beta) c ≡ rank
     unfolding lastIn
@@ -179,18 +186,19 @@ module _ (p : Params) (z : Sizes p) (r : ℕ) (vw : View) (neat : Neat p r vw) (
     unfolding old-frame
     old-holds = last-holds p z (vw .body v) (placeOf p (vw .segOf c)) c old-low
 
+    old-good : GoodFrame p r (frame p (vw .body v) old-frame)
+    old-good = good-at p z vw r neat no-room every v old-frame low old-low
+
     old-is : held p (frame p (vw .body v) old-frame) ≡ c
-    unfolding holds
-    old-is = eqb-true _ _ (and-right (programmed p (frame p (vw .body v) old-frame)) (old-holds .1))
+    old-is = good-held p z r (frame p (vw .body v) old-frame) old-good c (old-holds .1)
 
     old-segment : vw .segOf c ≡ segmentOf p v old-frame
     old-segment = sym (div-add-mod' (vw .segOf c) (p .d)) ∙ ap₂ (λ x y. x * p .d + y) at (sym (old-holds .0))
 
     old-valid : Valid p vw v old-frame
-    unfolding holds
     old-valid =
         record {
-          written = and-left (programmed p (frame p (vw .body v) old-frame)) _ (old-holds .1);
+          written = old-good .on;
           names = ap (vw .segOf) old-is ∙ old-segment;
           last = ap₂ (λ x y. lastIn p (vw .body v) x y) (old-holds .0) old-is ∙ unfold old-frame in refl;
         }

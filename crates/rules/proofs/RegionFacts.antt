@@ -1,6 +1,6 @@
 -- The rules of a region as propositions.
 -- Assumes nothing.
-use mathlib.Core.Path.{_≡_}
+use mathlib.Core.Path.{_≡_, sym, _∙_}
 use mathlib.Core.Logic.{_⊎_, inl, inr}
 use Prim.Native.Nat.{ℕ, _-_, _*_, _≤_, _<_}
 use native.Mathlib.Omega.{arith}
@@ -10,34 +10,78 @@ use mathlib.Core.List.{List, [], _∷_}
 use lib.Dec.{eqb, ltb}
 use borrow.Author.Tests.{eqb-true, eq-eqb, ne-eqb, lt-ltb, le-ltb, ltb-true, not-true, not-false}
 use Rattle.lists.specs.Below.{allTrue, allBelow}
-use Rattle.lists.specs.Parts.{allAre}
+use Rattle.lists.specs.Parts.{allAre, sameList}
 use Rattle.lists.proofs.Joins.{same-refl, sameList→eq}
 use Rattle.lists.proofs.Tests.{all-at, all-below-intro, all-true, and-intro, and-left, and-right, count-is, count-le, never, or-cases, or-right, so, some-fails, truths}
 use Rattle.rules.specs.declared.Params.{Params}
 use Rattle.rules.specs.Parameters.{frames}
 use Rattle.rules.specs.Numbers.{placeOf, regionOf, segmentOf, vblockOf}
 use Rattle.rules.specs.Tables.{none}
-use Rattle.rules.specs.Pages.{held, filled, frame, lastIn, spare, spareBytes}
+use Rattle.rules.specs.Pages.{held, holds, filled, frame, lastIn, le32, page, pageUsed, programmed, spare, spareBytes, whole}
 use Rattle.rules.specs.Regions.{View, assigned}
-use Rattle.rules.specs.Orderly.{goodFrame, goodUpTo, blockRule, regionBlocks, fullRule, openRule, regionFst, entryRule, clusterRule}
+use Rattle.rules.specs.Orderly.{goodFrame, goodPages, goodUpTo, usedPages, blockRule, regionBlocks, fullRule, openRule, regionFst, entryRule, clusterRule}
 use Rattle.rules.proofs.Sizes.{Sizes}
-use Rattle.rules.proofs.Frames.{erased-not, marked-programmed}
+use Rattle.rules.proofs.Frames.{erased-not, erased-whole, marked-cluster, page-not}
 
 pub record GoodFrame (p : Params) (r : ℕ) (fr : List ℕ) : Type 0 where
+  pub on : programmed p fr ≡ true
   pub low : held p fr < p .C
   pub mine : regionOf p (held p fr) ≡ r
-  pub marks : (j : ℕ) → j < p .alpha → spare p fr j ≡ spareBytes (held p fr) j
+  pub marks : (j : ℕ) → j < usedPages p fr → j < p .alpha → spare p fr j ≡ spareBytes (held p fr) j
+  pub blank : (j : ℕ) → usedPages p fr ≤ j → j < p .alpha → allAre 255 (page p fr j) ≡ true
 
 pub good-frame : (p : Params) (r : ℕ) (fr : List ℕ) → goodFrame p r fr ≡ true → GoodFrame p r fr
-unfolding goodFrame
+unfolding goodFrame goodPages
 good-frame p r fr h =
     let t = truths _ h in
-    record { low = ltb-true _ _ (t .0); mine = eqb-true _ _ (t .1 .0); marks = λ j k. sameList→eq _ _ (all-at (p .alpha) _ (t .1 .1 .0) j k) }
+    record {
+      on = t .0;
+      low = ltb-true _ _ (t .1 .0);
+      mine = eqb-true _ _ (t .1 .1 .0);
+      marks = λ j m k. sameList→eq _ _ (rw (lt-ltb j (usedPages p fr) m) at (all-at (p .alpha) _ (t .1 .1 .1 .0) j k));
+      blank = λ j m k. rw (le-ltb j (usedPages p fr) m) at (all-at (p .alpha) _ (t .1 .1 .1 .0) j k);
+    }
 
 pub good-frame-back : (p : Params) (r : ℕ) (fr : List ℕ) → GoodFrame p r fr → goodFrame p r fr ≡ true
-unfolding goodFrame
+unfolding goodFrame goodPages
 good-frame-back p r fr g =
-    all-true _ (lt-ltb _ _ (g .low), (eq-eqb _ _ (g .mine), (all-below-intro (p .alpha) _ (λ j k. rw (g .marks j k) (same-refl _)), tt)))
+    all-true _ (g .on, (lt-ltb _ _ (g .low), (eq-eqb _ _ (g .mine), (all-below-intro (p .alpha) _ (λ j k. go j k (decLt j (usedPages p fr))), tt))))
+  where
+    go : (j : ℕ) → j < p .alpha → Dec (j < usedPages p fr)
+        → cond (ltb j (usedPages p fr)) (sameList (spare p fr j) (spareBytes (held p fr) j)) (allAre 255 (page p fr j)) ≡ true
+    go j k (yes a) = rw (lt-ltb j (usedPages p fr) a, g .marks j a k) (same-refl _)
+    go j k (no a) = rw (le-ltb j (usedPages p fr) (omega arith)) (g .blank j (omega arith) k)
+
+-- a page of a good frame that is programmed is among the first
+pub good-used : (p : Params) (r : ℕ) (fr : List ℕ) → GoodFrame p r fr → (j : ℕ) → j < p .alpha → pageUsed p fr j ≡ true → j < usedPages p fr
+good-used p r fr g j h t = go (decLt j (usedPages p fr))
+  where
+    go : Dec (j < usedPages p fr) → j < usedPages p fr
+    go (yes a) = a
+    go (no a) = absurd (never t (page-not p fr j (g .blank j (omega arith) h)))
+
+-- its last page says the same cluster as its first, where it is programmed
+good-last : (p : Params) → Sizes p → (r : ℕ) (fr : List ℕ) → GoodFrame p r fr → pageUsed p fr (p .alpha - 1) ≡ true → le32 (spare p fr (p .alpha - 1)) ≡ held p fr
+good-last p z r fr g h =
+    let last : p .alpha - 1 < p .alpha = omega (arith, z .sectors) in
+    marked-cluster p fr (p .alpha - 1) (held p fr) (g .marks (p .alpha - 1) (good-used p r fr g (p .alpha - 1) last h) last) (omega (arith, g .low, z .clusters))
+
+-- a good frame that holds a cluster holds it by its first page too
+pub good-held : (p : Params) → Sizes p → (r : ℕ) (fr : List ℕ) → GoodFrame p r fr → (c : ℕ) → holds p fr c ≡ true → held p fr ≡ c
+unfolding holds whole
+good-held p z r fr g c h = sym (good-last p z r fr g (and-left (pageUsed p fr (p .alpha - 1)) _ h)) ∙ eqb-true _ _ (and-right (pageUsed p fr (p .alpha - 1)) h)
+
+-- and all of its pages have their spare bytes
+pub good-all : (p : Params) → Sizes p → (r : ℕ) (fr : List ℕ) → GoodFrame p r fr → (c : ℕ) → holds p fr c ≡ true → (j : ℕ) → j < p .alpha → spare p fr j ≡ spareBytes (held p fr) j
+unfolding holds whole
+good-all p z r fr g c h j k =
+    let last = good-used p r fr g (p .alpha - 1) (omega (arith, z .sectors)) (and-left (pageUsed p fr (p .alpha - 1)) _ h) in
+    g .marks j (omega (arith, last, k)) k
+
+-- and a whole one holds its cluster
+pub good-holds : (p : Params) → Sizes p → (r : ℕ) (fr : List ℕ) → GoodFrame p r fr → whole p fr ≡ true → holds p fr (held p fr) ≡ true
+unfolding holds
+good-holds p z r fr g h = and-intro h (eq-eqb _ _ (good-last p z r fr g (unfold whole in h)))
 
 -- the first k frames are programmed, the rest is erased
 pub record UpTo (p : Params) (r k : ℕ) (blk : List ℕ) : Type 0 where
@@ -63,8 +107,20 @@ up-to-back p r k blk u = all-below-intro (frames p) _ (λ f b. go f b (decLt f k
 pub up-to-filled : (p : Params) → Sizes p → (r k : ℕ) (blk : List ℕ) → k ≤ frames p → UpTo p r k blk → filled p blk ≡ k
 unfolding filled
 up-to-filled p z r k blk h u =
-    count-is (frames p) k _ h (λ f a. marked-programmed p (frame p blk f) _ ((u .front f a (omega arith)) .marks 0 (z .sectors)))
+    count-is (frames p) k _ h (λ f a. (u .front f a (omega arith)) .on)
     (λ f a b. erased-not p (frame p blk f) (u .rest f a b))
+
+-- a whole frame is one of the first k, and so is one that holds a cluster
+pub whole-front : (p : Params) (r k : ℕ) (blk : List ℕ) → UpTo p r k blk → (f : ℕ) → f < frames p → whole p (frame p blk f) ≡ true → f < k
+whole-front p r k blk u f h t = go (decLt f k)
+  where
+    go : Dec (f < k) → f < k
+    go (yes a) = a
+    go (no a) = absurd (never t (erased-whole p (frame p blk f) (u .rest f (omega arith) h)))
+
+pub holds-front : (p : Params) (r k : ℕ) (blk : List ℕ) → UpTo p r k blk → (f c : ℕ) → f < frames p → holds p (frame p blk f) c ≡ true → f < k
+unfolding holds
+holds-front p r k blk u f c h t = whole-front p r k blk u f h (and-left (whole p (frame p blk f)) _ t)
 
 pub filled-le : (p : Params) (blk : List ℕ) → filled p blk ≤ frames p
 unfolding filled
@@ -82,16 +138,23 @@ pub record Entry (p : Params) (vw : View) (c : ℕ) : Type 0 where
   pub has : assigned vw (vblockOf p (vw .segOf c)) ≡ true
   pub held : lastIn p (vw .body (vblockOf p (vw .segOf c))) (placeOf p (vw .segOf c)) c < frames p
 
+-- the first frames of its blocks are programmed and right, the rest of them is erased
+abbrev pub Fronts : Params → ℕ → View → Type 0
+Fronts p r vw = (v : ℕ) → v < p .gamma → assigned vw v ≡ true → UpTo p r (filled p (vw .body v)) (vw .body v)
+
 pub record Neat (p : Params) (r : ℕ) (vw : View) : Type 0 where
   pub blocks : (v : ℕ) → v < p .gamma → assigned vw v ≡ true → (0 < filled p (vw .body v)) × UpTo p r (filled p (vw .body v)) (vw .body v)
   pub opened : (((v : ℕ) → v < p .gamma → assigned vw v ≡ false) × (vw .lastSeg ≡ none)) ⊎ (((v : ℕ) × (v < p .gamma) × (assigned vw v ≡ true)) × Open p vw)
   pub entries : (c : ℕ) → c < p .C → (vw .segOf c ≡ none) ⊎ Entry p vw c
 
+pub neat-fronts : {p : Params} {r : ℕ} {vw : View} → Neat p r vw → Fronts p r vw
+neat-fronts n v h a = (n .blocks v h a) .1
+
 -- the rules of one region: its used blocks, its FST entry, and the CT entries of its clusters
 unfoldable pub regionOrderly : Params → ℕ → View → Bool
 regionOrderly p r vw = allTrue (regionBlocks p r vw ∷ regionFst p vw ∷ allBelow (p .C) (clusterRule p vw) ∷ [])
 
-block-in : (p : Params) (r : ℕ) (blk : List ℕ) → blockRule p r blk ≡ true → (0 < filled p blk) × UpTo p r (filled p blk) blk
+pub block-in : (p : Params) (r : ℕ) (blk : List ℕ) → blockRule p r blk ≡ true → (0 < filled p blk) × UpTo p r (filled p blk) blk
 unfolding blockRule
 block-in p r blk k = (ltb-true _ _ (and-left (ltb 0 (filled p blk)) _ k), up-to p r _ blk (and-right (ltb 0 (filled p blk)) k))
 

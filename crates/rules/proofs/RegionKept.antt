@@ -11,6 +11,7 @@ use borrow.Author.Tests.{lt-ltb}
 use lib.ListN.{length}
 use Rattle.lists.proofs.Joins.{updated-same}
 use Rattle.lists.proofs.Parts.{next, put-length}
+use Rattle.lists.proofs.Tests.{count-is}
 use Rattle.rules.specs.declared.Params.{Params}
 use Rattle.rules.specs.Parameters.{blockBytes, frameBytes, frames, pageBytes}
 use Rattle.rules.specs.Numbers.{placeOf, regionOf, segmentOf, vblockOf}
@@ -18,10 +19,11 @@ use Rattle.rules.specs.Tables.{none}
 use Rattle.rules.specs.Pages.{filled, frame, held, lastIn}
 use Rattle.rules.specs.Regions.{View, assigned}
 use Rattle.rules.specs.Machine.{withFrame}
-use Rattle.rules.proofs.FramePut.{Ready, Sheet, body-old, frame-new, frame-old, last-new, last-old, seg-new, seg-old}
+use Rattle.rules.specs.Orderly.{usedPages}
+use Rattle.rules.proofs.FramePut.{Ready, Sheet, sheet-held, body-old, frame-new, frame-old, last-new, last-old, seg-new, seg-old}
 use Rattle.rules.proofs.Sizes.{Sizes}
-use Rattle.rules.proofs.Frames.{marked-held, seg-low, seg-place, seg-vblock}
-use Rattle.rules.proofs.RegionFacts.{regionOrderly, Entry, GoodFrame, Open, UpTo, neat-out, up-to-filled}
+use Rattle.rules.proofs.Frames.{marked-programmed, marked-used, seg-low, seg-place, seg-vblock}
+use Rattle.rules.proofs.RegionFacts.{regionOrderly, Entry, Fronts, GoodFrame, Open, UpTo, neat-out, up-to-filled}
 
 -- the region is orderly but that the block of frame f may be empty so far, and every other is full
 pub record Base (p : Params) (r : ℕ) (vw : View) (v f : ℕ) : Type 0 where
@@ -30,11 +32,28 @@ pub record Base (p : Params) (r : ℕ) (vw : View) (v f : ℕ) : Type 0 where
   pub others : (u : ℕ) → u < p .gamma → (u ≡ v → ⊥) → assigned vw u ≡ true → (filled p (vw .body u) ≡ frames p) × UpTo p r (frames p) (vw .body u)
   pub entries : (c : ℕ) → c < p .C → (vw .segOf c ≡ none) ⊎ Entry p vw c
 
+pub base-fronts : (p : Params) (z : Sizes p) (r : ℕ) (vw : View) (v f : ℕ) → Base p r vw v f → Fronts p r vw
+base-fronts p z r vw v f base u h a = go (ℕ-discrete u v)
+  where
+    go : Dec (u ≡ v) → UpTo p r (filled p (vw .body u)) (vw .body u)
+    go (yes e) = rw (e, up-to-filled p z r f (vw .body v) (omega (arith, base .ready .low)) (base .front)) (base .front)
+    go (no ne) = let w = base .others u h ne a in rw (w .0) (w .1)
+
 module _ (p : Params) (z : Sizes p) (r : ℕ) (vw : View) (v f c : ℕ) (x : List ℕ) (base : Base p r vw v f) (sheet : Sheet p c x) (low : c < p .C) (mine : regionOf p c ≡ r) where
+  all-used : usedPages p x ≡ p .alpha
+  unfolding usedPages
+  all-used = count-is (p .alpha) (p .alpha) _ (omega arith) (λ j h. marked-used p x j c (sheet .marked j h)) (λ j a b. absurd (omega arith))
+
   good : GoodFrame p r x
   good =
-      let e : held p x ≡ c = marked-held p x c (sheet .marked 0 (z .sectors)) (sheet .small) in
-      record { low = rw e low; mine = rw e mine; marks = λ j h. rw e (sheet .marked j h) }
+      let e : held p x ≡ c = sheet-held p z c x sheet in
+      record {
+        on = marked-programmed p x c (sheet .marked 0 (z .sectors));
+        low = rw e low;
+        mine = rw e mine;
+        marks = λ j m h. rw e (sheet .marked j h);
+        blank = λ j m h. absurd (omega (arith, all-used));
+      }
 
   up-to-new : UpTo p r (suc f) ((withFrame p vw v f c x) .body v)
   up-to-new = record { front = λ g a b. front g a b (ℕ-discrete g f); rest = λ g a b. rw (frame-old p z vw v f c x (base .ready) sheet g (omega arith)) (base .ready .rest g (omega arith) b) }

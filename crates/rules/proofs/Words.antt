@@ -239,7 +239,7 @@ module _ (p : Params) (z : Sizes p) (r : ℕ) (vw : View) (nt : Neat p r vw) whe
     where
       go : (allAre 255 (frame p (vw .body v) f) ≡ true) ⊎ (allAre 255 (frame p (vw .body v) f) ≡ false) → allAre 255 (frame p (vw .body v) f) ≡ false
       go (inl x) =
-          absurd (never (marked-programmed p (frame p (vw .body v) f) _ (((nt .blocks v h a) .1 .front f k l) .marks 0 (z .sectors))) (erased-not p _ x))
+          absurd (never (((nt .blocks v h a) .1 .front f k l) .on) (erased-not p _ x))
       go (inr x) = x
 
   continues-listed : hasRoom p vw ≡ true → ContinuesListed p vw (vblockOf p (vw .lastSeg)) (filled p (vw .body (vblockOf p (vw .lastSeg))))

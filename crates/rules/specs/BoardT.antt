@@ -6,12 +6,13 @@ use mathlib.Core.Bool.{Bool, true, false, _&&_, cond}
 use mathlib.Core.List.{List, [], _∷_, _++_}
 use lib.ListN.{take, replicate}
 use Rattle.lists.specs.Below.{joinBelow}
-use Rattle.lists.specs.Parts.{sameList}
+use Rattle.lists.specs.Parts.{putPart, sameList}
 use Rattle.rules.specs.declared.Params.{Params}
 use Rattle.rules.specs.declared.Answer.{Answer}
 use Rattle.rules.specs.Numbers.{clusterOf, regionOf, vblockOf, placeOf}
-use Rattle.rules.specs.Tables.{Board, ctAt, btAt, bstAt, wearAt}
+use Rattle.rules.specs.Tables.{Board, boardOf, none, ctAt, btAt, bstAt, wearAt}
 use Rattle.rules.specs.Regions.{view}
+use Rattle.rules.specs.Marks.{marksOf}
 use Rattle.rules.specs.Requests.{Request, requestRegion, Call, format, read, write, release, queue}
 use Rattle.rules.specs.Write.{Plan, continues, opens, reclaims, planOf}
 use Rattle.rules.specs.Replies.{numberOf, isAccepted, replyOf}
@@ -175,6 +176,27 @@ asSaid =
     -- (j) "cluster 523 of region 11, and segment 7 is in virtual block 3, place 1"
     ∷ (523 ∷ 11 ∷ 3 ∷ 1 ∷ [])
     ∷ []
+
+-- ---- T-07: a frame with only its first pages programmed
+
+-- Board T after the first write, its frame without the second page: CT with this entry for cluster 0
+unfoldable pub begunT : ℕ → Board
+begunT sg =
+    let b = after 1 in
+    let made = boardOf (putPart 32 1 (replicate 32 255) (b .chip)) (sg ∷ replicate 5 none) (b .bt) (b .fst) (b .bst) (b .wear) [] in
+    record { chip = made .chip; ct = made .ct; bt = made .bt; fst = made .fst; bst = made .bst; wear = made .wear; marks = marksOf boardT made }
+
+-- "an orderly state allows it", but CT's rule does not count it: a read of its cluster where CT has none, and where CT names its segment; what the read gives; the next
+-- write goes on behind it
+unfoldable pub begunCases : List (List ℕ)
+begunCases =
+    (numberOf (replyOf boardT (begunT none) (R 0 1)) ∷ numberOf (replyOf boardT (begunT 0) (R 0 1)) ∷ [])
+    ∷ (outcomeOf boardT (begunT none) (R 0 1)) .bytes
+    ∷ plannedT (planOf boardT (view boardT (begunT none) 0))
+    ∷ []
+
+unfoldable pub begunSaid : List (List ℕ)
+begunSaid = (0 ∷ 7 ∷ []) ∷ replicate 16 255 ∷ (0 ∷ 0 ∷ []) ∷ []
 
 -- two lists of lists are the same, by a test: it is computed quickly where the lists themselves are not compared
 unfoldable pub sameLists : List (List ℕ) → List (List ℕ) → Bool

@@ -10,7 +10,7 @@ use Rattle.rules.specs.declared.Params.{Params}
 use Rattle.rules.specs.Parameters.{frames}
 use Rattle.rules.specs.Numbers.{regionOf, vblockOf, placeOf, segmentOf}
 use Rattle.rules.specs.Tables.{Board, none, btEntry, bstAt, marksLength, wordAt}
-use Rattle.rules.specs.Pages.{block, frame, spare, spareBytes, erased, held, filled, lastIn}
+use Rattle.rules.specs.Pages.{block, frame, page, spare, spareBytes, erased, held, pageUsed, programmed, filled, lastIn}
 use Rattle.rules.specs.Regions.{View, view, assigned}
 use Rattle.rules.specs.Marks.{entryOf, marksOn}
 
@@ -44,10 +44,18 @@ roomRule p bst = leb (p .mu * p .gamma + 1) (countBelow (p .N) (λ n. not (eqb (
 unfoldable pub freeRule : Params → List ℕ → List ℕ → Bool
 freeRule p chip bst = allBelow (p .N) (λ n. not (eqb (bstAt bst n) 0) || erased (block p chip n))
 
+-- T-07: "A frame with only its first pages programmed .. an orderly state allows it": how many are
+unfoldable pub usedPages : Params → List ℕ → ℕ
+usedPages p fr = countBelow (p .alpha) (pageUsed p fr)
+
+-- the first pages have the spare bytes of one cluster, in order, and the rest is erased
+unfoldable pub goodPages : Params → List ℕ → Bool
+goodPages p fr =
+    allBelow (p .alpha) (λ j. cond (ltb j (usedPages p fr)) (sameList (spare p fr j) (spareBytes (held p fr) j)) (erased (page p fr j)))
+
 -- "with spare bytes as above and clusters below C of that region": a frame of region r
 unfoldable pub goodFrame : Params → ℕ → List ℕ → Bool
-goodFrame p r fr =
-    allTrue (ltb (held p fr) (p .C) ∷ eqb (regionOf p (held p fr)) r ∷ allBelow (p .alpha) (λ j. sameList (spare p fr j) (spareBytes (held p fr) j)) ∷ [])
+goodFrame p r fr = allTrue (programmed p fr ∷ ltb (held p fr) (p .C) ∷ eqb (regionOf p (held p fr)) r ∷ goodPages p fr ∷ [])
 
 -- the first k frames are programmed so, and "The rest is erased"
 unfoldable pub goodUpTo : Params → ℕ → ℕ → List ℕ → Bool
@@ -85,7 +93,7 @@ regionFst p vw = cond (allBelow (p .gamma) (λ v. not (assigned vw v))) (eqb (vw
 unfoldable pub fstRule : Params → Board → Bool
 fstRule p b = allBelow (p .mu) (λ r. regionFst p (view p b r))
 
--- "names a segment, in its own region, that holds a programmed frame of that cluster"
+-- "names a segment, in its own region, that holds a programmed frame of that cluster", with T-07 a whole one
 unfoldable pub entryRule : Params → View → ℕ → Bool
 entryRule p vw c =
     let sg = vw .segOf c in

@@ -1,6 +1,6 @@
 -- Document 01, "Parameters" and the spare bytes: blocks, frames and pages are parts of the chip's bytes, each a part of the one before.
 -- Assumes nothing.
-use Prim.Native.Nat.{ℕ, _+_, _*_, _/_, _%_}
+use Prim.Native.Nat.{ℕ, _+_, _-_, _*_, _/_, _%_}
 use mathlib.Core.Bool.{Bool, _&&_}
 use mathlib.Core.List.{List, [], _∷_, _++_}
 use lib.ListN.{getD, drop, replicate}
@@ -40,21 +40,32 @@ spareBytes c j = bytes32 c ++ (j ∷ 255 ∷ 0 ∷ replicate 9 255)
 abbrev pub erased : List ℕ → Bool
 erased l = allAre 255 l
 
--- "The α pages of a frame hold one cluster in order": which one, by its first page; and whether it is programmed
+-- "The α pages of a frame hold one cluster in order": which one, by its first page
 unfoldable pub held : Params → List ℕ → ℕ
 held p fr = le32 (spare p fr 0)
 
-unfoldable pub programmed : Params → List ℕ → Bool
-programmed p fr = eqb (getD (spare p fr 0) 6 255) 0
+-- page j of a frame is programmed
+unfoldable pub pageUsed : Params → List ℕ → ℕ → Bool
+pageUsed p fr j = eqb (getD (spare p fr j) 6 255) 0
 
+-- T-07: "A frame with only its first pages programmed counts as programmed": by its first page
+unfoldable pub programmed : Params → List ℕ → Bool
+programmed p fr = pageUsed p fr 0
+
+-- "except in CT's rule": a frame is whole by its last page
+unfoldable pub whole : Params → List ℕ → Bool
+whole p fr = pageUsed p fr (p .alpha - 1)
+
+-- a whole frame of cluster c, by the spare bytes of its last page alone, which are what T-08's search looks at. A frame that is only begun "is never valid and
+-- hides no earlier frame"
 unfoldable pub holds : Params → List ℕ → ℕ → Bool
-holds p fr c = programmed p fr && eqb (held p fr) c
+holds p fr c = whole p fr && eqb (le32 (spare p fr (p .alpha - 1))) c
 
 -- how many frames of a block are programmed
 unfoldable pub filled : Params → List ℕ → ℕ
 filled p blk = countBelow (frames p) (λ f. programmed p (frame p blk f))
 
--- the last frame of the segment in place k of a block that holds cluster c
+-- the last whole frame of the segment in place k of a block that holds cluster c
 unfoldable pub lastIn : Params → List ℕ → ℕ → ℕ → ℕ
 lastIn p blk k c = lastBelow notFound (frames p) (λ f. eqb (f / p .beta) k && holds p (frame p blk f) c)
 

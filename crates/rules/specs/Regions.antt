@@ -35,7 +35,8 @@ view p b r = viewOf p (b .chip) (b .ct) (b .bt) (b .fst) r
 unfoldable pub assigned : View → ℕ → Bool
 assigned vw v = ltb 0 (length (vw .body v))
 
--- "A frame is valid if its cluster's CT entry names its segment and no later frame of that segment holds the same cluster"
+-- "A frame is valid if its cluster's CT entry names its segment and no later frame of that segment holds the same cluster"; it is a whole one, since lastIn
+-- gives no other
 unfoldable pub valid : Params → View → ℕ → ℕ → Bool
 valid p vw v f =
     let fr = frame p (vw .body v) f in

@@ -1,5 +1,5 @@
 -- Words of documents 01 and 02 that elsewhere a definition alone says, once more in terms of their own: plain numbers, bytes and inequalities. No call is
--- defined by what stands here: proofs/Words.antt, proofs/OrderlyWords.antt and proofs/LooksWords.antt show that the definitions say the same, no less and no more.
+-- defined by what stands here: proofs/Words.antt, proofs/OrderlyWords.antt, proofs/BegunWords.antt and proofs/LooksWords.antt show that the definitions say the same, no less and no more.
 -- The last part is a law of a reclaim's operations, which proofs/CopiesStand.antt shows.
 -- Assumes nothing.
 use Prim.Native.Nat.{ℕ, _+_, _-_, _*_, _/_, _%_, _≤_, _<_, min}
@@ -14,7 +14,7 @@ use Rattle.rules.specs.declared.Params.{Params}
 use Rattle.rules.specs.declared.Reply.the-variants.{Accepted}
 use Rattle.rules.specs.Parameters.{allowed, frames}
 use Rattle.rules.specs.Tables.{Board, btAt, btEntry, bstAt, ctAt, wearAt}
-use Rattle.rules.specs.Pages.{block, erased, frame, held, page, programmed, spareBytes}
+use Rattle.rules.specs.Pages.{block, erased, frame, held, lastIn, page, programmed, spareBytes}
 use Rattle.rules.specs.Regions.{View, assigned, looksAt, valid, validFrames, view}
 use Rattle.rules.specs.Marks.{marksOf}
 use Rattle.rules.specs.Orderly.{orderly}
@@ -76,7 +76,11 @@ pub record FrameListed (p : Params) (r : ℕ) (fr : List ℕ) : Type 0 where
   pub cluster : ℕ
   pub low : cluster < p .C
   pub mine : cluster % p .mu ≡ r
-  pub spares : (j : ℕ) → j < p .alpha → SpareListed cluster j (drop (p .s) (page p fr j))
+  pub m : ℕ
+  pub some : 1 ≤ m
+  pub most : m ≤ p .alpha
+  pub spares : (j : ℕ) → j < m → SpareListed cluster j (drop (p .s) (page p fr j))
+  pub blank : (j : ℕ) → m ≤ j → j < p .alpha → erased (page p fr j) ≡ true
 
 -- "In a used block the first k frames are programmed, k from 1 to F .. The rest is erased"
 pub record BlockListed (p : Params) (r : ℕ) (blk : List ℕ) : Type 0 where
@@ -102,7 +106,7 @@ pub record OpenListed (p : Params) (vw : View) : Type 0 where
   pub names : vw .lastSeg ≡ v * p .d + f / p .beta
   pub full : (u : ℕ) → u < p .gamma → (u ≡ v → ⊥) → assigned vw u ≡ true → (g : ℕ) → g < p .beta * p .d → Written p vw u g
 
--- "names a segment, in its own region, that holds a programmed frame of that cluster"
+-- "names a segment, in its own region, that holds a programmed frame of that cluster", one whose last page is programmed too
 pub record EntryListed (p : Params) (vw : View) (c : ℕ) : Type 0 where
   pub v : ℕ
   pub f : ℕ
@@ -110,6 +114,7 @@ pub record EntryListed (p : Params) (vw : View) (c : ℕ) : Type 0 where
   pub has : assigned vw v ≡ true
   pub inside : f < p .beta * p .d
   pub written : Written p vw v f
+  pub whole : getD (drop (p .s) (page p (frame p (vw .body v) f) (p .alpha - 1))) 6 255 ≡ 0
   pub holds : held p (frame p (vw .body v) f) ≡ c
   pub names : vw .segOf c ≡ v * p .d + f / p .beta
 
@@ -194,6 +199,18 @@ pub record FreeListed (p : Params) (b : Board) (n : ℕ) : Type 0 where
 
 abbrev pub FreeExactly : Type 0
 FreeExactly = (p : Params) (b : Board) → OrderlyBoard p b → FreeListed p b (freeBlock p (b .bst) (b .wear))
+
+-- ---- T-07: a frame with only its first pages programmed
+
+-- the last page of frame f of virtual block v is not programmed
+abbrev pub Unfinished : Params → View → ℕ → ℕ → Type 0
+Unfinished p vw v f = getD (drop (p .s) (page p (frame p (vw .body v) f) (p .alpha - 1))) 6 255 ≡ 0 → ⊥
+
+-- it "is never valid and hides no earlier frame": no search for a cluster ends at it
+abbrev pub UnfinishedNever : Type 0
+UnfinishedNever =
+    (p : Params) (vw : View) (v f : ℕ) → allowed p ≡ true → f < p .beta * p .d → Unfinished p vw v f
+    → (valid p vw v f ≡ false) × ((k c : ℕ) → lastIn p (vw .body v) k c ≡ f → ⊥)
 
 -- ---- T-08, "Spare areas read"
 

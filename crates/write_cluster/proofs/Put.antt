@@ -9,7 +9,7 @@ use native.Mathlib.Omega.{arith}
 use native.Mathlib.Decide.{ℕ-discrete, decLt}
 use native.Mathlib.Nat.{div-lt-iff-lt-mul, mod-lt, zero-mul}
 use lib.Dec.{eqb}
-use borrow.Author.Tests.{eq-eqb, ne-eqb, lt-ltb, eqb-true}
+use borrow.Author.Tests.{eq-eqb, ne-eqb, lt-ltb}
 use lib.ListN.{length, take, set, replicate}
 use Rattle.lists.proofs.Joins.{join-cong}
 use Rattle.chip_frames.specs.Frame.{HostAsked, hostPage, hostFrame, sectorsOf}
@@ -17,22 +17,22 @@ use Rattle.read_work.specs.Lookup.{blockFor, lastFor, frameFor, Lookup, Stands}
 use Rattle.read_work.proofs.Views.{lookup-of}
 use Rattle.write_cluster.specs.Clusters.{Standing, ClusterPut}
 use Rattle.lists.specs.Parts.{allAre, part, putPart}
-use Rattle.lists.proofs.Tests.{and-left, and-right, never}
+use Rattle.lists.proofs.Tests.{never}
 use Rattle.rules.specs.declared.Params.{Params}
 use Rattle.rules.specs.Parameters.{frames, pageBytes, frameBytes, blockBytes}
 use Rattle.rules.specs.Numbers.{sectorOf, regionOf, vblockOf, placeOf, segmentOf}
 use Rattle.rules.specs.Write.{newSector, newPage, newFrame}
 use Rattle.rules.specs.Tables.{Board, none, ctAt, btAt, btEntry}
 use Rattle.rules.specs.Regions.{View, view, viewOf, bodyAt, assigned, frameOf, sectorIn}
-use Rattle.rules.specs.Pages.{block, frame, page, spare, spareBytes, programmed, held, holds, lastIn}
+use Rattle.rules.specs.Pages.{block, frame, page, spare, spareBytes, holds, lastIn}
 use Rattle.rules.specs.Requests.{requestCluster, Request, requestRegion}
 use Rattle.rules.proofs.Sizes.{Sizes, sizes}
-use Rattle.rules.proofs.Frames.{erased-not, seg-low as seg-low-of}
+use Rattle.rules.proofs.Frames.{erased-holds, seg-low as seg-low-of}
 use Rattle.lists.proofs.Parts.{next, part-part, part-length}
 use Rattle.rules.proofs.Isolation.{index-low}
 use Rattle.lists.proofs.Joins.{replicate-of}
 use Rattle.rules.proofs.Continues.{segs-in}
-use Rattle.rules.proofs.RegionFacts.{GoodFrame, Entry}
+use Rattle.rules.proofs.RegionFacts.{GoodFrame, Entry, good-all, good-held}
 use Rattle.rules.proofs.FramePut.{last-holds}
 
 module _ (p : Params) (b : Board) (q : Request) (v f : ℕ) (t : Standing p b q v f) where
@@ -135,16 +135,8 @@ module _ (p : Params) (b : Board) (q : Request) (v f : ℕ) (t : Standing p b q 
     old-holds : holds p (frame p (vw .body u) l) c ≡ true
     old-holds = (last-holds p z (vw .body u) (placeOf p (vw .segOf c)) c (e .held)) .1
 
-    old-programmed : programmed p (frame p (vw .body u) l) ≡ true
-    unfolding holds
-    old-programmed = and-left (programmed p (frame p (vw .body u) l)) _ old-holds
-
-    old-held : held p (frame p (vw .body u) l) ≡ c
-    unfolding holds
-    old-held = eqb-true _ _ (and-right (programmed p (frame p (vw .body u) l)) old-holds)
-
     old-apart : frameFor p (b .chip) (b .ct) (b .bt) c ≡ n * frames p + f → ⊥
-    old-apart x = never old-programmed (rw old-frame at (erased-not p _ (rw (sym x) at to-erased)))
+    old-apart x = never old-holds (rw old-frame at (erased-holds p _ c (rw (sym x) at to-erased)))
 
     old-good : GoodFrame p r (frame p (vw .body u) l)
     old-good = go (ℕ-discrete u v) (decLt l f)
@@ -152,10 +144,12 @@ module _ (p : Params) (b : Board) (q : Request) (v f : ℕ) (t : Standing p b q 
         go : Dec (u ≡ v) → Dec (l < f) → GoodFrame p r (frame p (vw .body u) l)
         go (no x) k = ((t .base .others u u-low x (e .has)) .1) .front l (e .held) (e .held)
         go (yes x) (yes k) = rw x (t .base .front .front (lastIn p (vw .body v) (placeOf p (vw .segOf c)) c) (rw x at k) (rw x at (e .held)))
-        go (yes x) (no k) = absurd (never old-programmed (erased-not p _ (rw (sym x) at (t .base .ready .rest l (omega arith) (e .held)))))
+        go (yes x) (no k) = absurd (never old-holds (erased-holds p _ c (rw (sym x) at (t .base .ready .rest l (omega arith) (e .held)))))
 
     old-marked : (j : ℕ) → j < p .alpha → spare p (part (frameBytes p) (frameFor p (b .chip) (b .ct) (b .bt) c) (b .chip)) j ≡ spareBytes c j
-    old-marked j h = rw old-frame (old-good .marks j h ∙ ap (λ (x : ℕ). spareBytes x j) old-held)
+    old-marked j h =
+        rw old-frame
+        (good-all p z r (frame p (vw .body u) l) old-good c old-holds j h ∙ ap (λ (x : ℕ). spareBytes x j) (good-held p z r (frame p (vw .body u) l) old-good c old-holds))
 
   -- ---- with what the lookup found
 

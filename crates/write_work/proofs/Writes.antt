@@ -28,7 +28,7 @@ use Rattle.rules.specs.Calls.{Outcome, answerOf, outcomeOf}
 use Rattle.rules.proofs.Sizes.{Sizes}
 use Rattle.rules.proofs.Isolation.{index-low}
 use Rattle.rules.proofs.Views.{body-some, has-block, block-low, free-block, free-unnamed}
-use Rattle.rules.proofs.Frames.{erased-not, marked-programmed, seg-place}
+use Rattle.rules.proofs.Frames.{erased-not, seg-place}
 use Rattle.rules.proofs.RegionFacts.{GoodFrame, Open, Neat, filled-le, neat}
 use Rattle.marks.specs.Kept.{putMark, roomMarks, writtenMarks}
 use Rattle.rules.specs.Requests.{Request, write, requestCluster, requestRegion}
@@ -146,7 +146,7 @@ module _ (p : Params) (b : Board) (q : Request) (e : replyOf p b (write q) ≡ A
     where
       first-test : (f : ℕ) → f < frames p → Dec (f < filled p (vw .body o)) → programmed p (frame p (vw .body o) f) ≡ ltb f (filled p (vw .body o))
       first-test f h (yes a) =
-          rw (lt-ltb f (filled p (vw .body o)) a) (marked-programmed p (frame p (vw .body o) f) _ (((nt .blocks o low has) .1 .front f a h) .marks 0 (z .sectors)))
+          rw (lt-ltb f (filled p (vw .body o)) a) (((nt .blocks o low has) .1 .front f a h) .on)
       first-test f h (no a) = rw (le-ltb f (filled p (vw .body o)) (omega arith)) (erased-not p (frame p (vw .body o) f) ((nt .blocks o low has) .1 .rest f (omega arith) h))
 
   first-frames : (fstAt (b .fst) r ≡ none → ⊥) → OpenFrames p (block p (b .chip) (btAt p (b .bt) r (vblockOf p (fstAt (b .fst) r)))) (fstAt (b .fst) r)

@@ -3,20 +3,20 @@
 use mathlib.Core.Path.{sym, _∙_}
 use borrow.Author.Needs.{needs}
 use borrow.Author.Tests.{not-true, not-false}
-use Rattle.check_marks.proofs.Tested.{cluster-low, holds-at, place-is-low, unprogrammed, stale, last}
+use Rattle.check_marks.proofs.Tested.{cluster-low, holds-at, place-is-low, begun, stale, last}
 use Rattle.check_marks.proofs.is_valid.Statement.{statement}
 use Rattle.check_marks.proofs.is_valid.Tie as tie
 
 frame-of-requires : tie.Need-frame-of-requires
 frame-of-requires c κs = search needs
 
-is-programmed-requires : tie.Need-is-programmed-requires
-is-programmed-requires c κs = search needs
+is-whole-requires : tie.Need-is-whole-requires
+is-whole-requires c κs = search needs
 
 returns : tie.Need-returns
 returns c =
     let start = c .before .before .before .before .before in
-    λ r vw s. unprogrammed _ _ _ _ _ (start .pre .0) r vw s _ (c .before .before .frame-of .ensures .0) (sym (c .before .is-programmed .ensures) ∙ not-true _ (c .if1 .taken))
+    λ r vw s. begun _ _ _ _ _ (start .pre .0) r vw s _ (c .before .before .frame-of .ensures .0) (sym (c .before .is-whole .ensures) ∙ not-true _ (c .if1 .taken))
 
 cluster-in-requires : tie.Need-cluster-in-requires
 cluster-in-requires c κs = search needs
@@ -25,7 +25,7 @@ ct-at-requires : tie.Need-ct-at-requires
 ct-at-requires c κs =
     let at-frame-of = c .before .before .before in
     let start = at-frame-of .before .before .before in
-    cluster-low _ _ _ _ _ (start .pre .0) _ (at-frame-of .frame-of .ensures .0) (sym (c .before .before .is-programmed .ensures) ∙ not-false _ (c .before .if1 .left)) _ (c .cluster-in .ensures .0)
+    cluster-low _ _ _ _ _ (start .pre .0) _ (at-frame-of .frame-of .ensures .0) (sym (c .before .before .is-whole .ensures) ∙ not-false _ (c .before .if1 .left)) _ (c .cluster-in .ensures .0)
 
 segment-in-requires : tie.Need-segment-in-requires
 segment-in-requires c κs =
@@ -38,20 +38,20 @@ returns-2 c =
     let at-ct-at = at-segment-in .before in
     let at-cluster-in = at-ct-at .before in
     let at-if1 = at-cluster-in .before in
-    let at-is-programmed = at-if1 .before in
-    let at-frame-of = at-is-programmed .before in
+    let at-is-whole = at-if1 .before in
+    let at-frame-of = at-is-whole .before in
     let start = at-frame-of .before .before .before in
-    λ r vw s. stale _ _ _ _ _ (start .pre .0) r vw s _ (at-frame-of .frame-of .ensures .0) (sym (at-is-programmed .is-programmed .ensures) ∙ not-false _ (at-if1 .if1 .left)) _
+    λ r vw s. stale _ _ _ _ _ (start .pre .0) r vw s _ (at-frame-of .frame-of .ensures .0) (sym (at-is-whole .is-whole .ensures) ∙ not-false _ (at-if1 .if1 .left)) _
     (at-cluster-in .cluster-in .ensures .0) _ _ _ (start .pre .1) (at-ct-at .ct-at .ensures .0) (at-segment-in .segment-in .ensures) (c .if2 .taken)
 
 is-last-requires : tie.Need-is-last-requires
 is-last-requires c κs =
     let at-cluster-in = c .before .before .before .before .before in
     let at-if1 = at-cluster-in .before in
-    let at-is-programmed = at-if1 .before in
-    let at-frame-of = at-is-programmed .before in
+    let at-is-whole = at-if1 .before in
+    let at-frame-of = at-is-whole .before in
     let start = at-frame-of .before .before .before in
-    holds-at _ _ _ _ _ (start .pre .0) _ (at-frame-of .frame-of .ensures .0) (sym (at-is-programmed .is-programmed .ensures) ∙ not-false _ (at-if1 .if1 .left)) _
+    holds-at _ _ _ _ _ (start .pre .0) _ (at-frame-of .frame-of .ensures .0) (sym (at-is-whole .is-whole .ensures) ∙ not-false _ (at-if1 .if1 .left)) _
     (at-cluster-in .cluster-in .ensures .0) _ (start .pre .1)
 
 returns-3 : tie.Need-returns-3
@@ -60,14 +60,14 @@ returns-3 c =
     let at-ct-at = at-segment-in .before in
     let at-cluster-in = at-ct-at .before in
     let at-if1 = at-cluster-in .before in
-    let at-is-programmed = at-if1 .before in
-    let at-frame-of = at-is-programmed .before in
+    let at-is-whole = at-if1 .before in
+    let at-frame-of = at-is-whole .before in
     let start = at-frame-of .before .before .before in
-    λ r vw s. last _ _ _ _ _ (start .pre .0) r vw s _ (at-frame-of .frame-of .ensures .0) (sym (at-is-programmed .is-programmed .ensures) ∙ not-false _ (at-if1 .if1 .left)) _
+    λ r vw s. last _ _ _ _ _ (start .pre .0) r vw s _ (at-frame-of .frame-of .ensures .0) (sym (at-is-whole .is-whole .ensures) ∙ not-false _ (at-if1 .if1 .left)) _
     (at-cluster-in .cluster-in .ensures .0) _ _ _ _ (start .pre .1)
     (at-ct-at .ct-at .ensures .0) (at-segment-in .segment-in .ensures) (c .before .if2 .left) (c .is-last .ensures)
 
 pub is-valid-spec : {M : Type 1} → statement M
 is-valid-spec =
     tie.close
-    (tie.spec frame-of-requires is-programmed-requires returns cluster-in-requires ct-at-requires segment-in-requires returns-2 is-last-requires returns-3)
+    (tie.spec frame-of-requires is-whole-requires returns cluster-in-requires ct-at-requires segment-in-requires returns-2 is-last-requires returns-3)
