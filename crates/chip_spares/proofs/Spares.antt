@@ -15,6 +15,7 @@ use Rattle.rules.specs.Pages.{held, le32, page, pageUsed, programmed, spare, wh
 use Rattle.rules.specs.Parameters.{frameBytes, pageBytes}
 use Rattle.loops.proofs.Elements.{default}
 use Rattle.loops.proofs.Lent.{lent}
+use Rattle.chip_words.proofs.Words.{four-bytes}
 
 drop-take : (n m : ℕ) (l : List ℕ) → drop n (take (n + m) l) ≡ take m (drop n l)
 drop-take zero m l = rw zero-add
@@ -27,11 +28,6 @@ spare-is p fr j = drop-take (p .s) 16 (drop (j * (p .s + 16)) fr)
 
 pub spare-at : (p : Params) (fr : List ℕ) (k z : ℕ) → k < 16 → getD (spare p fr 0) k z ≡ getD fr (p .s + k) z
 spare-at p fr k z h = rw (spare-is, getD-take 16 _ k z h, getD-drop, zero-mul)
-
--- four bytes from a on, low byte first
-pub four-bytes : (a : ℕ) (l : List ℕ) → le32 (drop a l) ≡ getD l a 0 + 256 * getD l (a + 1) 0 + 65536 * getD l (a + 2) 0 + 16777216 * getD l (a + 3) 0
-unfolding le32
-four-bytes a l = rw (getD-drop a l 0 0, getD-drop a l 1 0, getD-drop a l 2 0, getD-drop a l 3 0, add-zero)
 
 -- the cluster, from the first four bytes of the first spare area
 pub held-is : (p : Params) (fr : List ℕ) → held p fr ≡ le32 (drop (p .s) fr)

@@ -1,12 +1,11 @@
 // The spare bytes of a page: what a program writes there, and what those of a frame say.
 ghost use mathlib.Core.Path.{_≡_};
 ghost use mathlib.Core.Bool.{true};
-ghost use Prim.Native.Nat.{_+_, _-_, _<_, _≤_};
-ghost use lib.ListN.{length, drop};
+ghost use Prim.Native.Nat.{_-_, _<_};
+ghost use lib.ListN.{length};
 ghost use Rattle.lists.specs.Parts.{sameList};
 ghost use Rattle.rules.specs.Parameters.{allowed, frameBytes};
 ghost use Rattle.rules.specs.Pages.{le32, spare, spareBytes, held, programmed, whole};
-ghost use Rattle.chip_spares.specs.Words.{le};
 use rules::Cluster;
 use rules::Params;
 
@@ -34,41 +33,14 @@ pub fn spare_bytes(c: Cluster, place: u8) -> [u8; rules::SPARE_BYTES]
     ]
 }
 
-// A byte as a number.
-fn wide(x: u8) -> usize
-    ensures { λ n. ⌜ n ≡ x ⌝ }
-    ensures { λ n. ⌜ n < 256 ⌝ }
-{
-    x as usize
-}
-
-// The four bytes of a lent part from byte a on, as a number, low byte first: one load.
-fn half(part: &[u8], a: usize) -> usize
-    requires { ⌜ a + 4 ≤ length (now part) ⌝ }
-    ensures { λ n. ⌜ n ≡ le32 (drop a (now (part .entry))) ⌝ }
-    ensures { λ n. ⌜ n < 4294967296 ⌝ }
-{
-    wide(part[a])
-        + 256 * wide(part[a + 1])
-        + 65536 * wide(part[a + 2])
-        + 16777216 * wide(part[a + 3])
-}
-
-// Eight bytes as a number, low byte first: one load, so that eight bytes are compared at once.
-fn word(part: &[u8]) -> usize
-    requires { ⌜ length (now part) ≡ 8 ⌝ }
-    ensures { λ n. ⌜ n ≡ le (now (part .entry)) ⌝ }
-{
-    half(part, 0) + 4294967296 * half(part, 4)
-}
-
 // True if these 16 bytes and those are the same: two words each.
 fn same(a: &[u8], b: &[u8]) -> bool
     requires { ⌜ length (now a) ≡ 16 ⌝ }
     requires { ⌜ length (now b) ≡ 16 ⌝ }
     ensures { λ ok. ⌜ ok ≡ sameList (now (a .entry)) (now (b .entry)) ⌝ }
 {
-    (word(&a[..8]) == word(&b[..8])) & (word(&a[8..]) == word(&b[8..]))
+    (chip_words::word(a, 0) == chip_words::word(b, 0))
+        & (chip_words::word(a, 8) == chip_words::word(b, 8))
 }
 
 // The cluster that a frame's first page names.
@@ -78,7 +50,7 @@ pub fn cluster_in(p: Params, frame: &[u8]) -> Cluster
     ensures { λ c. ⌜ c .0 ≡ held p (now (frame .entry)) ⌝ }
     ensures { λ c. ⌜ c .0 < 4294967296 ⌝ }
 {
-    let n = half(frame, p.s);
+    let n = chip_words::half(frame, p.s);
     Cluster(n)
 }
 
@@ -99,7 +71,7 @@ pub fn last_cluster(p: Params, frame: &[u8]) -> Cluster
     ensures { λ c. ⌜ c .0 ≡ le32 (spare p (now (frame .entry)) (p .alpha - 1)) ⌝ }
 {
     let a = frame.len() - rules::SPARE_BYTES;
-    let n = half(frame, a);
+    let n = chip_words::half(frame, a);
     Cluster(n)
 }
 

@@ -1,10 +1,10 @@
--- `chip_spares::half`: the sum, byte by byte.
+-- `chip_words::half`: the sum, byte by byte.
 -- Assumes nothing.
 use native.Mathlib.Omega.{arith}
 use borrow.Author.Needs.{needs}
-use Rattle.chip_spares.proofs.Spares.{four-bytes}
-use Rattle.chip_spares.proofs.half.Statement.{statement}
-use Rattle.chip_spares.proofs.half.Tie as tie
+use Rattle.chip_words.proofs.Words.{four-bytes}
+use Rattle.chip_words.proofs.half.Statement.{statement}
+use Rattle.chip_words.proofs.half.Tie as tie
 
 shared-slice-read-wide : tie.Need-shared-slice-read-wide
 shared-slice-read-wide c = search needs

@@ -1,13 +1,16 @@
--- `chip_spares::word`: two times four bytes.
+-- `chip_words::word`: two times four bytes.
 -- Assumes nothing.
 use native.Mathlib.Omega.{arith}
 use borrow.Author.Needs.{needs}
-use Rattle.chip_spares.proofs.Words.{two-halves}
-use Rattle.chip_spares.proofs.word.Statement.{statement}
-use Rattle.chip_spares.proofs.word.Tie as tie
+use Rattle.chip_words.proofs.Words.{eight-bytes}
+use Rattle.chip_words.proofs.word.Statement.{statement}
+use Rattle.chip_words.proofs.word.Tie as tie
 
 half-requires : tie.Need-half-requires
 half-requires c κs = search needs
+
+add-half : tie.Need-add-half
+add-half c = search needs
 
 half-requires-2 : tie.Need-half-requires-2
 half-requires-2 c κs = search needs
@@ -21,7 +24,7 @@ add-result c = search needs
 returns : tie.Need-returns
 returns c =
     let start = c .before .before .before in
-    omega (arith, two-halves (start .args .part .now) (start .pre))
+    omega (arith, eight-bytes (start .args .a) (start .args .part .now))
 
 pub word-spec : {M : Type 1} → statement M
-word-spec = tie.close (tie.spec half-requires half-requires-2 mul-result add-result returns)
+word-spec = tie.close (tie.spec half-requires add-half half-requires-2 mul-result add-result returns)
