@@ -8,11 +8,11 @@ use Prim.Native.Nat.{_*_, _+_, _<_, suc, zero, ℕ, _≤_}
 use native.Mathlib.Nat.{add-mul, eq-or-lt-of-le, le-of-lt, one-mul}
 use native.Mathlib.Numerals.{add-one}
 use native.Mathlib.Omega.{arith}
-use lib.Bits.{and-le-l, and-le-r, bitAnd}
+use lib.Bits.{and-le-l, and-le-r, and-self, bitAnd}
 use lib.Dec.{eqb}
 use lib.ListN.{drop, getD, length, set, take, take-append-drop}
 use lib.Seq.{append-snoc, drop-cons, drop-drop, length-take-le, set-at, take-add, take-all, take-suc}
-use borrow.Author.Tests.{ne-eqb}
+use borrow.Author.Tests.{eq-eqb, ne-eqb}
 use Rattle.lists.specs.Parts.{allAre, part}
 
 -- ---- every element is x
@@ -30,48 +30,51 @@ pub all-none : (x : ℕ) (s : List ℕ) → true ≡ allAre x (take 0 s)
 unfolding allAre
 all-none x s = refl
 
--- the bits that two bytes have in common are all bits exactly if both are 255
-both-full : (a x : ℕ) → a < 256 → x < 256 → eqb (bitAnd a x) 255 ≡ eqb a 255 && eqb x 255
-both-full a x ha hx =
+-- the bits that two numbers of at most m have in common are m exactly if both are m
+pub both-full : (m a x : ℕ) → a ≤ m → x ≤ m → eqb (bitAnd a x) m ≡ eqb a m && eqb x m
+both-full m a x ha hx =
     ⊎-elim
-    (λ (e : a ≡ 255). ⊎-elim (λ (f : x ≡ 255). rw (e, f))
-    (λ (l : x < 255). rw (ne-eqb x 255 (λ g. omega arith), and-false) (ne-eqb (bitAnd a x) 255 (λ g. omega (arith, and-le-r a x))))
-    (eq-or-lt-of-le {n = x} {m = 255} (omega arith)))
-    (λ (l : a < 255). rw (ne-eqb a 255 (λ g. omega arith)) (ne-eqb (bitAnd a x) 255 (λ g. omega (arith, and-le-l a x))))
-    (eq-or-lt-of-le {n = a} {m = 255} (omega arith))
+    (λ (e : a ≡ m). ⊎-elim (λ (f : x ≡ m). rw (e, f, and-self m, eq-eqb m m refl))
+    (λ (l : x < m). rw (ne-eqb x m (λ g. omega arith), and-false) (ne-eqb (bitAnd a x) m (λ g. omega (arith, and-le-r a x))))
+    (eq-or-lt-of-le {n = x} {m = m} hx))
+    (λ (l : a < m). rw (ne-eqb a m (λ g. omega arith)) (ne-eqb (bitAnd a x) m (λ g. omega (arith, and-le-l a x))))
+    (eq-or-lt-of-le {n = a} {m = m} ha)
 
 -- a turn of the loop that gathers the bits that all bytes have
 pub bits-more : (s : List ℕ) (i a : ℕ) → i < length s → a < 256 → getD s i 0 < 256 → eqb a 255 ≡ allAre 255 (take i s)
     → (bitAnd a (getD s i 0) < 256) × (eqb (bitAnd a (getD s i 0)) 255 ≡ allAre 255 (take (i + 1) s))
-bits-more s i a h ha hx e =
-    (omega (arith, and-le-l a (getD s i 0)), both-full a (getD s i 0) ha hx ∙ ap (λ (t : Bool). t && eqb (getD s i 0) 255) e ∙ sym (all-step 255 s i h))
+bits-more s i a h ha hx e = (
+  omega (arith, and-le-l a (getD s i 0)),
+  both-full 255 a (getD s i 0) (omega arith) (omega arith) ∙ ap (λ (t : Bool). t && eqb (getD s i 0) 255) e ∙ sym (all-step 255 s i h),
+)
 
 pub all-done : (x : ℕ) (s : List ℕ) (i : ℕ) (ok : Bool) → length s ≤ i → ok ≡ allAre x (take i s) → ok ≡ allAre x s
 all-done x s i ok h k = k ∙ ap (allAre x) (take-all i s h)
 
+-- piece by piece
+pub all-pieces : (x n : ℕ) (s : List ℕ) → allAre x s ≡ allAre x (take n s) && allAre x (drop n s)
+all-pieces x n s = ap (allAre x) (sym (take-append-drop n s)) ∙ all-append x (take n s) (drop n s)
+
+pub all-longer : (x n w : ℕ) (s : List ℕ) → allAre x (take (n + w) s) ≡ allAre x (take n s) && allAre x (take w (drop n s))
+all-longer x n w s = ap (allAre x) (take-add n w s) ∙ all-append x (take n s) (take w (drop n s))
+
 -- part by part
-pub parts-more : (x w i : ℕ) (s : List ℕ) → allAre x (take (i * w) s) ≡ true → allAre x (part w i s) ≡ true → allAre x (take ((i + 1) * w) s) ≡ true
+pub parts-next : (x w i : ℕ) (s : List ℕ) → allAre x (take ((i + 1) * w) s) ≡ allAre x (take (i * w) s) && allAre x (part w i s)
 unfolding part
-parts-more x w i s h k =
+parts-next x w i s =
     let e : (i + 1) * w ≡ i * w + w = omega (arith, add-mul i 1 w, one-mul w) in
-    rw (e, take-add (i * w) w s, all-append, h, k)
+    rw e (all-longer x (i * w) w s)
+
+pub parts-more : (x w i : ℕ) (s : List ℕ) → allAre x (take (i * w) s) ≡ true → allAre x (part w i s) ≡ true → allAre x (take ((i + 1) * w) s) ≡ true
+parts-more x w i s h k = parts-next x w i s ∙ rw (h, k)
 
 pub parts-fail : (x w i : ℕ) (s : List ℕ) → allAre x (part w i s) ≡ false → false ≡ allAre x s
 unfolding part
 parts-fail x w i s e =
-    sym (and-false (allAre x (take (i * w) s))) ∙ ap (λ (t : Bool). allAre x (take (i * w) s) && t) rest ∙ sym whole
+    sym (and-false (allAre x (take (i * w) s))) ∙ ap (λ (t : Bool). allAre x (take (i * w) s) && t) rest ∙ sym (all-pieces x (i * w) s)
   where
-    rest : false ≡ allAre x (take w (drop (i * w) s)) && allAre x (drop w (drop (i * w) s))
-    rest = rw e
-
-    whole : allAre x s ≡ allAre x (take (i * w) s) && (allAre x (take w (drop (i * w) s)) && allAre x (drop w (drop (i * w) s)))
-    whole =
-        ap (allAre x) (sym (take-append-drop (i * w) s)) ∙ all-append x (take (i * w) s) (drop (i * w) s)
-        ∙ ap (λ (t : Bool). allAre x (take (i * w) s) && t) (ap (allAre x) (sym (take-append-drop w (drop (i * w) s))) ∙ all-append x (take w (drop (i * w) s)) (drop w (drop (i * w) s)))
-
--- the first n are x: what is left behind them decides
-pub rest-decides : (x n : ℕ) (s : List ℕ) → allAre x (take n s) ≡ true → allAre x s ≡ allAre x (drop n s)
-rest-decides x n s h = ap (allAre x) (sym (take-append-drop n s)) ∙ all-append x (take n s) (drop n s) ∙ rw h
+    rest : false ≡ allAre x (drop (i * w) s)
+    rest = rw (all-pieces x w (drop (i * w) s), e)
 
 -- part i of the list from part h on
 pub part-from : (w h i : ℕ) (s : List ℕ) → part w i (drop (h * w) s) ≡ part w (h + i) s
