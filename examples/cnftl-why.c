@@ -79,11 +79,21 @@ static const uint8_t *spare_of(const struct cnftl_board *b, uint32_t block,
     return b->chip + page * cnftl_page_bytes(p) + p->s;
 }
 
-/* Whether a frame of an orderly board is programmed. */
+/* Whether a frame of an orderly board is programmed, if only its first page. */
 static int is_programmed(const struct cnftl_board *b, uint32_t block,
                          uint32_t frame)
 {
     return spare_of(b, block, frame)[6] == 0;
+}
+
+/* Whether it is whole: its last page is programmed too. */
+static int is_whole(const struct cnftl_board *b, uint32_t block,
+                    uint32_t frame)
+{
+    const struct cnftl_params *p = &b->params;
+
+    return spare_of(b, block, frame)[(p->alpha - 1) * cnftl_page_bytes(p) + 6]
+        == 0;
 }
 
 /* The cluster in a programmed frame. */
@@ -97,7 +107,8 @@ static uint32_t cluster_in(const struct cnftl_board *b, uint32_t block,
 }
 
 /* The letter of a frame: V valid, that is, CT names its segment and no later
-   frame of the segment holds its cluster; S stale; E erased. */
+   whole frame of the segment holds its cluster; S stale; B only begun; E
+   erased. */
 static char letter_of(const struct cnftl_board *b, uint32_t segment,
                       uint32_t block, uint32_t frame)
 {
@@ -105,11 +116,13 @@ static char letter_of(const struct cnftl_board *b, uint32_t segment,
 
     if (!is_programmed(b, block, frame))
         return 'E';
+    if (!is_whole(b, block, frame))
+        return 'B';
     cluster = cluster_in(b, block, frame);
     if (b->ct[cluster] != segment)
         return 'S';
     for (uint32_t later = frame + 1; later % beta != 0; later++)
-        if (is_programmed(b, block, later)
+        if (is_whole(b, block, later)
             && cluster_in(b, block, later) == cluster)
             return 'S';
     return 'V';
@@ -218,7 +231,7 @@ static void tell_write(const struct cnftl_board *b, uint32_t region,
     draw_block(b, target, block,
                list[CNFTL_WHY_WRITE] == CNFTL_WRITE_RECLAIMS ? NO_FRAME
                                                              : takes);
-    printf("V valid, S stale, E erased, one letter a frame; ^ the frame "
+    printf("V valid, S stale, B begun, E erased, one letter a frame; ^ the frame "
            "meant\n");
 }
 

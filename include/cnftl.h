@@ -33,9 +33,11 @@
  *   - bst: for each physical block a cnftl_block_state.  wear: for each
  *     physical block the number of its erases, which stays at 4,294,967,295
  *     once there.
- *   - marks: one bit for each frame, 1 exactly if the frame is valid: it is
- *     programmed, the CT entry of its cluster names its segment, and no later
- *     frame of that segment holds the same cluster.  Each region and virtual
+ *   - marks: one bit for each frame, 1 exactly if the frame is valid: all its
+ *     pages are programmed, the CT entry of its cluster names its segment, and
+ *     no later such frame of that segment holds the same cluster.  A frame with
+ *     only its first pages programmed, as a power loss may leave one, is never
+ *     valid and hides no earlier frame.  Each region and virtual
  *     block has CNFTL_MARK_WORDS words, region first: frame f of virtual block
  *     v of region r is bit f % 64, UINT64_C(1) << f % 64, of entry
  *     CNFTL_MARK_WORDS*(r*gamma + v) + f/64.  All other bits are 0.
@@ -181,6 +183,7 @@ enum cnftl_why_entry {
  * The rules of an orderly state, in the order in which they are looked at.
  * Each of them relies on those before it.  The blocks of a region are those
  * that BT names for it, and a block is full if all its F frames are programmed.
+ * A frame is programmed if its first page is, and whole if all its pages are.
  */
 enum cnftl_rule {
     CNFTL_RULE_NONE = 0,       /* no rule is broken                         */
@@ -193,14 +196,15 @@ enum cnftl_rule {
     CNFTL_RULE_USED_BLOCK = 7, /* in a used block of a region the first k
                                   frames, k from 1 to F, are programmed with
                                   clusters below c of that region and with
-                                  their spare bytes; the rest is erased     */
+                                  their spare bytes, each in all or only its
+                                  first pages; the rest is erased           */
     CNFTL_RULE_FST = 8,        /* FST is none exactly if the region has no
                                   block; else it is the segment of the last
                                   programmed frame of one of its blocks, the
                                   open block, and every other block of the
                                   region is full                            */
     CNFTL_RULE_CT = 9,         /* a CT entry is none or names a segment of its
-                                  region that holds a programmed frame of the
+                                  region that holds a whole frame of the
                                   cluster                                   */
     CNFTL_RULE_MARKS = 10      /* a frame's mark is 1 exactly if the frame is
                                   valid, and all other bits are 0           */

@@ -42,7 +42,7 @@ A write continues the open block: it takes frame 3 of virtual block 0,
     segment     0  SV
     segment     1  VE
                     ^
-V valid, S stale, E erased, one letter a frame; ^ the frame meant
+V valid, S stale, B begun, E erased, one letter a frame; ^ the frame meant
 END
 check "an erased frame is not looked at" tells 0 "$room/board" 6 <<'END'
 Sector 6 is at place 0 of cluster 3, in region 1.
@@ -56,7 +56,25 @@ A write continues the open block: it takes frame 3 of virtual block 0,
     segment     0  SV
     segment     1  VE
                     ^
-V valid, S stale, E erased, one letter a frame; ^ the frame meant
+V valid, S stale, B begun, E erased, one letter a frame; ^ the frame meant
+END
+
+# Frame 0, which is stale, loses its second page: as if power had gone when its first page was programmed.
+begun() { broken "$1" $((44 + page)) "$(printf '\\377%.0s' $(seq "$page"))"; }
+check "a frame that was only begun" begun "$room/begun"
+check "the board with it" tells 0 "$room/begun" 0 <<'END'
+Sector 0 is at place 0 of cluster 0, in region 0.
+It reads from frame 1 of physical block 0,
+  which is virtual block 0 of region 0; segment 0 there:
+    segment     0  BV
+                    ^
+A read or a write of it looks at 1 spare area: that of frame 1.
+A write continues the open block: it takes frame 3 of virtual block 0,
+  physical block 0, and programs 2 pages:
+    segment     0  BV
+    segment     1  VE
+                    ^
+V valid, S stale, B begun, E erased, one letter a frame; ^ the frame meant
 END
 
 # Frame 1 holds cluster 4 in place of cluster 0, so that the two clusters share segment 0.
@@ -77,7 +95,7 @@ A write continues the open block: it takes frame 3 of virtual block 0,
     segment     0  VV
     segment     1  VE
                     ^
-V valid, S stale, E erased, one letter a frame; ^ the frame meant
+V valid, S stale, B begun, E erased, one letter a frame; ^ the frame meant
 END
 check "the last one needs one look" grep -q '^A read or a write of it looks at 1 spare area: that of frame 1.$' \
     <(run "$room/cnftl-why" "$room/shared" 9)
@@ -97,7 +115,7 @@ A write opens virtual block 1: it takes frame 0 of a free block,
     segment     2  EE
                    ^
     segment     3  EE
-V valid, S stale, E erased, one letter a frame; ^ the frame meant
+V valid, S stale, B begun, E erased, one letter a frame; ^ the frame meant
 END
 
 check "the first block full, the second begun" control 2
@@ -140,7 +158,7 @@ A write reclaims virtual block 0: it copies 2 valid frames to a free block,
   takes frame 2 there, programs 6 pages, and erases physical block 1:
     segment     0  SV
     segment     1  SV
-V valid, S stale, E erased, one letter a frame; ^ the frame meant
+V valid, S stale, B begun, E erased, one letter a frame; ^ the frame meant
 END
 
 check "a sector past the end" complains 1 "sector 40 is refused with reply 4: the board ends with sector 39" cnftl-why "$room/board" 40

@@ -19,7 +19,7 @@ use Rattle.rules.specs.declared.Params.{Params}
 use Rattle.rules.specs.Orderly.{goodFrame, usedPages}
 use Rattle.rules.specs.Pages.{held, page, programmed, spare, spareBytes}
 use Rattle.rules.specs.Parameters.{frameBytes, pageBytes}
-use Rattle.rules.proofs.Frames.{marked-programmed, marked-used, page-not}
+use Rattle.rules.proofs.Frames.{right-programmed, right-used, page-not}
 use Rattle.rules.proofs.RegionFacts.{GoodFrame, good-frame, good-frame-back, good-used}
 use Rattle.rules.proofs.Sizes.{Sizes}
 use Rattle.chip_blocks.proofs.Rest.{parts-back, parts-from}
@@ -34,12 +34,12 @@ module _ (p : Params) (z : Sizes p) (r : ℕ) (fr : List ℕ) (size : length fr 
   good : 0 < k → ((j : ℕ) → k ≤ j → j < p .alpha → allAre 255 (page p fr j) ≡ true) → GoodFrame p r fr
   good some blank =
       let used : usedPages p fr ≡ k =
-      unfold usedPages in count-is (p .alpha) k _ le (λ j h. marked-used p fr j (held p fr) (marked j h)) (λ j a b. page-not p fr j (blank j a b)) in
+      unfold usedPages in count-is (p .alpha) k _ le (λ j h. right-used p fr j (held p fr) (marked j h)) (λ j a b. page-not p fr j (blank j a b)) in
       record {
-        on = marked-programmed p fr (held p fr) (marked 0 some);
+        on = right-programmed p fr (held p fr) (marked 0 some);
         low = rw (← e) low;
         mine = rw (← e) mine;
-        marks = λ j a b. marked j (omega (arith, used));
+        spares = λ j a b. marked j (omega (arith, used));
         blank = λ j a b. blank j (omega (arith, used)) b;
       }
 
@@ -53,11 +53,11 @@ module _ (p : Params) (z : Sizes p) (r : ℕ) (fr : List ℕ) (size : length fr 
       go : Dec (usedPages p fr < k) → Dec (k < usedPages p fr) → usedPages p fr ≡ k
       go (yes a) b =
           let in-frame : usedPages p fr < p .alpha = omega arith in
-          absurd (omega (arith, good-used p r fr g (usedPages p fr) in-frame (marked-used p fr (usedPages p fr) (held p fr) (marked (usedPages p fr) a))))
+          absurd (omega (arith, good-used p r fr g (usedPages p fr) in-frame (right-used p fr (usedPages p fr) (held p fr) (marked (usedPages p fr) a))))
       go (no a) (yes b) = inside (decLt k (p .alpha))
         where
           inside : Dec (k < p .alpha) → usedPages p fr ≡ k
-          inside (yes h) = absurd (never (rw (e, g .marks k b h) (same-refl _)) (stop h))
+          inside (yes h) = absurd (never (rw (e, g .spares k b h) (same-refl _)) (stop h))
           inside (no h) = absurd (omega (arith, used-most))
             where
               used-most : usedPages p fr ≤ p .alpha

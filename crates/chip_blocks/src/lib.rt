@@ -42,7 +42,7 @@ pub fn frame_of(p: Params, blk: &[u8], f: usize) -> &[u8]
 }
 
 // How many pages of a frame, from the first on, have the spare bytes of cluster c: up to the first that has not.
-fn marked_pages(p: Params, fr: &[u8], c: Cluster) -> usize
+fn right_pages(p: Params, fr: &[u8], c: Cluster) -> usize
     requires { ⌜ allowed p ≡ true ⌝ }
     requires { ⌜ length (now fr) ≡ frameBytes p ⌝ }
     ensures { λ k. ⌜ k ≤ p .alpha ⌝ }
@@ -52,7 +52,7 @@ fn marked_pages(p: Params, fr: &[u8], c: Cluster) -> usize
     let m = p.alpha;
     let mut j = 0;
     while j < m {
-        if !chip_spares::is_marked(p, fr, c, j) {
+        if !chip_spares::spare_right(p, fr, c, j) {
             return j;
         }
         j += 1;
@@ -73,7 +73,7 @@ fn good_frame(p: Params, r: usize, fr: &[u8]) -> bool
     if rules::region_of(p, c) != r {
         return false;
     }
-    let m = marked_pages(p, fr, c);
+    let m = right_pages(p, fr, c);
     if m == p.alpha {
         return true;
     }

@@ -53,7 +53,7 @@ module _ (chip : List ℕ) (s q : ℕ) (kept : Bool) (old j off count : ℕ) (by
   pub kept-done : (u : List ℕ) → leb off j && ltb j (off + count) ≡ false → kept ≡ true → u ≡ putPart (s + 16) q (part (s + 16) old chip) chip
       → u ≡ putPart (s + 16) q (hostPage s off count bytes (pageSector s kept old chip) c j) chip
   unfolding hostPage pageSector
-  kept-done u e k g = g ∙ rw (e, k, ← f .marked k, take-append-drop s (part (s + 16) old chip))
+  kept-done u e k g = g ∙ rw (e, k, ← f .spares k, take-append-drop s (part (s + 16) old chip))
 
   pub blank-done : (u : List ℕ) → leb off j && ltb j (off + count) ≡ false → kept ≡ false → u ≡ putPart (s + 16) q (replicate s 255 ++ spareBytes c (j % 256)) chip
       → u ≡ putPart (s + 16) q (hostPage s off count bytes (pageSector s kept old chip) c j) chip
@@ -124,7 +124,7 @@ module _ (chip : List ℕ) (s n to : ℕ) (kept : Bool) (old off count : ℕ) (b
         clean = rw e (run-next (s + 16) n to sheet chip (f .fits) frame-whole k h ∙ rw (f .clean) (part-replicate (s + 16) k (n * (s + 16)) 255 (next (s + 16) k n h)));
         given = f .given;
         source = omega (arith, z, next (s + 16) k n h, f .source);
-        marked = λ t. rw (e, old-page k h t) (f .marked t k h);
+        spares = λ t. rw (e, old-page k h t) (f .spares t k h);
       }
 
   sector-is : (l : List ℕ) (k : ℕ) → k < n → l ≡ written k → pageSector s kept (old * n + k) l ≡ sectorsOf s n kept old chip k

@@ -43,9 +43,9 @@ pub record PageAsked (chip : List ℕ) (s q : ℕ) (kept : Bool) (old j off coun
   pub clean : part (s + 16) q chip ≡ replicate (s + 16) 255
   pub given : length bytes ≡ count * s
   pub source : old * (s + 16) + (s + 16) ≤ length chip
-  pub marked : kept ≡ true → drop s (part (s + 16) old chip) ≡ spareBytes c j
+  pub spares : kept ≡ true → drop s (part (s + 16) old chip) ≡ spareBytes c j
 
--- frame `to` is erased; the given sectors lie in the cluster; frame `old`, where it is kept, is another and is marked as the cluster
+-- frame `to` is erased; the given sectors lie in the cluster; frame `old`, where it is kept, is another and has the cluster's spare bytes
 pub record HostAsked (chip : List ℕ) (s n to : ℕ) (kept : Bool) (old off count : ℕ) (bytes : List ℕ) (c : ℕ) : Type 0 where
   pub small : s ≤ 512
   pub few : n ≤ 256
@@ -55,4 +55,4 @@ pub record HostAsked (chip : List ℕ) (s n to : ℕ) (kept : Bool) (old off cou
   pub clean : part (n * (s + 16)) to chip ≡ replicate (n * (s + 16)) 255
   pub source : old * (n * (s + 16)) + n * (s + 16) ≤ length chip
   pub apart : kept ≡ true → old ≡ to → ⊥
-  pub marked : kept ≡ true → (j : ℕ) → j < n → drop s (part (s + 16) j (part (n * (s + 16)) old chip)) ≡ spareBytes c j
+  pub spares : kept ≡ true → (j : ℕ) → j < n → drop s (part (s + 16) j (part (n * (s + 16)) old chip)) ≡ spareBytes c j

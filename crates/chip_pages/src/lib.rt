@@ -22,7 +22,7 @@ pub fn put(part: &mut [u8], bytes: &[u8])
 }
 
 // An erased spare area gets the spare bytes of its page.
-fn mark(spare: &mut [u8], c: Cluster, place: u8)
+fn put_spare(spare: &mut [u8], c: Cluster, place: u8)
     requires { ⌜ now spare ≡ replicate 16 255 ⌝ }
     ensures { λ _. ⌜ now (spare .exit) ≡ spareBytes (c .0) place ⌝ }
 {
@@ -37,7 +37,7 @@ pub fn program(page: &mut [u8], bytes: &[u8], c: Cluster, place: u8)
 {
     let s = bytes.len();
     put(page, bytes);
-    mark(&mut page[s..], c, place);
+    put_spare(&mut page[s..], c, place);
 }
 
 // The same with s data bytes that are 255 throughout, which stand there already.
@@ -45,7 +45,7 @@ pub fn program_blank(page: &mut [u8], s: usize, c: Cluster, place: u8)
     requires { ⌜ now page ≡ replicate (s + 16) 255 ⌝ }
     ensures { λ _. ⌜ now (page .exit) ≡ replicate s 255 ++ spareBytes (c .0) place ⌝ }
 {
-    mark(&mut page[s..], c, place);
+    put_spare(&mut page[s..], c, place);
 }
 
 // An erased page is programmed with the bytes of another, spare bytes and all.

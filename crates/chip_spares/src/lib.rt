@@ -86,7 +86,7 @@ pub fn is_whole(p: Params, frame: &[u8]) -> bool
 }
 
 // True if page j of a frame has the spare bytes of cluster c.
-pub fn is_marked(p: Params, frame: &[u8], c: Cluster, j: usize) -> bool
+pub fn spare_right(p: Params, frame: &[u8], c: Cluster, j: usize) -> bool
     requires { ⌜ allowed p ≡ true ⌝ }
     requires { ⌜ length (now frame) ≡ frameBytes p ⌝ }
     requires { ⌜ j < p .alpha ⌝ }

@@ -61,14 +61,14 @@ format-fits p chip = fit-join p (p .N) _ (λ n h. go n h (bad p chip n))
 -- ---- a frame's programs
 
 -- a whole frame whose pages all have the spare bytes of one cluster of the board
-pub record Marked (p : Params) (x : List ℕ) : Type 0 where
+pub record Whole (p : Params) (x : List ℕ) : Type 0 where
   pub whole : length x ≡ frameBytes p
   pub cluster : ℕ
   pub low : cluster < p .C
-  pub marks : (j : ℕ) → j < p .alpha → spare p x j ≡ spareBytes cluster j
+  pub spares : (j : ℕ) → j < p .alpha → spare p x j ≡ spareBytes cluster j
 
 module _ (p : Params) (z : Sizes p) (n : ℕ) (low : n < p .N) where
-  frame-fits : (f : ℕ) (x : List ℕ) → f < frames p → Marked p x → AllFit p (frameOps p n f x (p .alpha))
+  frame-fits : (f : ℕ) (x : List ℕ) → f < frames p → Whole p x → AllFit p (frameOps p n f x (p .alpha))
   unfolding frameOps
   frame-fits f x h m = fit-join p (p .alpha) _ (λ j k. (one j k, tt))
     where
@@ -76,7 +76,7 @@ module _ (p : Params) (z : Sizes p) (n : ℕ) (low : n < p .N) where
       place j k = rw mul-add-mod-self-right (mod-eq-of-lt k)
 
       listed : (j : ℕ) → j < p .alpha → SpareListed (m .cluster) ((f * p .alpha + j) % p .alpha) (drop (p .s) (page p x j))
-      listed j k = rw (place j k) (unfold spare in (spares-exactly (m .cluster) j (omega (arith, m .low, z .clusters)) (spare p x j)) .0 (m .marks j k))
+      listed j k = rw (place j k) (unfold spare in (spares-exactly (m .cluster) j (omega (arith, m .low, z .clusters)) (spare p x j)) .0 (m .spares j k))
 
       long : (j : ℕ) → j < p .alpha → length (page p x j) ≡ p .s + 16
       long j k = unfold page pageBytes in part-length (pageBytes p) j x (rw (m .whole) (unfold frameBytes in next (pageBytes p) j (p .alpha) k))
@@ -84,12 +84,12 @@ module _ (p : Params) (z : Sizes p) (n : ℕ) (low : n < p .N) where
       one : (j : ℕ) → j < p .alpha → Fits p (program n (f * p .alpha + j) (page p x j))
       one j k = (low, unfold pages in omega (arith, next (p .alpha) f (frames p) h), long j k, (m .cluster, m .low, listed j k))
 
-  frames-fit : (xs : List (List ℕ)) (to : ℕ) → to + length xs ≤ frames p → ((i : ℕ) → i < length xs → Marked p (getD xs i [])) → AllFit p (framesOps p n to xs)
+  frames-fit : (xs : List (List ℕ)) (to : ℕ) → to + length xs ≤ frames p → ((i : ℕ) → i < length xs → Whole p (getD xs i [])) → AllFit p (framesOps p n to xs)
   unfolding framesOps
   frames-fit [] to h m = tt
   frames-fit (x ∷ xs) to h m = fit-append p (frameOps p n to x (p .alpha)) _ (frame-fits to x (omega arith) (m 0 (omega arith))) (frames-fit xs (suc to) (omega arith) (λ i k. m (suc i) (omega arith)))
 
--- ---- the copies of a reclaim are marked
+-- ---- the copies of a reclaim have their spare bytes
 
 module _ (p : Params) (z : Sizes p) (b : Board) (t : Tables p b) (r : ℕ) (region : r < p .mu) (nt : Neat p r (view p b r)) (v : ℕ) (mine : v < p .gamma) where
   -- a block without a physical one has no programmed frame
@@ -101,14 +101,14 @@ module _ (p : Params) (z : Sizes p) (b : Board) (t : Tables p b) (r : ℕ) (regi
       empty [] e = allAre-part 255 (frameBytes p) f [] (unfold allAre in refl)
       empty (y ∷ l) e = absurd (omega (arith, ltb-false 0 (length (y ∷ l)) e))
 
-  valid-marked : (f : ℕ) → f < frames p → Valid p (view p b r) v f → Marked p (frame p ((view p b r) .body v) f)
-  valid-marked f h w = go (so (assigned (view p b r) v))
+  valid-spares : (f : ℕ) → f < frames p → Valid p (view p b r) v f → Whole p (frame p ((view p b r) .body v) f)
+  valid-spares f h w = go (so (assigned (view p b r) v))
     where
-      go : (assigned (view p b r) v ≡ true) ⊎ (assigned (view p b r) v ≡ false) → Marked p (frame p ((view p b r) .body v) f)
+      go : (assigned (view p b r) v ≡ true) ⊎ (assigned (view p b r) v ≡ false) → Whole p (frame p ((view p b r) .body v) f)
       go (inr a) = absurd (never (w .written) (none-written f a))
       go (inl a) = pick (decLt f (filled p ((view p b r) .body v)))
         where
-          pick : Dec (f < filled p ((view p b r) .body v)) → Marked p (frame p ((view p b r) .body v) f)
+          pick : Dec (f < filled p ((view p b r) .body v)) → Whole p (frame p ((view p b r) .body v) f)
           pick (yes k) =
               let g = (nt .blocks v mine a) .1 .front f k h in
               record {
@@ -116,17 +116,17 @@ module _ (p : Params) (z : Sizes p) (b : Board) (t : Tables p b) (r : ℕ) (regi
                     (one-fits p ((view p b r) .body v) f (body-size p z b t r v region mine a) h);
                 cluster = held p (frame p ((view p b r) .body v) f);
                 low = g .low;
-                marks = good-all p z r (frame p ((view p b r) .body v) f) g _ (valid-holds p z (view p b r) v f h w);
+                spares = good-all p z r (frame p ((view p b r) .body v) f) g _ (valid-holds p z (view p b r) v f h w);
               }
           pick (no k) = absurd (never (w .written) (erased-not p _ ((nt .blocks v mine a) .1 .rest f (omega arith) h)))
 
-  copies-marked : (i : ℕ) → i < length (copies p (view p b r) (reclaims v)) → Marked p (getD (copies p (view p b r) (reclaims v)) i [])
+  copies-spares : (i : ℕ) → i < length (copies p (view p b r) (reclaims v)) → Whole p (getD (copies p (view p b r) (reclaims v)) i [])
   unfolding copies validFrames
-  copies-marked i h =
+  copies-spares i h =
       let k : i < length (keepBelow (frames p) (valid p (view p b r) v)) = rw length-map at h in
       let w = keep-nth (frames p) (valid p (view p b r) v) i 0 (rw keep-length at k) in
       rw (map-at (frame p ((view p b r) .body v)) (keepBelow (frames p) (valid p (view p b r) v)) i 0 [] k)
-      (valid-marked _ (w .0) (valid-in p (view p b r) v _ (w .1)))
+      (valid-spares _ (w .0) (valid-in p (view p b r) v _ (w .1)))
 
 -- ---- a write's operations
 
@@ -157,7 +157,7 @@ module _ (p : Params) (z : Sizes p) (b : Board) (t : Tables p b) (r : ℕ) (regi
   room-fits (opens v) is m = tt
   room-fits (reclaims v) is m =
       fit-append p (framesOps p (planBlock p b r (reclaims v)) 0 (copies p (view p b r) (reclaims v))) _
-      (frames-fit p z (planBlock p b r (reclaims v)) (m .room .low) (copies p (view p b r) (reclaims v)) 0 few (copies-marked p z b t r region nt v mine))
+      (frames-fit p z (planBlock p b r (reclaims v)) (m .room .low) (copies p (view p b r) (reclaims v)) 0 few (copies-spares p z b t r region nt v mine))
       (block-low p z b t r v region mine (has-block p z b t r v region mine (all-assigned v is v mine)), tt)
     where
       mine : v < p .gamma
@@ -179,4 +179,4 @@ write-fits p b q e =
     host-sheet p (acc .sized) (view p b r) (λ v h a. body-size p (acc .sized) b (acc .tables) r v region h a) q (acc .asked) (nt .entries (requestCluster p q) (acc .asked .cluster)) in
     fit-append p (roomOps p b r pl) _ (room-fits p (acc .sized) b (acc .tables) r region nt pl refl m)
     (frame-fits p (acc .sized) (planBlock p b r pl) (m .room .low) (planFrame p (view p b r) pl) (newFrame p (view p b r) q) (m .base .ready .low)
-    (record { whole = sh .whole; cluster = requestCluster p q; low = acc .asked .cluster; marks = sh .marked }))
+    (record { whole = sh .whole; cluster = requestCluster p q; low = acc .asked .cluster; spares = sh .spares }))

@@ -16,7 +16,7 @@ use Rattle.rules.specs.Pages.{frame, held, lastIn}
 use Rattle.rules.specs.Parameters.{frames}
 use Rattle.rules.specs.Regions.{View, valid}
 use Rattle.rules.proofs.FramePut.{Ready, Sheet, body-old, frame-new, frame-old, last-new, last-old, seg-new, seg-old}
-use Rattle.rules.proofs.Frames.{marked-held, marked-programmed}
+use Rattle.rules.proofs.Frames.{right-held, right-programmed}
 use Rattle.rules.proofs.Sizes.{Sizes}
 use Rattle.rules.proofs.Victims.{Valid, valid-in, valid-one, valid-out}
 use Rattle.rules.specs.Machine.{withFrame}
@@ -34,12 +34,12 @@ marked-valid p vw v f h = rw (lt-ltb f (frames p) h)
 
 module _ (p : Params) (z : Sizes p) (vw : View) (v f c : ℕ) (x : List ℕ) (ready : Ready p vw v f) (sheet : Sheet p c x) where
   held-new : held p (frame p ((withFrame p vw v f c x) .body v) f) ≡ c
-  held-new = rw (frame-new p z vw v f c x ready sheet) (marked-held p x c (sheet .marked 0 (z .sectors)) (sheet .small))
+  held-new = rw (frame-new p z vw v f c x ready sheet) (right-held p x c (sheet .spares 0 (z .sectors)) (sheet .small))
 
   new-valid : Valid p (withFrame p vw v f c x) v f
   new-valid =
       record {
-        written = rw (frame-new p z vw v f c x ready sheet) (marked-programmed p x c (sheet .marked 0 (z .sectors)));
+        written = rw (frame-new p z vw v f c x ready sheet) (right-programmed p x c (sheet .spares 0 (z .sectors)));
         names = rw held-new (seg-new p z vw v f c x ready sheet);
         last = rw held-new (last-new p z vw v f c x ready sheet);
       }

@@ -75,7 +75,7 @@ module _ (p : Params) (blk : List ℕ) (whole : length blk ≡ blockBytes p) whe
       go (yes a) = used (u .front f a lf) (decLt j (usedPages p (frame p blk f)))
         where
           used : GoodFrame p r (frame p blk f) → Dec (j < usedPages p (frame p blk f)) → getD (spare p blk (f * p .alpha + j)) 5 0 ≡ 255
-          used g (yes m) = rw (← frame-spare f j lj, g .marks j m lj) (unfold spareBytes bytes32 in refl)
+          used g (yes m) = rw (← frame-spare f j lj, g .spares j m lj) (unfold spareBytes bytes32 in refl)
           used g (no m) = erased-fifth (f * p .alpha + j) h (rw (← frame-spare f j lj) (unfold spare in allAre-drop 255 (p .s) _ (g .blank j (omega arith) lj)))
       go (no a) = erased-fifth (f * p .alpha + j) h (rw (← frame-spare f j lj)
           (unfold spare page in allAre-drop 255 (p .s) _ (allAre-part 255 (pageBytes p) j (frame p blk f) (u .rest f (omega arith) lf))))

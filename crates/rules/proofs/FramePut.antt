@@ -21,7 +21,7 @@ use Rattle.rules.specs.Tables.{none}
 use Rattle.rules.specs.Pages.{frame, held, holds, lastIn, page, spare, spareBytes, whole}
 use Rattle.rules.specs.Regions.{View, frameOf, sectorIn}
 use Rattle.rules.specs.Machine.{withFrame}
-use Rattle.rules.proofs.Frames.{erased-holds, marked-cluster, marked-held, marked-used, seg-low, seg-place, seg-vblock}
+use Rattle.rules.proofs.Frames.{erased-holds, right-cluster, right-held, right-used, seg-low, seg-place, seg-vblock}
 use Rattle.rules.proofs.Sizes.{Sizes}
 
 -- frame f of virtual block v is the next to be written
@@ -31,15 +31,15 @@ pub record Ready (p : Params) (vw : View) (v f : ℕ) : Type 0 where
   pub size : length (vw .body v) ≡ blockBytes p
   pub rest : (g : ℕ) → f ≤ g → g < frames p → allAre 255 (frame p (vw .body v) g) ≡ true
 
--- a whole frame, marked as cluster c
+-- a whole frame with the spare bytes of cluster c
 pub record Sheet (p : Params) (c : ℕ) (x : List ℕ) : Type 0 where
   pub whole : length x ≡ frameBytes p
   pub small : c < 4294967296
-  pub marked : (j : ℕ) → j < p .alpha → spare p x j ≡ spareBytes c j
+  pub spares : (j : ℕ) → j < p .alpha → spare p x j ≡ spareBytes c j
 
 module _ (p : Params) (z : Sizes p) (c : ℕ) (x : List ℕ) (sheet : Sheet p c x) where
   pub sheet-held : held p x ≡ c
-  sheet-held = marked-held p x c (sheet .marked 0 (z .sectors)) (sheet .small)
+  sheet-held = right-held p x c (sheet .spares 0 (z .sectors)) (sheet .small)
 
   last-page : p .alpha - 1 < p .alpha
   last-page = omega (arith, z .sectors)
@@ -48,8 +48,8 @@ module _ (p : Params) (z : Sizes p) (c : ℕ) (x : List ℕ) (sheet : Sheet p c 
   unfolding holds whole
   sheet-holds d =
       rw (
-        marked-used p x (p .alpha - 1) c (sheet .marked (p .alpha - 1) last-page),
-        marked-cluster p x (p .alpha - 1) c (sheet .marked (p .alpha - 1) last-page) (sheet .small),
+        right-used p x (p .alpha - 1) c (sheet .spares (p .alpha - 1) last-page),
+        right-cluster p x (p .alpha - 1) c (sheet .spares (p .alpha - 1) last-page) (sheet .small),
       )
 
 -- the cluster's CT entry, if any, names a segment that holds it

@@ -47,22 +47,22 @@ le-bytes c h =
 
 -- a page with the spare bytes of cluster c
 module _ (p : Params) (x : List ℕ) (j c : ℕ) (marked : spare p x j ≡ spareBytes c j) where
-  pub marked-used : pageUsed p x j ≡ true
+  pub right-used : pageUsed p x j ≡ true
   unfolding pageUsed spareBytes bytes32
-  marked-used = rw marked
+  right-used = rw marked
 
-  pub marked-cluster : c < 4294967296 → le32 (spare p x j) ≡ c
+  pub right-cluster : c < 4294967296 → le32 (spare p x j) ≡ c
   unfolding spareBytes bytes32 le32
-  marked-cluster h = rw marked (le-bytes c h)
+  right-cluster h = rw marked (le-bytes c h)
 
 module _ (p : Params) (x : List ℕ) (c : ℕ) (marked : spare p x 0 ≡ spareBytes c 0) where
-  pub marked-programmed : programmed p x ≡ true
+  pub right-programmed : programmed p x ≡ true
   unfolding programmed
-  marked-programmed = marked-used p x 0 c marked
+  right-programmed = right-used p x 0 c marked
 
-  pub marked-held : c < 4294967296 → held p x ≡ c
+  pub right-held : c < 4294967296 → held p x ≡ c
   unfolding held
-  marked-held h = marked-cluster p x 0 c marked h
+  right-held h = right-cluster p x 0 c marked h
 
 -- an erased page is not programmed
 pub page-not : (p : Params) (fr : List ℕ) (j : ℕ) → allAre 255 (page p fr j) ≡ true → pageUsed p fr j ≡ false

@@ -22,7 +22,7 @@ use Rattle.rules.specs.Pages.{filled, frame, programmed, programmedDownT
 use Rattle.rules.specs.Regions.{View, looksAt, looksIn, view, viewOf}
 use Rattle.rules.specs.Words.{LooksExactly, LooksListed}
 use Rattle.rules.proofs.Admitted.{orderly-region}
-use Rattle.rules.proofs.Frames.{erased-not, marked-programmed}
+use Rattle.rules.proofs.Frames.{erased-not, right-programmed}
 use Rattle.rules.proofs.RegionFacts.{Entry, Neat, UpTo, filled-le, neat, neat-fronts}
 use Rattle.rules.proofs.Sizes.{Sizes, sizes}
 use Rattle.rules.proofs.ValidFrames.{block-of, found, frame-of, held-is, is-valid}

@@ -125,5 +125,6 @@ all-rules = tt
 
 -- and Board T
 unfoldable pub all-boardT : Unit {0}
-unfolding all-rules paramsT boardT blankT asks W R inputT counted printed sessionFrom sessionT outputT boardFrom after plannedT formatsT readsT reclaimAfter paramsJ markedCases asSaid begunT begunCases begunSaid sameLists
+unfolding all-rules paramsT boardT blankT asks W R inputT counted printed sessionFrom sessionT outputT boardFrom after plannedT formatsT readsT reclaimAfter paramsJ
+    markedCases asSaid begunT begunCases begunSaid sameLists
 all-boardT = tt

@@ -90,5 +90,5 @@ module _ (p : Params) (z : Sizes p) (vw : View) (whole : Whole p vw) where
         record {
           whole = unfold newFrame frameBytes in join-length (pageBytes p) (p .alpha) (newPage p vw q) page-length;
           small = omega (arith, ask .cluster, z .clusters);
-          marked = λ j h. unfold spare in rw (page-new j h) (unfold newPage in drop-at (newSector p vw q j) _ (p .s) (new-length j h));
+          spares = λ j h. unfold spare in rw (page-new j h) (unfold newPage in drop-at (newSector p vw q j) _ (p .s) (new-length j h));
         }

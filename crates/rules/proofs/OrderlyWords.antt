@@ -26,7 +26,7 @@ use Rattle.rules.specs.Replies.{lengthsFit}
 use Rattle.rules.specs.Words.{BlockListed, EntryListed, FrameListed, OpenListed, OrderlyExactly, OrderlyListed, RegionListed}
 use Rattle.rules.proofs.Admitted.{orderly-all, orderly-region}
 use Rattle.rules.proofs.Continues.{open-low, segs-out}
-use Rattle.rules.proofs.Frames.{erased-not, marked-held, marked-programmed, marked-used, page-not, seg-low, seg-place, seg-vblock}
+use Rattle.rules.proofs.Frames.{erased-not, right-held, right-programmed, right-used, page-not, seg-low, seg-place, seg-vblock}
 use Rattle.rules.proofs.RegionFacts.{Entry, GoodFrame, Neat, Open, UpTo, filled-le, good-holds, good-used, neat, neat-none, neat-out, regionOrderly, up-to-filled, neat-fronts}
 use Rattle.rules.proofs.Sizes.{Sizes, sizes}
 use Rattle.rules.proofs.TableFacts.{Tables, lengths-in, marks-in, tables-in}
@@ -45,7 +45,7 @@ frame-in p z r fr g =
       m = usedPages p fr;
       some = good-used p r fr g 0 (z .sectors) (unfold programmed in g .on);
       most = used-le;
-      spares = λ j k. (spares-exactly (held p fr) j (omega (arith, g .low, z .clusters)) _) .0 (g .marks j k (omega (arith, used-le)));
+      spares = λ j k. (spares-exactly (held p fr) j (omega (arith, g .low, z .clusters)) _) .0 (g .spares j k (omega (arith, used-le)));
       blank = g .blank;
     }
   where
@@ -55,10 +55,10 @@ frame-in p z r fr g =
 frame-out : (p : Params) (z : Sizes p) (r : ℕ) (fr : List ℕ) → FrameListed p r fr → GoodFrame p r fr
 frame-out p z r fr l =
     record {
-      on = marked-programmed p fr (l .cluster) (marks 0 (l .some));
+      on = right-programmed p fr (l .cluster) (marks 0 (l .some));
       low = rw e (l .low);
       mine = rw e (l .mine);
-      marks = λ j m k. rw e (marks j (omega (arith, used)));
+      spares = λ j m k. rw e (marks j (omega (arith, used)));
       blank = λ j m k. l .blank j (omega (arith, used)) k;
     }
   where
@@ -69,10 +69,10 @@ frame-out p z r fr l =
     marks j k = unfold spare in (spares-exactly (l .cluster) j small _) .1 (l .spares j k)
 
     e : held p fr ≡ l .cluster
-    e = marked-held p fr (l .cluster) (marks 0 (l .some)) small
+    e = right-held p fr (l .cluster) (marks 0 (l .some)) small
 
     used : usedPages p fr ≡ l .m
-    used = unfold usedPages in count-is (p .alpha) (l .m) _ (l .most) (λ j h. marked-used p fr j (l .cluster) (marks j h)) (λ j a b. page-not p fr j (l .blank j a b))
+    used = unfold usedPages in count-is (p .alpha) (l .m) _ (l .most) (λ j h. right-used p fr j (l .cluster) (marks j h)) (λ j a b. page-not p fr j (l .blank j a b))
 
 block-in : (p : Params) (z : Sizes p) (r : ℕ) (blk : List ℕ) → (0 < filled p blk) × UpTo p r (filled p blk) blk → BlockListed p r blk
 unfolding frames
@@ -134,12 +134,13 @@ module _ (p : Params) (z : Sizes p) (r : ℕ) (vw : View) (nt : Neat p r vw) whe
         full = λ u h ne a g k. front-written p z r (vw .body u) ((nt .blocks u h a) .1) g (rw (o .full u h ne a) k) k;
       }
 
-  -- the last page of the frame that an entry leads to is programmed
-  last-page : (c : ℕ) → (e : Entry p vw c) → getD (drop (p .s) (page p (frame p (vw .body (block-of p z r vw (neat-fronts nt) c e)) (frame-of p z r vw (neat-fronts nt) c e)) (p .alpha - 1))) 6 255 ≡ 0
+  -- the frame that an entry leads to; its last page is programmed
+  abbrev led : (c : ℕ) → Entry p vw c → List ℕ
+  led c e = frame p (vw .body (block-of p z r vw (neat-fronts nt) c e)) (frame-of p z r vw (neat-fronts nt) c e)
+
+  last-page : (c : ℕ) → (e : Entry p vw c) → getD (drop (p .s) (page p (led c e) (p .alpha - 1))) 6 255 ≡ 0
   unfolding holds whole pageUsed spare
-  last-page c e =
-      eqb-true _ _ (and-left
-      (eqb (getD (drop (p .s) (page p (frame p (vw .body (block-of p z r vw (neat-fronts nt) c e)) (frame-of p z r vw (neat-fronts nt) c e)) (p .alpha - 1))) 6 255) 0) _ ((found p z r vw (neat-fronts nt) c e) .1))
+  last-page c e = eqb-true _ _ (and-left (eqb (getD (drop (p .s) (page p (led c e) (p .alpha - 1))) 6 255) 0) _ ((found p z r vw (neat-fronts nt) c e) .1))
 
   entry-in : (c : ℕ) → Entry p vw c → EntryListed p vw c
   unfolding frames

@@ -21,13 +21,13 @@ use Rattle.rules.specs.Pages.{held, holds, filled, frame, lastIn, le32, 
 use Rattle.rules.specs.Regions.{View, assigned}
 use Rattle.rules.specs.Orderly.{goodFrame, goodPages, goodUpTo, usedPages, blockRule, regionBlocks, fullRule, openRule, regionFst, entryRule, clusterRule}
 use Rattle.rules.proofs.Sizes.{Sizes}
-use Rattle.rules.proofs.Frames.{erased-not, erased-whole, marked-cluster, page-not}
+use Rattle.rules.proofs.Frames.{erased-not, erased-whole, right-cluster, page-not}
 
 pub record GoodFrame (p : Params) (r : ℕ) (fr : List ℕ) : Type 0 where
   pub on : programmed p fr ≡ true
   pub low : held p fr < p .C
   pub mine : regionOf p (held p fr) ≡ r
-  pub marks : (j : ℕ) → j < usedPages p fr → j < p .alpha → spare p fr j ≡ spareBytes (held p fr) j
+  pub spares : (j : ℕ) → j < usedPages p fr → j < p .alpha → spare p fr j ≡ spareBytes (held p fr) j
   pub blank : (j : ℕ) → usedPages p fr ≤ j → j < p .alpha → allAre 255 (page p fr j) ≡ true
 
 pub good-frame : (p : Params) (r : ℕ) (fr : List ℕ) → goodFrame p r fr ≡ true → GoodFrame p r fr
@@ -38,7 +38,7 @@ good-frame p r fr h =
       on = t .0;
       low = ltb-true _ _ (t .1 .0);
       mine = eqb-true _ _ (t .1 .1 .0);
-      marks = λ j m k. sameList→eq _ _ (rw (lt-ltb j (usedPages p fr) m) at (all-at (p .alpha) _ (t .1 .1 .1 .0) j k));
+      spares = λ j m k. sameList→eq _ _ (rw (lt-ltb j (usedPages p fr) m) at (all-at (p .alpha) _ (t .1 .1 .1 .0) j k));
       blank = λ j m k. rw (le-ltb j (usedPages p fr) m) at (all-at (p .alpha) _ (t .1 .1 .1 .0) j k);
     }
 
@@ -49,7 +49,7 @@ good-frame-back p r fr g =
   where
     go : (j : ℕ) → j < p .alpha → Dec (j < usedPages p fr)
         → cond (ltb j (usedPages p fr)) (sameList (spare p fr j) (spareBytes (held p fr) j)) (allAre 255 (page p fr j)) ≡ true
-    go j k (yes a) = rw (lt-ltb j (usedPages p fr) a, g .marks j a k) (same-refl _)
+    go j k (yes a) = rw (lt-ltb j (usedPages p fr) a, g .spares j a k) (same-refl _)
     go j k (no a) = rw (le-ltb j (usedPages p fr) (omega arith)) (g .blank j (omega arith) k)
 
 -- a page of a good frame that is programmed is among the first
@@ -64,7 +64,7 @@ good-used p r fr g j h t = go (decLt j (usedPages p fr))
 good-last : (p : Params) → Sizes p → (r : ℕ) (fr : List ℕ) → GoodFrame p r fr → pageUsed p fr (p .alpha - 1) ≡ true → le32 (spare p fr (p .alpha - 1)) ≡ held p fr
 good-last p z r fr g h =
     let last : p .alpha - 1 < p .alpha = omega (arith, z .sectors) in
-    marked-cluster p fr (p .alpha - 1) (held p fr) (g .marks (p .alpha - 1) (good-used p r fr g (p .alpha - 1) last h) last) (omega (arith, g .low, z .clusters))
+    right-cluster p fr (p .alpha - 1) (held p fr) (g .spares (p .alpha - 1) (good-used p r fr g (p .alpha - 1) last h) last) (omega (arith, g .low, z .clusters))
 
 -- a good frame that holds a cluster holds it by its first page too
 pub good-held : (p : Params) → Sizes p → (r : ℕ) (fr : List ℕ) → GoodFrame p r fr → (c : ℕ) → holds p fr c ≡ true → held p fr ≡ c
@@ -76,7 +76,7 @@ pub good-all : (p : Params) → Sizes p → (r : ℕ) (fr : List ℕ) → GoodFr
 unfolding holds whole
 good-all p z r fr g c h j k =
     let last = good-used p r fr g (p .alpha - 1) (omega (arith, z .sectors)) (and-left (pageUsed p fr (p .alpha - 1)) _ h) in
-    g .marks j (omega (arith, last, k)) k
+    g .spares j (omega (arith, last, k)) k
 
 -- and a whole one holds its cluster
 pub good-holds : (p : Params) → Sizes p → (r : ℕ) (fr : List ℕ) → GoodFrame p r fr → whole p fr ≡ true → holds p fr (held p fr) ≡ true

@@ -22,7 +22,7 @@ use Rattle.rules.specs.Machine.{withFrame}
 use Rattle.rules.specs.Orderly.{usedPages}
 use Rattle.rules.proofs.FramePut.{Ready, Sheet, sheet-held, body-old, frame-new, frame-old, last-new, last-old, seg-new, seg-old}
 use Rattle.rules.proofs.Sizes.{Sizes}
-use Rattle.rules.proofs.Frames.{marked-programmed, marked-used, seg-low, seg-place, seg-vblock}
+use Rattle.rules.proofs.Frames.{right-programmed, right-used, seg-low, seg-place, seg-vblock}
 use Rattle.rules.proofs.RegionFacts.{regionOrderly, Entry, Fronts, GoodFrame, Open, UpTo, neat-out, up-to-filled}
 
 -- the region is orderly but that the block of frame f may be empty so far, and every other is full
@@ -42,16 +42,16 @@ base-fronts p z r vw v f base u h a = go (ℕ-discrete u v)
 module _ (p : Params) (z : Sizes p) (r : ℕ) (vw : View) (v f c : ℕ) (x : List ℕ) (base : Base p r vw v f) (sheet : Sheet p c x) (low : c < p .C) (mine : regionOf p c ≡ r) where
   all-used : usedPages p x ≡ p .alpha
   unfolding usedPages
-  all-used = count-is (p .alpha) (p .alpha) _ (omega arith) (λ j h. marked-used p x j c (sheet .marked j h)) (λ j a b. absurd (omega arith))
+  all-used = count-is (p .alpha) (p .alpha) _ (omega arith) (λ j h. right-used p x j c (sheet .spares j h)) (λ j a b. absurd (omega arith))
 
   good : GoodFrame p r x
   good =
       let e : held p x ≡ c = sheet-held p z c x sheet in
       record {
-        on = marked-programmed p x c (sheet .marked 0 (z .sectors));
+        on = right-programmed p x c (sheet .spares 0 (z .sectors));
         low = rw e low;
         mine = rw e mine;
-        marks = λ j m h. rw e (sheet .marked j h);
+        spares = λ j m h. rw e (sheet .spares j h);
         blank = λ j m h. absurd (omega (arith, all-used));
       }
 

@@ -29,7 +29,7 @@ use Rattle.rules.specs.Write.{continues, freeBlock, hasRoom, lowestUnass
 use Rattle.rules.specs.Words.{Allowed, AllowedExactly, BadExactly, BadListed, ContinuesListed, FreeExactly, Full, PlanExactly, PlanListed, SpareListed, SparesExactly, WearAfter, erasesOf, fifth}
 use Rattle.rules.proofs.Admitted.{orderly-region}
 use Rattle.rules.proofs.Continues.{open-low, open-of}
-use Rattle.rules.proofs.Frames.{erased-not, le-bytes, marked-programmed}
+use Rattle.rules.proofs.Frames.{erased-not, le-bytes, right-programmed}
 use Rattle.rules.proofs.Opens.{all-full}
 use Rattle.rules.proofs.RegionFacts.{Neat, Open, neat}
 use Rattle.rules.proofs.Sizes.{Sizes, sizes, some-page, within-true}

@@ -146,8 +146,8 @@ module _ (p : Params) (b : Board) (q : Request) (v f : ℕ) (t : Standing p b q 
         go (yes x) (yes k) = rw x (t .base .front .front (lastIn p (vw .body v) (placeOf p (vw .segOf c)) c) (rw x at k) (rw x at (e .held)))
         go (yes x) (no k) = absurd (never old-holds (erased-holds p _ c (rw (sym x) at (t .base .ready .rest l (omega arith) (e .held)))))
 
-    old-marked : (j : ℕ) → j < p .alpha → spare p (part (frameBytes p) (frameFor p (b .chip) (b .ct) (b .bt) c) (b .chip)) j ≡ spareBytes c j
-    old-marked j h =
+    old-spares : (j : ℕ) → j < p .alpha → spare p (part (frameBytes p) (frameFor p (b .chip) (b .ct) (b .bt) c) (b .chip)) j ≡ spareBytes c j
+    old-spares j h =
         rw old-frame
         (good-all p z r (frame p (vw .body u) l) old-good c old-holds j h ∙ ap (λ (x : ℕ). spareBytes x j) (good-held p z r (frame p (vw .body u) l) old-good c old-holds))
 
@@ -187,12 +187,12 @@ module _ (p : Params) (b : Board) (q : Request) (v f : ℕ) (t : Standing p b q 
         go (nowhere k z s) = never h k
         go (somewhere k z ne e) = old-apart e (sym z ∙ x)
 
-    marked : kept ≡ true → (j : ℕ) → j < p .alpha → spare p (part (frameBytes p) fr (b .chip)) j ≡ spareBytes c j
-    marked h j m = go which
+    spares : kept ≡ true → (j : ℕ) → j < p .alpha → spare p (part (frameBytes p) fr (b .chip)) j ≡ spareBytes c j
+    spares h j m = go which
       where
         go : Which → spare p (part (frameBytes p) fr (b .chip)) j ≡ spareBytes c j
         go (nowhere k z s) = absurd (never h k)
-        go (somewhere k z ne e) = rw z (old-marked e j m)
+        go (somewhere k z ne e) = rw z (old-spares e j m)
 
     pub host-asked : (to off : ℕ) → to ≡ n * frames p + f → off ≡ sectorOf p (q .lba) → HostAsked (b .chip) (p .s) (p .alpha) to kept fr off (q .count) (q .bytes) c
     unfolding frameBytes pageBytes spare page
@@ -206,7 +206,7 @@ module _ (p : Params) (b : Board) (q : Request) (v f : ℕ) (t : Standing p b q 
           clean = rw e to-clean;
           source = source;
           apart = λ h x. apart h (x ∙ e);
-          marked = marked;
+          spares = spares;
         }
 
     sectors-are : (j : ℕ) → sectorsOf (p .s) (p .alpha) kept fr (b .chip) j ≡ sectorIn p vw c j

@@ -14,21 +14,21 @@ put-requires c κs =
     let a = c .before .before .before in
     omega (arith, ap length (a .pre) ∙ length-replicate {A = ℕ} (length (a .args .bytes .now) + 16) 255)
 
-sub-mark : tie.Need-sub-mark
-sub-mark c =
+sub-put-spare : tie.Need-sub-put-spare
+sub-put-spare c =
     let a = c .before .before .before .before .before .before in
     omega (arith, c .before .before .put .kept .0, ap length (a .pre) ∙ length-replicate {A = ℕ} (length (a .args .bytes .now) + 16) 255)
 
-part-mark-start : tie.Need-part-mark-start
-part-mark-start c =
+part-put-spare-start : tie.Need-part-put-spare-start
+part-put-spare-start c =
     let a = c .before .before .before .before .before .before in
     omega (arith, c .before .before .put .kept .0, ap length (a .pre) ∙ length-replicate {A = ℕ} (length (a .args .bytes .now) + 16) 255)
 
-part-mark-end : tie.Need-part-mark-end
-part-mark-end c = search needs
+part-put-spare-end : tie.Need-part-put-spare-end
+part-put-spare-end c = search needs
 
-mark-requires : tie.Need-mark-requires
-mark-requires c κs =
+put-spare-requires : tie.Need-put-spare-requires
+put-spare-requires c κs =
     let at-put = c .before .before .before in
     let a = at-put .before .before .before .before in
     spare-left (a .args .bytes .now) _ _ refl (put-erased (a .args .bytes .now) (a .args .page .now) _ (a .pre) (at-put .put .ensures))
@@ -40,16 +40,16 @@ returns : tie.Need-returns
 returns c =
     let at-put = c .before .before .before .before .before .before in
     let a = at-put .before .before .before .before in
-    rw (c .before .before .mark .ensures) (page-done (a .args .bytes .now) _ _ refl (put-erased (a .args .bytes .now) (a .args .page .now) _ (a .pre) (at-put .put .ensures)) _)
+    rw (c .before .before .put-spare .ensures) (page-done (a .args .bytes .now) _ _ refl (put-erased (a .args .bytes .now) (a .args .page .now) _ (a .pre) (at-put .put .ensures)) _)
 
 pub program-spec : {M : Type 1} → statement M
 program-spec =
     tie.close
     (tie.spec
     put-requires
-    sub-mark
-    part-mark-start
-    part-mark-end
-    mark-requires
+    sub-put-spare
+    part-put-spare-start
+    part-put-spare-end
+    put-spare-requires
     same-length
     returns)

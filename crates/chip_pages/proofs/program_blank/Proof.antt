@@ -9,17 +9,17 @@ use Rattle.chip_pages.proofs.Places.{erased-split, page-done, spare-lef
 use Rattle.chip_pages.proofs.program_blank.Statement.{statement}
 use Rattle.chip_pages.proofs.program_blank.Tie as tie
 
-sub-mark : tie.Need-sub-mark
-sub-mark c = omega (arith, ap length (c .before .pre) ∙ length-replicate {A = ℕ} (c .before .args .s + 16) 255)
+sub-put-spare : tie.Need-sub-put-spare
+sub-put-spare c = omega (arith, ap length (c .before .pre) ∙ length-replicate {A = ℕ} (c .before .args .s + 16) 255)
 
-part-mark-start : tie.Need-part-mark-start
-part-mark-start c = omega (arith, ap length (c .before .pre) ∙ length-replicate {A = ℕ} (c .before .args .s + 16) 255)
+part-put-spare-start : tie.Need-part-put-spare-start
+part-put-spare-start c = omega (arith, ap length (c .before .pre) ∙ length-replicate {A = ℕ} (c .before .args .s + 16) 255)
 
-part-mark-end : tie.Need-part-mark-end
-part-mark-end c = search needs
+part-put-spare-end : tie.Need-part-put-spare-end
+part-put-spare-end c = search needs
 
-mark-requires : tie.Need-mark-requires
-mark-requires c κs =
+put-spare-requires : tie.Need-put-spare-requires
+put-spare-requires c κs =
     let a = c .before .before in
     spare-left (replicate (a .args .s) 255) (a .args .page .now) (a .args .s) (length-replicate _ _) (a .pre ∙ erased-split (a .args .s))
 
@@ -29,8 +29,8 @@ same-length c = search needs
 returns : tie.Need-returns
 returns c =
     let a = c .before .before .before .before .before in
-    rw (c .before .before .mark .ensures) (page-done (replicate (a .args .s) 255) (a .args .page .now) (a .args .s) (length-replicate _ _) (a .pre ∙ erased-split (a .args .s)) _)
+    rw (c .before .before .put-spare .ensures) (page-done (replicate (a .args .s) 255) (a .args .page .now) (a .args .s) (length-replicate _ _) (a .pre ∙ erased-split (a .args .s)) _)
 
 pub program-blank-spec : {M : Type 1} → statement M
 program-blank-spec =
-    tie.close (tie.spec sub-mark part-mark-start part-mark-end mark-requires same-length returns)
+    tie.close (tie.spec sub-put-spare part-put-spare-start part-put-spare-end put-spare-requires same-length returns)

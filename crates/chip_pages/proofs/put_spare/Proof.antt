@@ -1,4 +1,4 @@
--- `chip_pages::mark`: the sixteen bytes put are the whole spare area.
+-- `chip_pages::put_spare`: the sixteen bytes put are the whole spare area.
 -- Assumes nothing.
 use mathlib.Core.Path.{ap, sym, _∙_, _≡_}
 use native.Mathlib.Omega.{arith}
@@ -6,8 +6,8 @@ use lib.ListN.{length}
 use borrow.Author.Needs.{needs}
 use Rattle.rules.specs.Pages.{bytes32, spareBytes}
 use Rattle.chip_pages.proofs.Places.{put-whole}
-use Rattle.chip_pages.proofs.mark.Statement.{statement}
-use Rattle.chip_pages.proofs.mark.Tie as tie
+use Rattle.chip_pages.proofs.put_spare.Statement.{statement}
+use Rattle.chip_pages.proofs.put_spare.Tie as tie
 
 spare-bytes-requires : tie.Need-spare-bytes-requires
 spare-bytes-requires c κs = search needs
@@ -32,5 +32,5 @@ returns c =
     let e : length (start .args .spare .now) ≡ length (at-spare-bytes .spare-bytes .result) = ap length (start .pre) ∙ sym (ap length (at-spare-bytes .spare-bytes .ensures)) in
     c .before .before .put .ensures ∙ put-whole _ _ e ∙ at-spare-bytes .spare-bytes .ensures
 
-pub mark-spec : {M : Type 1} → statement M
-mark-spec = tie.close (tie.spec spare-bytes-requires slice-aggregate-put put-requires same-length returns)
+pub put-spare-spec : {M : Type 1} → statement M
+put-spare-spec = tie.close (tie.spec spare-bytes-requires slice-aggregate-put put-requires same-length returns)

@@ -1,4 +1,4 @@
--- `chip_spares::is_marked`: the lent part is the spare area of the page.
+-- `chip_spares::spare_right`: the lent part is the spare area of the page.
 -- Assumes nothing.
 use mathlib.Core.Path.{_≡_}
 use Prim.Native.Nat.{_*_, _+_, ℕ, _≤_}
@@ -8,8 +8,8 @@ use borrow.Author.Needs.{needs}
 use Rattle.rules.specs.Parameters.{pageBytes}
 use Rattle.rules.proofs.Sizes.{sizes}
 use Rattle.chip_spares.proofs.Spares.{spare-fits, spare-lent}
-use Rattle.chip_spares.proofs.is_marked.Statement.{statement}
-use Rattle.chip_spares.proofs.is_marked.Tie as tie
+use Rattle.chip_spares.proofs.spare_right.Statement.{statement}
+use Rattle.chip_spares.proofs.spare_right.Tie as tie
 
 -- the end of the spare area, in the frame
 end : (a : tie.Start) (w : ℕ) → w ≡ pageBytes (a .args .p) → a .args .j * w + a .args .p .s + 16 ≤ length (a .args .frame .now)
@@ -62,8 +62,8 @@ returns c =
     let start = at-page-bytes .before .before in
     cc (spare-lent (start .args .p) (start .args .frame .now) (start .args .j) (at-page-bytes .page-bytes .result) (at-page-bytes .page-bytes .ensures))
 
-pub is-marked-spec : {M : Type 1} → statement M
-is-marked-spec =
+pub spare-right-spec : {M : Type 1} → statement M
+spare-right-spec =
     tie.close
     (tie.spec
     page-bytes-requires
