@@ -7,11 +7,14 @@ function px(bytes) { return left + (log2(bytes) - 15) / (30.2 - 15) * wide }
 function py(us) { return top + high - (log2(us) + 2) / (18 + 2) * high }
 function text(x, yy, anchor, what) { printf "<text x=\"%.1f\" y=\"%.1f\" text-anchor=\"%s\">%s</text>\n", x, yy, anchor, what }
 
-function line(k, colour, dash, name, dy,    i) {
+# One line, and its name in the corner that the lines leave free.
+function line(k, colour, dash, name,    i, x, yy) {
     printf "<polyline fill=\"none\" stroke=\"%s\" stroke-width=\"2\" stroke-dasharray=\"%s\" points=\"", colour, dash
     for (i = 1; i <= n; i++) printf "%.1f,%.1f ", px(size[i]), py(y[k, i])
     print "\"/>"
-    printf "<text x=\"%.1f\" y=\"%.1f\" text-anchor=\"end\" fill=\"%s\">%s</text>\n", px(size[n]) - 4, py(y[k, n]) + dy, colour, name
+    x = left + wide - 330; yy = top + high - 80 + 22 * ++named
+    printf "<line x1=\"%.1f\" y1=\"%.1f\" x2=\"%.1f\" y2=\"%.1f\" stroke=\"%s\" stroke-width=\"2\" stroke-dasharray=\"%s\"/>\n", x, yy - 4, x + 30, yy - 4, colour, dash
+    text(x + 38, yy, "start", name)
 }
 
 END {
@@ -27,9 +30,9 @@ END {
         printf "<line x1=\"%d\" y1=\"%.1f\" x2=\"%d\" y2=\"%.1f\" stroke=\"#ddd\"/>\n", left, py(us), left + wide, py(us)
         text(left - 8, py(us) + 4, "end", us < 1000 ? us " µs" : us / 1000 " ms")
     }
-    line(3, "#999", "5 4", "limit: the fastest loop over all bytes", 34)
-    line(1, "#c0392b", "", "empty board: every byte is read", -12)
-    line(2, "#2471a3", "", "full board: the spare bytes are read", 30)
+    line(1, "#c0392b", "", "empty board: every byte is read")
+    line(3, "#333", "5 4", "limit: the fastest loop over the same bytes")
+    line(2, "#2471a3", "", "full board: the spare bytes are read")
     text(left + wide / 2, top + high + 46, "middle", "bytes of chip")
     print "</svg>"
 }

@@ -3,21 +3,21 @@
 use mathlib.Core.Path.{_≡_, ap, refl, sym, _∙_}
 use mathlib.Core.Bool.{Bool, true, false, _&&_, and-false, cond}
 use mathlib.Core.List.{List}
-use Prim.Native.Nat.{ℕ, zero, suc, _+_, _*_, _/_, _≤_, _<_}
+use Prim.Native.Nat.{ℕ, zero, suc, _+_, _-_, _*_, _/_, _≤_, _<_}
 use native.Mathlib.Decide.{decLt, ℕ-discrete}
 use native.Mathlib.Omega.{arith}
 use native.Mathlib.Nat.{add-mul, div-eq-of-lt-le, div-le-self, div-lt-iff-lt-mul, div-mul-le-self, le-div-iff-mul-le}
 use lib.Dec.{eqb}
 use lib.ListN.{length}
-use borrow.Author.Tests.{eq-eqb, ne-eqb}
+use borrow.Author.Tests.{eq-eqb, eqb-true, ne-eqb}
 use Rattle.lists.specs.Below.{lastBelow}
 use Rattle.lists.proofs.Parts.{next}
-use Rattle.lists.proofs.Tests.{last-is, never}
+use Rattle.lists.proofs.Tests.{and-right, last-is, never}
 use Rattle.rules.specs.declared.Params.{Params}
 use Rattle.rules.specs.Parameters.{frames}
 use Rattle.rules.specs.Numbers.{regionOf, segmentOf}
 use Rattle.rules.specs.Tables.{none, ctAt}
-use Rattle.rules.specs.Pages.{frame, held, holds, lastIn, programmed, whole}
+use Rattle.rules.specs.Pages.{frame, held, holds, lastIn, le32, programmed, spare, whole}
 use Rattle.rules.specs.Regions.{View, valid}
 use Rattle.rules.proofs.Sizes.{Sizes, sizes}
 use Rattle.rules.proofs.FramePut.{last-holds}
@@ -35,6 +35,11 @@ module _ (p : Params) (blk ct : List ℕ) (v f : ℕ) (a : OneFrame p blk ct v f
 
   pub place-is-low : (k : ℕ) → k ≡ f / p .beta → k < p .d
   place-is-low k e = rw e place-low
+
+  -- its last page says the same cluster as its first
+  pub first-says : (fr : List ℕ) → fr ≡ frame p blk f → whole p fr ≡ true → (c : ℕ) → c ≡ le32 (spare p fr (p .alpha - 1)) → c ≡ held p fr
+  unfolding holds
+  first-says fr is h c e = e ∙ eqb-true _ _ (and-right (whole p fr) (rw (← is) at ((a .block .kept f (a .low) (rw is at h)) .1)))
 
   -- its cluster has an entry in CT
   pub cluster-low : (fr : List ℕ) → fr ≡ frame p blk f → whole p fr ≡ true → (c : ℕ) → c ≡ held p fr → c < length ct

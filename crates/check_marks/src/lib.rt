@@ -76,7 +76,7 @@ fn is_valid(p: Params, blk: &[u8], ct: &[u16], v: VBlock, k: usize, f: usize) ->
     if !chip_spares::is_whole(p, fr) {
         return false;
     }
-    let c = chip_spares::cluster_in(p, fr);
+    let c = chip_spares::last_cluster(p, fr);
     if chip_tables::ct_at(ct, c).0 != segment_in(p, v, k).0 {
         return false;
     }

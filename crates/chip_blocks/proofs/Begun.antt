@@ -3,14 +3,16 @@
 -- Assumes nothing.
 use mathlib.Core.Path.{_≡_, ap, refl, sym, _∙_}
 use mathlib.Core.Logic.{_⊎_, inl, inr}
-use mathlib.Core.Bool.{false, true}
+use mathlib.Core.Bool.{_&&_, false, not, true}
 use mathlib.Core.List.{List}
 use Prim.Native.Nat.{ℕ, _%_, _*_, _-_, _<_, _≤_}
 use native.Mathlib.Nat.{mul-le-mul-right}
-use native.Mathlib.Decide.{decLt}
+use native.Mathlib.Decide.{decLt, ℕ-discrete}
 use native.Mathlib.Omega.{arith}
+use lib.Dec.{eqb}
 use lib.ListN.{drop, length, length-drop, take}
 use lib.Seq.{take-all}
+use borrow.Author.Tests.{eq-eqb, ne-eqb}
 use Rattle.lists.specs.Below.{allBelow}
 use Rattle.lists.specs.Parts.{allAre, sameList}
 use Rattle.lists.proofs.Joins.{same-refl, sameList→eq}
@@ -64,8 +66,8 @@ module _ (p : Params) (z : Sizes p) (r : ℕ) (fr : List ℕ) (size : length fr 
               used-most = unfold usedPages in count-le (p .alpha) _
       go (no a) (no b) = omega arith
 
-  pub none-marked : k ≡ 0 → false ≡ goodFrame p r fr
-  none-marked h = go (so (goodFrame p r fr))
+  none-right : k ≡ 0 → false ≡ goodFrame p r fr
+  none-right h = go (so (goodFrame p r fr))
     where
       go : (goodFrame p r fr ≡ true) ⊎ (goodFrame p r fr ≡ false) → false ≡ goodFrame p r fr
       go (inl t) =
@@ -73,7 +75,7 @@ module _ (p : Params) (z : Sizes p) (r : ℕ) (fr : List ℕ) (size : length fr 
           absurd (omega (arith, used-is g, good-used p r fr g 0 (z .sectors) (unfold programmed in g .on)))
       go (inr t) = sym t
 
-  pub rest-decides : (k ≡ 0 → ⊥) → allAre 255 (drop (k * pageBytes p) fr) ≡ goodFrame p r fr
+  rest-decides : (k ≡ 0 → ⊥) → allAre 255 (drop (k * pageBytes p) fr) ≡ goodFrame p r fr
   rest-decides some = go (so (allAre 255 (drop (k * pageBytes p) fr))) (so (goodFrame p r fr))
     where
       back : GoodFrame p r fr → allAre 255 (drop (k * pageBytes p) fr) ≡ true
@@ -86,6 +88,14 @@ module _ (p : Params) (z : Sizes p) (r : ℕ) (fr : List ℕ) (size : length fr 
       go (inl t) s = t ∙ sym (good-frame-back p r fr (good (omega arith) (λ j a b. unfold page in parts-from 255 (pageBytes p) k fr t j a)))
       go (inr t) (inr h) = t ∙ sym h
       go (inr t) (inl h) = absurd (never (back (good-frame p r fr h)) t)
+
+  -- both at once, as the code has it
+  pub begun-decides : not (eqb k 0) && allAre 255 (drop (k * pageBytes p) fr) ≡ goodFrame p r fr
+  begun-decides = go (ℕ-discrete k 0)
+    where
+      go : Dec (k ≡ 0) → not (eqb k 0) && allAre 255 (drop (k * pageBytes p) fr) ≡ goodFrame p r fr
+      go (yes e) = rw (eq-eqb k 0 e) (none-right e)
+      go (no ne) = rw (ne-eqb k 0 ne) (rest-decides ne)
 
 -- the pages from page k on, in a frame of α pages of w bytes
 module _ (p : Params) (fr : List ℕ) (k w : ℕ) (le : k ≤ p .alpha) (size : length fr ≡ frameBytes p) (ew : w ≡ pageBytes p) where

@@ -1,12 +1,13 @@
 // One block of the chip, read: its frames, the clusters that they hold, and whether it is as its region wants it.
 ghost use mathlib.Core.Path.{_≡_};
-ghost use mathlib.Core.Bool.{cond, false, true};
+ghost use mathlib.Core.Bool.{_&&_, cond, false, not, true};
 ghost use Prim.Native.Nat.{ℕ, _*_, _-_, _≤_, _<_};
+ghost use lib.Dec.{eqb};
 ghost use lib.ListN.{drop, length};
 ghost use Rattle.lists.specs.Below.{allBelow};
-ghost use Rattle.lists.specs.Parts.{allAre, sameList};
-ghost use Rattle.rules.specs.Parameters.{allowed, frames, frameBytes, blockBytes, chipBytes};
-ghost use Rattle.rules.specs.Pages.{block, frame, programmed, holds, filled, lastIn, programmedDownTo, spare, spareBytes};
+ghost use Rattle.lists.specs.Parts.{allAre};
+ghost use Rattle.rules.specs.Parameters.{allowed, frames, pageBytes, frameBytes, blockBytes, chipBytes};
+ghost use Rattle.rules.specs.Pages.{block, frame, programmed, holds, filled, lastIn, programmedDownTo};
 ghost use Rattle.rules.specs.Orderly.{goodFrame, blockRule};
 ghost use Rattle.chip_blocks.specs.First.{FirstFrames};
 use rules::Cluster;
@@ -41,23 +42,18 @@ pub fn frame_of(p: Params, blk: &[u8], f: usize) -> &[u8]
     &blk[a..b]
 }
 
-// How many pages of a frame, from the first on, have the spare bytes of cluster c: up to the first that has not.
-fn right_pages(p: Params, fr: &[u8], c: Cluster) -> usize
+// True if a frame whose first j pages have their spare bytes is only begun: there is such a page, and everything after them is erased.
+fn only_begun(p: Params, fr: &[u8], j: usize) -> bool
     requires { ⌜ allowed p ≡ true ⌝ }
     requires { ⌜ length (now fr) ≡ frameBytes p ⌝ }
-    ensures { λ k. ⌜ k ≤ p .alpha ⌝ }
-    ensures { λ k. ⌜ allBelow k (λ j. sameList (spare p (now (fr .entry)) j) (spareBytes (c .0) j)) ≡ true ⌝ }
-    ensures { λ k. ⌜ (k < p .alpha → sameList (spare p (now (fr .entry)) k) (spareBytes (c .0) k) ≡ false) ⌝ }
+    requires { ⌜ j ≤ p .alpha ⌝ }
+    ensures { λ ok. ⌜ ok ≡ not (eqb j 0) && allAre 255 (drop (j * pageBytes p) (now (fr .entry))) ⌝ }
 {
-    let m = p.alpha;
-    let mut j = 0;
-    while j < m {
-        if !chip_spares::spare_right(p, fr, c, j) {
-            return j;
-        }
-        j += 1;
+    if j == 0 {
+        return false;
     }
-    j
+    let a = j * chip_sizes::page_bytes(p);
+    chip_erased::is_erased(&fr[a..])
 }
 
 // True if a frame is as programming leaves it, whole or in its first pages, with a cluster of region r.
@@ -73,15 +69,15 @@ fn good_frame(p: Params, r: usize, fr: &[u8]) -> bool
     if rules::region_of(p, c) != r {
         return false;
     }
-    let m = right_pages(p, fr, c);
-    if m == p.alpha {
-        return true;
+    let m = p.alpha;
+    let mut j = 0;
+    while j < m {
+        if !chip_spares::spare_right(p, fr, c, j) {
+            return only_begun(p, fr, j);
+        }
+        j += 1;
     }
-    if m == 0 {
-        return false;
-    }
-    let a = m * chip_sizes::page_bytes(p);
-    chip_erased::is_erased(&fr[a..])
+    true
 }
 
 // True if a whole frame holds cluster c, by its last page. Its number is looked at first: where many frames are asked, most hold another.
