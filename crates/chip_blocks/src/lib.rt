@@ -5,9 +5,9 @@ ghost use Prim.Native.Nat.{ℕ, _*_, _-_, _≤_, _<_};
 ghost use lib.Dec.{eqb};
 ghost use lib.ListN.{drop, length};
 ghost use Rattle.lists.specs.Below.{allBelow};
-ghost use Rattle.lists.specs.Parts.{allAre};
+ghost use Rattle.lists.specs.Parts.{allAre, sameList};
 ghost use Rattle.rules.specs.Parameters.{allowed, frames, pageBytes, frameBytes, blockBytes, chipBytes};
-ghost use Rattle.rules.specs.Pages.{block, frame, programmed, holds, filled, lastIn, programmedDownTo};
+ghost use Rattle.rules.specs.Pages.{block, frame, programmed, holds, filled, lastIn, programmedDownTo, spare, spareBytes};
 ghost use Rattle.rules.specs.Orderly.{goodFrame, blockRule};
 ghost use Rattle.chip_blocks.specs.First.{FirstFrames};
 use rules::Cluster;
@@ -56,6 +56,42 @@ fn only_begun(p: Params, fr: &[u8], j: usize) -> bool
     chip_erased::is_erased(&fr[a..])
 }
 
+// True if every page of a frame has the spare bytes of cluster c: the loop over most pages of a board, so it answers nothing else.
+fn all_right(p: Params, fr: &[u8], c: Cluster) -> bool
+    requires { ⌜ allowed p ≡ true ⌝ }
+    requires { ⌜ length (now fr) ≡ frameBytes p ⌝ }
+    ensures { λ ok. ⌜ ok ≡ allBelow (p .alpha) (λ j. sameList (spare p (now (fr .entry)) j) (spareBytes (c .0) j)) ⌝ }
+{
+    let m = p.alpha;
+    let mut j = 0;
+    while j < m {
+        if !chip_spares::spare_right(p, fr, c, j) {
+            return false;
+        }
+        j += 1;
+    }
+    true
+}
+
+// How many pages of a frame, from the first on, have the spare bytes of cluster c: up to the first that has not.
+fn right_pages(p: Params, fr: &[u8], c: Cluster) -> usize
+    requires { ⌜ allowed p ≡ true ⌝ }
+    requires { ⌜ length (now fr) ≡ frameBytes p ⌝ }
+    ensures { λ k. ⌜ k ≤ p .alpha ⌝ }
+    ensures { λ k. ⌜ allBelow k (λ j. sameList (spare p (now (fr .entry)) j) (spareBytes (c .0) j)) ≡ true ⌝ }
+    ensures { λ k. ⌜ (k < p .alpha → sameList (spare p (now (fr .entry)) k) (spareBytes (c .0) k) ≡ false) ⌝ }
+{
+    let m = p.alpha;
+    let mut j = 0;
+    while j < m {
+        if !chip_spares::spare_right(p, fr, c, j) {
+            return j;
+        }
+        j += 1;
+    }
+    j
+}
+
 // True if a frame is as programming leaves it, whole or in its first pages, with a cluster of region r.
 fn good_frame(p: Params, r: usize, fr: &[u8]) -> bool
     requires { ⌜ allowed p ≡ true ⌝ }
@@ -69,13 +105,8 @@ fn good_frame(p: Params, r: usize, fr: &[u8]) -> bool
     if rules::region_of(p, c) != r {
         return false;
     }
-    let m = p.alpha;
-    let mut j = 0;
-    while j < m {
-        if !chip_spares::spare_right(p, fr, c, j) {
-            return only_begun(p, fr, j);
-        }
-        j += 1;
+    if !all_right(p, fr, c) {
+        return only_begun(p, fr, right_pages(p, fr, c));
     }
     true
 }
