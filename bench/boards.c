@@ -30,7 +30,7 @@ static void *get_memory(size_t bytes)
 
 struct cnftl_board new_board(const struct cnftl_params *p)
 {
-    struct cnftl_board b = { *p, NULL, NULL, NULL, NULL, NULL, NULL, NULL };
+    struct cnftl_board b = { .params = *p };
 
     b.chip = get_memory(cnftl_chip_bytes(p));
     b.ct = get_memory(cnftl_ct_entries(p) * sizeof *b.ct);
@@ -39,6 +39,7 @@ struct cnftl_board new_board(const struct cnftl_params *p)
     b.bst = get_memory(cnftl_bst_entries(p));
     b.wear = get_memory(cnftl_wear_entries(p) * sizeof *b.wear);
     b.marks = get_memory(cnftl_marks_entries(p) * sizeof *b.marks);
+    b.stamps = get_memory(cnftl_stamps_entries(p) * sizeof *b.stamps);
     memset(b.chip, 255, cnftl_chip_bytes(p));
     memset(b.wear, 0, cnftl_wear_entries(p) * sizeof *b.wear);
     return b;
@@ -53,6 +54,7 @@ void free_board(struct cnftl_board *b)
     free(b->bst);
     free(b->wear);
     free(b->marks);
+    free(b->stamps);
 }
 
 /* Programs one frame of a formatted board. */

@@ -1,5 +1,6 @@
 /*
- * model_fast.c - document 01 with 02's marks in plain C, written for speed.
+ * model_fast.c - document 01 with 02's marks and stamps in plain C, written for
+ * speed.
  *
  * The orderly check passes once over the chip.  It reads only the spare bytes
  * of programmed pages, compares erased pages by words, and searches nothing:
@@ -14,7 +15,8 @@
  *     the frames without a mark need no look at CT.
  *
  * A write keeps the marks: it sets the new frame's and clears the old one's,
- * and after a reclaim the copies have the first marks of their block.
+ * and after a reclaim the copies have the first marks of their block.  It takes
+ * the next stamp of its region, if there is one left.
  */
 #include "model_fast.h"
 
@@ -28,7 +30,7 @@
 enum { SPARE = 16, NONE = 65535, FREE = 0, USED = 1, RESERVED = 2, WORDS = 4 };
 enum {
     ACCEPTED, BAD_PARAMETER, WRONG_LENGTH, BAD_COUNT, BAD_ADDRESS, WRONG_DATA,
-    TOO_FEW_BLOCKS, NOT_ORDERLY, TOO_FEW_ANSWERS
+    TOO_FEW_BLOCKS, NOT_ORDERLY, TOO_FEW_ANSWERS, NO_STAMP_LEFT
 };
 
 /* Parameters, sizes worked out from them, and the state as it is read. */
@@ -41,6 +43,7 @@ struct board {
     const uint8_t *bst;
     const uint32_t *wear;
     const uint64_t *marks;
+    const uint32_t *stamps;
 };
 
 /* The state as format and write change it. */
@@ -50,6 +53,7 @@ struct lent {
     uint8_t *bst;
     uint32_t *wear;
     uint64_t *marks;
+    uint32_t *stamps;
 };
 
 /* The cluster number in the spare bytes of a page. */
@@ -322,14 +326,14 @@ static bool parameters_allowed(const struct board *b)
 static uint32_t refuse_board(const struct board *b, size_t chip_len,
                              size_t ct_len, size_t bt_len, size_t fst_len,
                              size_t bst_len, size_t wear_len,
-                             size_t marks_len)
+                             size_t marks_len, size_t stamps_len)
 {
     if (!parameters_allowed(b))
         return BAD_PARAMETER;
     if (chip_len != (uint64_t)b->n * (b->alpha * b->frames) * (b->s + SPARE)
         || ct_len != b->c || bt_len != b->mu * b->gamma || fst_len != b->mu
         || bst_len != b->n || wear_len != b->n
-        || marks_len != WORDS * b->mu * b->gamma)
+        || marks_len != WORDS * b->mu * b->gamma || stamps_len != b->mu)
         return WRONG_LENGTH;
     return ACCEPTED;
 }
@@ -357,6 +361,13 @@ static uint32_t refuse_request(const struct board *b, uint32_t lba,
     return orderly(b) ? ACCEPTED : NOT_ORDERLY;
 }
 
+/* The reply to a write on an orderly board that is right otherwise. */
+static uint32_t refuse_stampless(const struct board *b, uint32_t lba)
+{
+    return b->stamps[lba / b->alpha % b->mu] == UINT32_MAX ? NO_STAMP_LEFT
+                                                           : ACCEPTED;
+}
+
 /* The parameters with the sizes that follow from them. */
 static struct board make_board(uint32_t s, uint32_t alpha, uint32_t beta,
                                uint32_t d, uint32_t mu, uint32_t gamma,
@@ -376,7 +387,7 @@ static struct board make_board(uint32_t s, uint32_t alpha, uint32_t beta,
 static void look_at(struct board *b, const uint8_t *chip, const uint16_t *ct,
                     const uint16_t *bt, const uint16_t *fst,
                     const uint8_t *bst, const uint32_t *wear,
-                    const uint64_t *marks)
+                    const uint64_t *marks, const uint32_t *stamps)
 {
     b->chip = chip;
     b->ct = ct;
@@ -385,6 +396,7 @@ static void look_at(struct board *b, const uint8_t *chip, const uint16_t *ct,
     b->bst = bst;
     b->wear = wear;
     b->marks = marks;
+    b->stamps = stamps;
 }
 
 /* reply + 65,536 * programs + 4,294,967,296 * erases */
@@ -593,6 +605,7 @@ static uint64_t write_steps(const struct board *b, const struct lent *l,
     segment = t.virtual_block * b->d + t.frame / b->beta;
     l->ct[cluster] = (uint16_t)segment;
     l->fst[region] = (uint16_t)segment;
+    l->stamps[region]++;
     move_mark(b, l, region, &old, &t);
     return answer(ACCEPTED, b->alpha * (t.copied + 1), t.victim_block != NONE);
 }
@@ -617,12 +630,14 @@ uint64_t fast_format(uint32_t s, uint32_t alpha, uint32_t beta, uint32_t d,
                      uint16_t *fst, size_t fst_len,
                      uint8_t *bst, size_t bst_len,
                      uint32_t *wear, size_t wear_len,
-                     uint64_t *marks, size_t marks_len)
+                     uint64_t *marks, size_t marks_len,
+                     uint32_t *stamps, size_t stamps_len)
 {
     struct board b = make_board(s, alpha, beta, d, mu, gamma, c, n);
-    struct lent l = { chip, ct, bt, fst, bst, wear, marks };
+    struct lent l = { chip, ct, bt, fst, bst, wear, marks, stamps };
     uint32_t reply = refuse_board(&b, chip_len, ct_len, bt_len, fst_len,
-                                  bst_len, wear_len, marks_len), good = 0;
+                                  bst_len, wear_len, marks_len, stamps_len);
+    uint32_t good = 0;
 
     if (reply != ACCEPTED)
         return answer(reply, 0, 0);
@@ -640,6 +655,7 @@ uint64_t fast_format(uint32_t s, uint32_t alpha, uint32_t beta, uint32_t d,
     memset(bt, 255, bt_len * sizeof *bt);
     memset(fst, 255, fst_len * sizeof *fst);
     memset(marks, 0, marks_len * sizeof *marks);
+    memset(stamps, 0, stamps_len * sizeof *stamps);
     return answer(ACCEPTED, 0, good);
 }
 
@@ -653,15 +669,16 @@ uint64_t fast_read(uint32_t s, uint32_t alpha, uint32_t beta, uint32_t d,
                    const uint8_t *bst, size_t bst_len,
                    const uint32_t *wear, size_t wear_len,
                    const uint64_t *marks, size_t marks_len,
+                   const uint32_t *stamps, size_t stamps_len,
                    uint32_t lba, uint32_t count,
                    uint8_t *data, size_t data_len)
 {
     struct board b = make_board(s, alpha, beta, d, mu, gamma, c, n);
     uint32_t reply = refuse_board(&b, chip_len, ct_len, bt_len, fst_len,
-                                  bst_len, wear_len, marks_len);
+                                  bst_len, wear_len, marks_len, stamps_len);
     size_t frame;
 
-    look_at(&b, chip, ct, bt, fst, bst, wear, marks);
+    look_at(&b, chip, ct, bt, fst, bst, wear, marks, stamps);
     if (reply == ACCEPTED)
         reply = refuse_request(&b, lba, count, data_len);
     if (reply != ACCEPTED)
@@ -685,17 +702,20 @@ uint64_t fast_write(uint32_t s, uint32_t alpha, uint32_t beta, uint32_t d,
                     uint8_t *bst, size_t bst_len,
                     uint32_t *wear, size_t wear_len,
                     uint64_t *marks, size_t marks_len,
+                    uint32_t *stamps, size_t stamps_len,
                     uint32_t lba, uint32_t count,
                     const uint8_t *data, size_t data_len)
 {
     struct board b = make_board(s, alpha, beta, d, mu, gamma, c, n);
-    struct lent l = { chip, ct, bt, fst, bst, wear, marks };
+    struct lent l = { chip, ct, bt, fst, bst, wear, marks, stamps };
     uint32_t reply = refuse_board(&b, chip_len, ct_len, bt_len, fst_len,
-                                  bst_len, wear_len, marks_len);
+                                  bst_len, wear_len, marks_len, stamps_len);
 
-    look_at(&b, chip, ct, bt, fst, bst, wear, marks);
+    look_at(&b, chip, ct, bt, fst, bst, wear, marks, stamps);
     if (reply == ACCEPTED)
         reply = refuse_request(&b, lba, count, data_len);
+    if (reply == ACCEPTED)
+        reply = refuse_stampless(&b, lba);
     if (reply != ACCEPTED)
         return answer(reply, 0, 0);
     return write_steps(&b, &l, lba, count, data);
@@ -710,8 +730,8 @@ static uint64_t write_item(const struct board *b, const struct lent *l,
     uint32_t reply = refuse_place(b, item[0], item[1],
                                   item[2] + need <= data_len);
 
-    if (reply == ACCEPTED && !in_order)
-        reply = NOT_ORDERLY;
+    if (reply == ACCEPTED)
+        reply = in_order ? refuse_stampless(b, item[0]) : NOT_ORDERLY;
     if (reply != ACCEPTED)
         return answer(reply, 0, 0);
     return write_steps(b, l, item[0], item[1], data + item[2]);
@@ -727,17 +747,18 @@ uint64_t fast_queue(uint32_t s, uint32_t alpha, uint32_t beta, uint32_t d,
                     uint8_t *bst, size_t bst_len,
                     uint32_t *wear, size_t wear_len,
                     uint64_t *marks, size_t marks_len,
+                    uint32_t *stamps, size_t stamps_len,
                     const uint32_t *requests, size_t requests_len,
                     const uint8_t *data, size_t data_len,
                     uint64_t *answers, size_t answers_len)
 {
     struct board b = make_board(s, alpha, beta, d, mu, gamma, c, n);
-    struct lent l = { chip, ct, bt, fst, bst, wear, marks };
+    struct lent l = { chip, ct, bt, fst, bst, wear, marks, stamps };
     uint32_t reply = refuse_board(&b, chip_len, ct_len, bt_len, fst_len,
-                                  bst_len, wear_len, marks_len);
+                                  bst_len, wear_len, marks_len, stamps_len);
     bool in_order;
 
-    look_at(&b, chip, ct, bt, fst, bst, wear, marks);
+    look_at(&b, chip, ct, bt, fst, bst, wear, marks, stamps);
     if (reply == ACCEPTED && requests_len % 3 != 0)
         reply = WRONG_LENGTH;
     if (reply == ACCEPTED && answers_len < requests_len / 3)

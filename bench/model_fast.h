@@ -1,5 +1,5 @@
 /*
- * model_fast.h - document 01's calls with 02's marks and its queue in plain
+ * model_fast.h - document 01's calls with 02's marks, stamps and queue in plain
  * C, written for speed.
  *
  * The four calls have the signatures of cnftl.h under the prefix fast_ and

@@ -134,7 +134,9 @@ static int same_boards(void)
         && memcmp(product.fst, plain.fst, cnftl_fst_entries(p) * 2) == 0
         && memcmp(product.bst, plain.bst, cnftl_bst_entries(p)) == 0
         && memcmp(product.wear, plain.wear, cnftl_wear_entries(p) * 4) == 0
-        && memcmp(product.marks, plain.marks, cnftl_marks_entries(p) * 8) == 0;
+        && memcmp(product.marks, plain.marks, cnftl_marks_entries(p) * 8) == 0
+        && memcmp(product.stamps, plain.stamps, cnftl_stamps_entries(p) * 4)
+               == 0;
 }
 
 /* ==== Rows ============================================================= */

@@ -167,21 +167,27 @@ static void tell_rule(const uint32_t *list)
            cnftl_rule_text(list[CNFTL_WHY_RULE]));
 }
 
+/* Whether a write would be refused, since the region has no stamp left. */
+static int is_stampless(const uint32_t *list)
+{
+    return list[CNFTL_WHY_WRITE] == CNFTL_NO_STAMP_LEFT;
+}
+
 /* Tells how many spare areas the search for the sector's frame looks at, and of
    which frames: from the last programmed one of its segment down. */
 static void tell_looks(const uint32_t *list)
 {
     uint32_t looks = list[CNFTL_WHY_LOOKS], frame = list[CNFTL_WHY_FRAME];
 
+    fputs(is_stampless(list) ? "A read" : "A read or a write", stdout);
     if (looks == 0)
-        printf("A read or a write of it looks at no spare area.\n");
+        printf(" of it looks at no spare area.\n");
     else if (looks == 1)
-        printf("A read or a write of it looks at 1 spare area: that of frame "
-               "%lu.\n", (unsigned long)frame);
+        printf(" of it looks at 1 spare area: that of frame %lu.\n",
+               (unsigned long)frame);
     else
-        printf("A read or a write of it looks at %lu spare areas: those of "
-               "frames %lu%s%lu.\n", (unsigned long)looks,
-               (unsigned long)(frame + looks - 1),
+        printf(" of it looks at %lu spare areas: those of frames %lu%s%lu.\n",
+               (unsigned long)looks, (unsigned long)(frame + looks - 1),
                looks == 2 ? " and " : " down to ", (unsigned long)frame);
 }
 
@@ -203,7 +209,7 @@ static void tell_read(const struct cnftl_board *b, const uint32_t *list)
                  list[CNFTL_WHY_FRAME]);
 }
 
-/* Tells what a write would do. */
+/* Tells what a write would do for its frame. */
 static void tell_write(const struct cnftl_board *b, uint32_t region,
                        const uint32_t *list)
 {
@@ -231,8 +237,30 @@ static void tell_write(const struct cnftl_board *b, uint32_t region,
     draw_block(b, target, block,
                list[CNFTL_WHY_WRITE] == CNFTL_WRITE_RECLAIMS ? NO_FRAME
                                                              : takes);
-    printf("V valid, S stale, B begun, E erased, one letter a frame; ^ the frame "
-           "meant\n");
+}
+
+/* Tells that a write of the region is refused, and why. */
+static void tell_no_stamp(uint32_t region)
+{
+    printf("A write is refused with reply %d: region %lu has no stamp left.\n"
+           "  It takes no more writes until the board is formatted.\n",
+           CNFTL_NO_STAMP_LEFT, (unsigned long)region);
+}
+
+/* Tells why a sector of an orderly board reads so, and what a write would do;
+   and what the letters mean, if there are any. */
+static void tell_answer(const struct cnftl_board *b, uint32_t region,
+                        const uint32_t *list)
+{
+    tell_read(b, list);
+    tell_looks(list);
+    if (is_stampless(list))
+        tell_no_stamp(region);
+    else
+        tell_write(b, region, list);
+    if (list[CNFTL_WHY_HELD] || !is_stampless(list))
+        printf("V valid, S stale, B begun, E erased, one letter a frame; "
+               "^ the frame meant\n");
 }
 
 /* The board in a file, or the end of the program. */
@@ -281,13 +309,10 @@ int main(int argc, char **argv)
     printf("Sector %lu is at place %lu of cluster %lu, in region %lu.\n",
            (unsigned long)lba, (unsigned long)(lba % b.params.alpha),
            (unsigned long)(lba / b.params.alpha), (unsigned long)region);
-    if (reply == CNFTL_NOT_ORDERLY) {
+    if (reply == CNFTL_NOT_ORDERLY)
         tell_rule(list);
-    } else {
-        tell_read(&b, list);
-        tell_looks(list);
-        tell_write(&b, region, list);
-    }
+    else
+        tell_answer(&b, region, list);
     image_free_board(&b);
     return reply == CNFTL_NOT_ORDERLY ? NOT_ORDERLY : ANSWERED;
 }

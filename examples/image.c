@@ -9,7 +9,7 @@
 #include <stdlib.h>
 #include <string.h>
 
-enum { VERSION = 2, HEADER_BYTES = 44 };
+enum { VERSION = 3, HEADER_BYTES = 44 };
 
 /* The result where nothing is wrong. */
 static const struct image_result fine = { IMAGE_FINE, "" };
@@ -85,7 +85,9 @@ struct image_result image_new_board(struct cnftl_board *b,
     b->bst = malloc(cnftl_bst_entries(p));
     b->wear = malloc(cnftl_wear_entries(p) * sizeof *b->wear);
     b->marks = malloc(cnftl_marks_entries(p) * sizeof *b->marks);
-    if (b->chip && b->ct && b->bt && b->fst && b->bst && b->wear && b->marks)
+    b->stamps = malloc(cnftl_stamps_entries(p) * sizeof *b->stamps);
+    if (b->chip && b->ct && b->bt && b->fst && b->bst && b->wear && b->marks
+        && b->stamps)
         return fine;
     image_free_board(b);
     return wrong(IMAGE_NO_MEMORY, "no memory for a board of %llu bytes",
@@ -103,6 +105,7 @@ void image_free_board(struct cnftl_board *b)
     free(b->bst);
     free(b->wear);
     free(b->marks);
+    free(b->stamps);
 }
 
 /* ==== Reading ========================================================== */
@@ -126,20 +129,28 @@ static int take_words(FILE *f, uint16_t *to, size_t entries)
     return 1;
 }
 
-/* Takes the wear, and then the marks. */
-static int take_wear_and_marks(FILE *f, struct cnftl_board *b)
+/* Takes 32-bit entries, in the same way. */
+static int take_numbers(FILE *f, uint32_t *to, size_t entries)
 {
-    uint8_t four[4], eight[8];
+    uint8_t four[4];
 
-    for (size_t i = 0; i < cnftl_wear_entries(&b->params); i++) {
+    for (size_t i = 0; i < entries; i++) {
         if (!take(f, four, sizeof four))
             return 0;
-        b->wear[i] = get_number(four, 4);
+        to[i] = get_number(four, 4);
     }
-    for (size_t i = 0; i < cnftl_marks_entries(&b->params); i++) {
+    return 1;
+}
+
+/* Takes 64-bit entries, in the same way. */
+static int take_longs(FILE *f, uint64_t *to, size_t entries)
+{
+    uint8_t eight[8];
+
+    for (size_t i = 0; i < entries; i++) {
         if (!take(f, eight, sizeof eight))
             return 0;
-        b->marks[i] = get_long(eight, 8);
+        to[i] = get_long(eight, 8);
     }
     return 1;
 }
@@ -154,15 +165,18 @@ static int take_board(FILE *f, struct cnftl_board *b)
         && take_words(f, b->bt, cnftl_bt_entries(p))
         && take_words(f, b->fst, cnftl_fst_entries(p))
         && take(f, b->bst, cnftl_bst_entries(p))
-        && take_wear_and_marks(f, b);
+        && take_numbers(f, b->wear, cnftl_wear_entries(p))
+        && take_longs(f, b->marks, cnftl_marks_entries(p))
+        && take_numbers(f, b->stamps, cnftl_stamps_entries(p));
 }
 
 /* Looks whether the image is of the version that is read here. */
 static struct image_result check_version(uint32_t version)
 {
-    if (version == 1)
-        return wrong(IMAGE_NO_BOARD, "board image of version 1, which has no "
-                     "table of marks; only version %d is read", VERSION);
+    if (version < VERSION)
+        return wrong(IMAGE_NO_BOARD, "board image of version %lu, which is "
+                     "older than %d: such a board is formatted anew",
+                     (unsigned long)version, VERSION);
     if (version != VERSION)
         return wrong(IMAGE_NO_BOARD, "board image of version %lu, not %d",
                      (unsigned long)version, VERSION);
@@ -256,6 +270,28 @@ static void put_words(FILE *f, const uint16_t *from, size_t entries)
     }
 }
 
+/* Puts 32-bit entries down. */
+static void put_numbers(FILE *f, const uint32_t *from, size_t entries)
+{
+    uint8_t four[4];
+
+    for (size_t i = 0; i < entries; i++) {
+        put_number(four, 4, from[i]);
+        fwrite(four, 1, sizeof four, f);
+    }
+}
+
+/* Puts 64-bit entries down. */
+static void put_longs(FILE *f, const uint64_t *from, size_t entries)
+{
+    uint8_t eight[8];
+
+    for (size_t i = 0; i < entries; i++) {
+        put_number(eight, 8, from[i]);
+        fwrite(eight, 1, sizeof eight, f);
+    }
+}
+
 /* Puts the header down. */
 static void put_header(FILE *f, struct cnftl_params p)
 {
@@ -274,7 +310,6 @@ static void put_header(FILE *f, struct cnftl_params p)
 static void put_board(FILE *f, const struct cnftl_board *b)
 {
     const struct cnftl_params *p = &b->params;
-    uint8_t four[4], eight[8];
 
     put_header(f, *p);
     fwrite(b->chip, 1, cnftl_chip_bytes(p), f);
@@ -282,14 +317,9 @@ static void put_board(FILE *f, const struct cnftl_board *b)
     put_words(f, b->bt, cnftl_bt_entries(p));
     put_words(f, b->fst, cnftl_fst_entries(p));
     fwrite(b->bst, 1, cnftl_bst_entries(p), f);
-    for (size_t i = 0; i < cnftl_wear_entries(p); i++) {
-        put_number(four, 4, b->wear[i]);
-        fwrite(four, 1, sizeof four, f);
-    }
-    for (size_t i = 0; i < cnftl_marks_entries(p); i++) {
-        put_number(eight, 8, b->marks[i]);
-        fwrite(eight, 1, sizeof eight, f);
-    }
+    put_numbers(f, b->wear, cnftl_wear_entries(p));
+    put_longs(f, b->marks, cnftl_marks_entries(p));
+    put_numbers(f, b->stamps, cnftl_stamps_entries(p));
 }
 
 /* Writes the image to a file, and removes what could not be written whole. */

@@ -2,9 +2,10 @@
  * cnftl.h - C interface of the Bishtarev CNFTL flash translation layer.
  *
  * The layer makes a raw NAND chip look like numbered sectors.  It keeps
- * nothing of its own: a board is a chip image and six tables (CT, BT, FST,
- * BST, wear and marks) in memory that the caller owns and lends for the length
- * of one call.  To keep a board, keep these seven arrays and its parameters.
+ * nothing of its own: a board is a chip image and seven tables (CT, BT, FST,
+ * BST, wear, marks and stamps) in memory that the caller owns and lends for the
+ * length of one call.  To keep a board, keep these eight arrays and its
+ * parameters.
  *
  * There are six calls: cnftl_format, cnftl_read, cnftl_write, cnftl_queue,
  * cnftl_release and cnftl_why.  Each one returns for every request and for
@@ -22,7 +23,7 @@
  *
  * A slice passes as a pointer and then a length in ELEMENTS (bytes for chip,
  * bst and data; 16-bit entries for ct, bt and fst; 32-bit entries for wear,
- * list and requests; 64-bit entries for marks and answers).
+ * stamps, list and requests; 64-bit entries for marks and answers).
  *
  * What the tables say (regions, virtual blocks and frames count from 0; so do
  * segments, within their region: segment g is in virtual block g / d, and its
@@ -41,6 +42,11 @@
  *     block has CNFTL_MARK_WORDS words, region first: frame f of virtual block
  *     v of region r is bit f % 64, UINT64_C(1) << f % 64, of entry
  *     CNFTL_MARK_WORDS*(r*gamma + v) + f/64.  All other bits are 0.
+ *   - stamps: for each region the stamp that was taken last, 0 after a format.
+ *     An accepted write, single or of a queue, takes the next one of its
+ *     region; nothing else changes the entry.  A region whose entry is
+ *     4,294,967,295 has no stamp left: its writes are refused with 9 until the
+ *     next format.
  *
  * What the caller answers for:
  *   - Every pointer is non-null and aligned for its element type, even when
@@ -61,11 +67,12 @@
  *   static uint8_t  bst[5];
  *   static uint32_t wear[5];             // 0: no block was erased yet
  *   static uint64_t marks[16];           // cnftl_marks_entries
+ *   static uint32_t stamps[2];
  *   static const struct cnftl_board board = {
  *       .params = { .s = 16, .alpha = 2, .beta = 1, .d = 2,
  *                   .mu = 2, .gamma = 2, .c = 6, .n = 5 },
  *       .chip = chip, .ct = ct, .bt = bt, .fst = fst,
- *       .bst = bst, .wear = wear, .marks = marks
+ *       .bst = bst, .wear = wear, .marks = marks, .stamps = stamps
  *   };
  *   uint8_t  sector[16];
  *   uint64_t a;
@@ -97,11 +104,11 @@ extern "C" {
  * and sizes of this header are wanted, without the archive, define
  * CNFTL_UNLINKED before it is included.
  */
-#define CNFTL_API 1
-uint32_t cnftl_api_1(void);
+#define CNFTL_API 2
+uint32_t cnftl_api_2(void);
 #if defined(__GNUC__) && !defined(CNFTL_UNLINKED)
 __attribute__((used)) static uint32_t (*const cnftl_needs_api)(void)
-    = cnftl_api_1;
+    = cnftl_api_2;
 #endif
 
 /*
@@ -150,7 +157,8 @@ enum cnftl_reply {
                                  not lie in data                            */
     CNFTL_TOO_FEW_BLOCKS = 6, /* fewer than mu*gamma+1 blocks are not bad   */
     CNFTL_NOT_ORDERLY = 7,    /* chip and tables break a cnftl_rule         */
-    CNFTL_TOO_FEW_ANSWERS = 8 /* fewer places for answers than requests     */
+    CNFTL_TOO_FEW_ANSWERS = 8, /* fewer places for answers than requests    */
+    CNFTL_NO_STAMP_LEFT = 9   /* a write's region has no stamp left         */
 };
 
 /* The values of a BST entry. */
@@ -170,10 +178,12 @@ enum cnftl_why_entry {
     CNFTL_WHY_VIRTUAL = 5,  /*   virtual block,                             */
     CNFTL_WHY_PHYSICAL = 6, /*   physical block,                            */
     CNFTL_WHY_FRAME = 7,    /*   frame in the block; 0 unless held          */
-    CNFTL_WHY_WRITE = 8,    /* what a write would do: a cnftl_why_write     */
+    CNFTL_WHY_WRITE = 8,    /* what a write would do: a cnftl_why_write, or
+                               CNFTL_NO_STAMP_LEFT where it is refused so   */
     CNFTL_WHY_TARGET = 9,   /*   the virtual block it would do it with      */
     CNFTL_WHY_TAKES = 10,   /*   the frame that the write would take        */
-    CNFTL_WHY_COPIES = 11,  /*   valid frames that it would copy first      */
+    CNFTL_WHY_COPIES = 11,  /*   valid frames that it would copy first; all
+                                 three are 0 where it is refused            */
     CNFTL_WHY_LOOKS = 12,   /* spare areas that a read or a write looks at
                                to find the frame; 0 unless held             */
     CNFTL_WHY_ENTRIES = 13
@@ -222,7 +232,8 @@ enum cnftl_why_write {
  * page where a block has two, is not 255: it becomes reserved and is not
  * touched.  All others are erased and become free, and the wear of each goes up
  * by one unless it is 4,294,967,295.  CT, BT and FST become none, and all marks
- * 0.  The wear lent must be the board's wear so far (0 for a new chip).
+ * and stamps 0.  The wear lent must be the board's wear so far (0 for a new
+ * chip).
  * Replies 1, 2, 6, 0.  Counts: 0 programs, one erase for each block not bad.
  */
 uint64_t cnftl_format(uint32_t s, uint32_t alpha, uint32_t beta, uint32_t d,
@@ -233,7 +244,8 @@ uint64_t cnftl_format(uint32_t s, uint32_t alpha, uint32_t beta, uint32_t d,
                       uint16_t *fst, size_t fst_len,
                       uint8_t *bst, size_t bst_len,
                       uint32_t *wear, size_t wear_len,
-                      uint64_t *marks, size_t marks_len);
+                      uint64_t *marks, size_t marks_len,
+                      uint32_t *stamps, size_t stamps_len);
 
 /*
  * Read count sectors from sector lba on into data.  They must lie in one
@@ -252,14 +264,16 @@ uint64_t cnftl_read(uint32_t s, uint32_t alpha, uint32_t beta, uint32_t d,
                     const uint8_t *bst, size_t bst_len,
                     const uint32_t *wear, size_t wear_len,
                     const uint64_t *marks, size_t marks_len,
+                    const uint32_t *stamps, size_t stamps_len,
                     uint32_t lba, uint32_t count,
                     uint8_t *data, size_t data_len);
 
 /*
  * Write count sectors from sector lba on, taken from data, under the same
  * rules for lba, count and data_len as a read.
- * Replies 1, 2, 3, 4, 5, 7, 0.  Counts: the pages programmed (at most P), and
- * 1 erase if a block was reclaimed, else 0.
+ * Replies 1, 2, 3, 4, 5, 7, 9 (the region of the sectors has no stamp left), 0.
+ * Counts: the pages programmed (at most P), and 1 erase if a block was
+ * reclaimed, else 0.
  */
 uint64_t cnftl_write(uint32_t s, uint32_t alpha, uint32_t beta, uint32_t d,
                      uint32_t mu, uint32_t gamma, uint32_t c, uint32_t n,
@@ -270,6 +284,7 @@ uint64_t cnftl_write(uint32_t s, uint32_t alpha, uint32_t beta, uint32_t d,
                      uint8_t *bst, size_t bst_len,
                      uint32_t *wear, size_t wear_len,
                      uint64_t *marks, size_t marks_len,
+                     uint32_t *stamps, size_t stamps_len,
                      uint32_t lba, uint32_t count,
                      const uint8_t *data, size_t data_len);
 
@@ -288,10 +303,10 @@ struct cnftl_request {
  * goes into the place of its request, and it is the one that a cnftl_write of
  * the request's count*s bytes of data, from its first on, would give at its
  * turn; chip and tables become what those writes would make of them.  A
- * request that is refused (3, 4, 5 or 7) gets its answer too, changes nothing
- * else, and the next goes on.  5 is for bytes that do not lie in data, which
- * may be longer than the requests need.  Answers past the last request stay as
- * they are.
+ * request that is refused (3, 4, 5, 7 or 9) gets its answer too, changes
+ * nothing else, and the next goes on.  5 is for bytes that do not lie in data,
+ * which may be longer than the requests need.  Answers past the last request
+ * stay as they are.
  * Replies of the call itself: 1, 2 (also where requests_len is no multiple of
  * three), 8 (answers_len is less than the number of requests), which leave the
  * answers as they are, and else 0.  Its own counts: 0 and 0.  On a board that
@@ -307,6 +322,7 @@ uint64_t cnftl_queue(uint32_t s, uint32_t alpha, uint32_t beta, uint32_t d,
                      uint8_t *bst, size_t bst_len,
                      uint32_t *wear, size_t wear_len,
                      uint64_t *marks, size_t marks_len,
+                     uint32_t *stamps, size_t stamps_len,
                      const uint32_t *requests, size_t requests_len,
                      const uint8_t *data, size_t data_len,
                      uint64_t *answers, size_t answers_len);
@@ -327,6 +343,7 @@ uint64_t cnftl_release(uint32_t s, uint32_t alpha, uint32_t beta, uint32_t d,
                        const uint8_t *bst, size_t bst_len,
                        const uint32_t *wear, size_t wear_len,
                        uint64_t *marks, size_t marks_len,
+                       uint32_t *stamps, size_t stamps_len,
                        uint32_t cluster);
 
 /*
@@ -343,7 +360,10 @@ uint64_t cnftl_release(uint32_t s, uint32_t alpha, uint32_t beta, uint32_t d,
  * spare areas that such a write, or a cnftl_read of this cluster as the next
  * call, looks at to find the frame that holds it: those of the programmed
  * frames of segment CNFTL_WHY_SEGMENT from the last one down to that frame, it
- * included.  Copies are not counted, and it is 0 where no frame is held.
+ * included.  Copies are not counted, and it is 0 where no frame is held.  Where
+ * the region has no stamp left, a write of the cluster is refused with 9:
+ * CNFTL_WHY_WRITE is then that number and the three entries after it are 0; the
+ * others are as always.
  * Replies 1, 2, 4, 7, 0.  Counts: 0 and 0.  Writes list only, and that only
  * with reply 0 and 7.
  */
@@ -356,6 +376,7 @@ uint64_t cnftl_why(uint32_t s, uint32_t alpha, uint32_t beta, uint32_t d,
                    const uint8_t *bst, size_t bst_len,
                    const uint32_t *wear, size_t wear_len,
                    const uint64_t *marks, size_t marks_len,
+                   const uint32_t *stamps, size_t stamps_len,
                    uint32_t lba,
                    uint32_t *list, size_t list_len);
 
@@ -393,6 +414,7 @@ static inline const char *cnftl_reply_text(uint32_t reply)
     case CNFTL_TOO_FEW_BLOCKS:  return "too few good blocks";
     case CNFTL_NOT_ORDERLY:     return "the board is not orderly";
     case CNFTL_TOO_FEW_ANSWERS: return "fewer places for answers than requests";
+    case CNFTL_NO_STAMP_LEFT:   return "the region has no stamp left";
     default:                    return "unknown reply";
     }
 }
@@ -450,7 +472,7 @@ static inline int cnftl_params_allowed(const struct cnftl_params *p)
 
 /*
  * Sizes of a board, for allowed parameters: P, the bytes of a page and of the
- * chip, the entries of each table, the bytes of all six tables together, and
+ * chip, the entries of each table, the bytes of all seven tables together, and
  * the sectors that the board offers.
  * The largest chip has over 8 GiB, more than a 32-bit size_t can say.
  */
@@ -499,13 +521,19 @@ static inline size_t cnftl_marks_entries(const struct cnftl_params *p)
     return (size_t)CNFTL_MARK_WORDS * p->mu * p->gamma;
 }
 
+static inline size_t cnftl_stamps_entries(const struct cnftl_params *p)
+{
+    return p->mu;
+}
+
 static inline size_t cnftl_table_bytes(const struct cnftl_params *p)
 {
     return sizeof(uint16_t) * (cnftl_ct_entries(p) + cnftl_bt_entries(p)
                                + cnftl_fst_entries(p))
          + sizeof(uint8_t) * cnftl_bst_entries(p)
          + sizeof(uint32_t) * cnftl_wear_entries(p)
-         + sizeof(uint64_t) * cnftl_marks_entries(p);
+         + sizeof(uint64_t) * cnftl_marks_entries(p)
+         + sizeof(uint32_t) * cnftl_stamps_entries(p);
 }
 
 static inline uint32_t cnftl_sectors(const struct cnftl_params *p)
@@ -576,6 +604,7 @@ struct cnftl_board {
     uint8_t *bst;
     uint32_t *wear;
     uint64_t *marks;
+    uint32_t *stamps;
 };
 
 /* The parameters and the slices of a board, as each call takes them first. */
@@ -588,7 +617,8 @@ struct cnftl_board {
     (b)->fst, cnftl_fst_entries(&(b)->params),                                 \
     (b)->bst, cnftl_bst_entries(&(b)->params),                                 \
     (b)->wear, cnftl_wear_entries(&(b)->params),                               \
-    (b)->marks, cnftl_marks_entries(&(b)->params)
+    (b)->marks, cnftl_marks_entries(&(b)->params),                             \
+    (b)->stamps, cnftl_stamps_entries(&(b)->params)
 
 static inline uint64_t cnftl_board_format(const struct cnftl_board *b)
 {

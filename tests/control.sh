@@ -41,7 +41,7 @@ ledger 0: 0 serials found, 3 entered, 3 now
 ledger 1: 0 serials found, 3 entered, 3 now
 12 pages programmed, 10 blocks erased
 END
-check "its length, as docs/IMAGE.md has it" [ "$(wc -c <"$room/board")" -eq 4182 ]
+check "its length, as docs/IMAGE.md has it" [ "$(wc -c <"$room/board")" -eq 4190 ]
 check "both ledgers are found again" says <<'END'
 ledger 0, sector 0: serial 1001
 ledger 0, sector 1: serial 1002
@@ -93,9 +93,9 @@ fault() {
 each_fault fault
 check "an FST entry becomes none" broken "$room/fst" "$fst" '\377\377'
 check "a board that is not orderly" refuses 5 "read was refused with reply 7: the board is not orderly" "$room/fst"
-# s=16, alpha=1, beta=1, d=2, mu=1, gamma=1, c=1, n=2: 128 bytes of chip and 48 of tables
+# s=16, alpha=1, beta=1, d=2, mu=1, gamma=1, c=1, n=2: 128 bytes of chip and 52 of tables
 one_region() {
-    printf 'CNFTLIMG\2\0\0\0\20\0\0\0\1\0\0\0\1\0\0\0\2\0\0\0\1\0\0\0\1\0\0\0\1\0\0\0\2\0\0\0' && head -c 176 /dev/zero
+    printf 'CNFTLIMG\3\0\0\0\20\0\0\0\1\0\0\0\1\0\0\0\2\0\0\0\1\0\0\0\1\0\0\0\1\0\0\0\2\0\0\0' && head -c 180 /dev/zero
 }
 one_region >"$room/one"
 check "a board with one region" refuses 7 "$room/one: the board has one region, for 2 ledgers" "$room/one"

@@ -161,6 +161,27 @@ A write reclaims virtual block 0: it copies 2 valid frames to a free block,
 V valid, S stale, B begun, E erased, one letter a frame; ^ the frame meant
 END
 
+check "region 1 has no stamp left" broken "$room/stampless" $((stamps + 4)) '\377\377\377\377'
+check "a sector that is held there, and the write is refused" tells 0 "$room/stampless" 22 <<'END'
+Sector 22 is at place 0 of cluster 11, in region 1.
+It reads from frame 3 of physical block 5,
+  which is virtual block 2 of region 1; segment 5 there:
+    segment     5  SV
+                    ^
+A read of it looks at 1 spare area: that of frame 3.
+A write is refused with reply 9: region 1 has no stamp left.
+  It takes no more writes until the board is formatted.
+V valid, S stale, B begun, E erased, one letter a frame; ^ the frame meant
+END
+check "one that is not held" tells 0 "$room/stampless" 39 <<'END'
+Sector 39 is at place 1 of cluster 19, in region 1.
+It reads as 255 throughout: no frame holds its cluster.
+A read of it looks at no spare area.
+A write is refused with reply 9: region 1 has no stamp left.
+  It takes no more writes until the board is formatted.
+END
+check "region 0 still has some" grep -q '^A write reclaims virtual block 0' <(run "$room/cnftl-why" "$room/stampless" 0)
+
 check "a sector past the end" complains 1 "sector 40 is refused with reply 4: the board ends with sector 39" cnftl-why "$room/board" 40
 check "a sector far past the end" complains 1 "sector 4294967295 is refused with reply 4: the board ends with sector 39" \
     cnftl-why "$room/board" 4294967295

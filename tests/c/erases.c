@@ -28,7 +28,7 @@ enum { MOST_S = 18, MOST_ALPHA = 3, MOST_BETA = 4, MOST_D = 3, MOST_MU = 4 };
 enum { MOST_GAMMA = 4, MOST_N = MOST_MU * MOST_GAMMA + 4 };
 enum { MOST_P = MOST_ALPHA * MOST_BETA * MOST_D };
 enum { MOST_C = MOST_MU * (MOST_GAMMA * MOST_BETA * MOST_D - 1) };
-enum { MOST_DATA = MOST_ALPHA * MOST_S, MOST_ITEMS = 8, REPLIES = 9 };
+enum { MOST_DATA = MOST_ALPHA * MOST_S, MOST_ITEMS = 8, REPLIES = 10 };
 enum { CALLS_EACH = 1000 }; /* that a board gets */
 
 /* Where a board's writes go: anywhere, most often to few hot clusters, or where
@@ -48,8 +48,9 @@ static uint16_t ct[MOST_C], bt[MOST_MU * MOST_GAMMA], fst[MOST_MU];
 static uint8_t bst[MOST_N], data[MOST_DATA];
 static uint32_t wear[MOST_N];
 static uint64_t marks[CNFTL_MARK_WORDS * MOST_MU * MOST_GAMMA];
+static uint32_t stamps[MOST_MU];
 static struct cnftl_board board = {
-    { 0, 0, 0, 0, 0, 0, 0, 0 }, chip, ct, bt, fst, bst, wear, marks
+    { 0, 0, 0, 0, 0, 0, 0, 0 }, chip, ct, bt, fst, bst, wear, marks, stamps
 };
 static struct cnftl_params *const p = &board.params;
 static struct region regions[MOST_MU];
@@ -334,6 +335,18 @@ static uint64_t disordered_write(void)
     return a;
 }
 
+/* The answer of a write while its region has no stamp left. */
+static uint64_t stampless_write(void)
+{
+    uint32_t last = stamps[0];
+    uint64_t a;
+
+    stamps[0] = UINT32_MAX;
+    a = cnftl_board_write(&board, 0, 1, data, p->s);
+    stamps[0] = last;
+    return a;
+}
+
 /* The answer of a call that should be refused with this reply. */
 static uint64_t wrong_call(uint32_t reply)
 {
@@ -356,8 +369,10 @@ static uint64_t wrong_call(uint32_t reply)
         return cnftl_board_format(&other);
     case CNFTL_NOT_ORDERLY:
         return disordered_write();
-    default:
+    case CNFTL_TOO_FEW_ANSWERS:
         return short_queue(3, 0);
+    default:
+        return stampless_write();
     }
 }
 

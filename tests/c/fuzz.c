@@ -27,21 +27,21 @@
 #include <string.h>
 
 enum slice {
-    CHIP, CT, BT, FST, BST, WEAR, MARKS, TABLES, DATA = TABLES, LIST,
+    CHIP, CT, BT, FST, BST, WEAR, MARKS, STAMPS, TABLES, DATA = TABLES, LIST,
     REQUESTS, ANSWERS, SLICES
 };
-enum { GUARD = 64, DATA_ROOM = 16 * 512 + GUARD, REPLIES = 9 };
+enum { GUARD = 64, DATA_ROOM = 16 * 512 + GUARD, REPLIES = 10 };
 enum { LIST_ROOM = (CNFTL_WHY_ENTRIES + 1) * 4, RULES = CNFTL_RULE_MARKS + 1 };
 enum { MOST_ITEMS = 8, REQUESTS_ROOM = (3 * MOST_ITEMS + 2) * 4 };
 enum { ANSWERS_ROOM = (MOST_ITEMS + 3) * 8 };
 
 static const char *const slice_name[SLICES] = {
-    "chip", "ct", "bt", "fst", "bst", "wear", "marks", "data", "list",
-    "requests", "answers"
+    "chip", "ct", "bt", "fst", "bst", "wear", "marks", "stamps", "data",
+    "list", "requests", "answers"
 };
-static const size_t width[SLICES] = { 1, 2, 2, 2, 1, 4, 8, 1, 4, 4, 8 };
+static const size_t width[SLICES] = { 1, 2, 2, 2, 1, 4, 8, 4, 1, 4, 4, 8 };
 static const size_t own_room[SLICES] = {
-    0, 0, 0, 0, 0, 0, 0, DATA_ROOM, LIST_ROOM, REQUESTS_ROOM, ANSWERS_ROOM
+    0, 0, 0, 0, 0, 0, 0, 0, DATA_ROOM, LIST_ROOM, REQUESTS_ROOM, ANSWERS_ROOM
 };
 
 /* ==== Chance =========================================================== */
@@ -132,6 +132,7 @@ static uint64_t *wides_of(const struct side *a, enum slice i)
 #define fst (words_of(&product, FST))
 #define bst (bytes_of(&product, BST))
 #define marks (wides_of(&product, MARKS))
+#define stamps (longs_of(&product, STAMPS))
 #define chip (bytes_of(&product, CHIP))
 
 /* Frames in a block. */
@@ -197,6 +198,7 @@ static void open_board(struct cnftl_params p, size_t chip_bytes)
     right_len[BST] = cnftl_bst_entries(&p);
     right_len[WEAR] = cnftl_wear_entries(&p);
     right_len[MARKS] = cnftl_marks_entries(&p);
+    right_len[STAMPS] = cnftl_stamps_entries(&p);
     for (int i = 0; i < SLICES; i++) {
         room[i] = i < TABLES ? right_len[i] * width[i] : own_room[i];
         product.raw[i] = get_memory(room[i] + 2 * GUARD);
@@ -237,6 +239,7 @@ static uint64_t seen[REPLIES], kinds[6], reclaims, shadow_reads;
 static uint64_t items_seen[REPLIES]; /* replies to the items of queues */
 static uint64_t broken[RULES];   /* rules that a why has told */
 static uint64_t forecasts[4];    /* writes as a why has forecast them */
+static uint64_t stampless;       /* those forecast to be refused with 9 */
 static uint64_t held_reads;      /* reads of a frame that a why has told */
 static uint64_t looks_told[3];   /* third counts as told: 0, 1, and 2 or more */
 
@@ -247,7 +250,8 @@ static uint64_t looks_told[3];   /* third counts as told: 0, 1, and 2 or more */
     PARAMETERS(k), bytes_of(a, CHIP), (k)->len[CHIP],                          \
     words_of(a, CT), (k)->len[CT], words_of(a, BT), (k)->len[BT],              \
     words_of(a, FST), (k)->len[FST], bytes_of(a, BST), (k)->len[BST],          \
-    longs_of(a, WEAR), (k)->len[WEAR], wides_of(a, MARKS), (k)->len[MARKS]
+    longs_of(a, WEAR), (k)->len[WEAR], wides_of(a, MARKS), (k)->len[MARKS],    \
+    longs_of(a, STAMPS), (k)->len[STAMPS]
 #define REQUEST(k, a)                                                          \
     (k)->lba, (k)->count, bytes_of(a, DATA), (k)->len[DATA]
 #define QUESTION(k, a) (k)->lba, longs_of(a, LIST), (k)->len[LIST]
@@ -328,8 +332,9 @@ static void differ(const struct call *k, const char *what, uint64_t by_product,
            " mu=%" PRIu32 " gamma=%" PRIu32 " c=%" PRIu32 " n=%" PRIu32 "\n",
            PARAMETERS(k));
     printf("  lengths: chip %zu, ct %zu, bt %zu, fst %zu, bst %zu, wear %zu, "
-           "marks %zu\n", k->len[CHIP], k->len[CT], k->len[BT], k->len[FST],
-           k->len[BST], k->len[WEAR], k->len[MARKS]);
+           "marks %zu, stamps %zu\n", k->len[CHIP], k->len[CT], k->len[BT],
+           k->len[FST], k->len[BST], k->len[WEAR], k->len[MARKS],
+           k->len[STAMPS]);
     print_answer("product", by_product);
     print_answer("model", by_model);
     for (int i = 0; i < SLICES; i++)
@@ -776,6 +781,23 @@ static void random_wear(void)
     }
 }
 
+/* A region's last stamp: 0, small, any, near its limit or there. */
+static uint32_t some_stamp(void)
+{
+    const uint32_t values[] = {
+        0, below(1000), (uint32_t)rnd(), UINT32_MAX - below(16)
+    };
+
+    return once_in(10) ? UINT32_MAX : values[below(4)];
+}
+
+/* The last stamps of all regions. */
+static void random_stamps(void)
+{
+    for (uint32_t r = 0; r < par.mu; r++)
+        stamps[r] = some_stamp();
+}
+
 /* Where the bad mark of a block's page stands. */
 static uint8_t *mark_of(uint32_t block, uint32_t page)
 {
@@ -948,6 +970,7 @@ static void build_orderly(void)
     memset(fst, 255, room[FST]);
     memset(bst, CNFTL_BLOCK_FREE, room[BST]);
     random_wear();
+    random_stamps();
     for (uint32_t i = below(spare + 1); i > 0; i--) {
         uint32_t block = below(par.n);
 
@@ -1192,24 +1215,32 @@ static void change_marks(void)
     changes[below(sizeof changes / sizeof *changes)]();
 }
 
+/* The last stamps of some regions become others. */
+static void change_stamps(void)
+{
+    do
+        stamps[below(par.mu)] = some_stamp();
+    while (once_in(2));
+}
+
 /* One whole table becomes anything. */
 static void scramble_table(void)
 {
-    uint32_t i = between(CT, MARKS);
+    uint32_t i = between(CT, STAMPS);
 
     fill_random(bytes_of(&product, (enum slice)i), room[i]);
 }
 
 /* Changes one thing, most often, in both sides' states: a mark alone, or
    another thing, which the marks then follow half of the time, so that they do
-   not always give it away. */
+   not always give it away; and the last stamps as well at times. */
 static void change_state(void)
 {
     static void (*const changes[])(void) = {
         change_ct, change_fst, change_bt, change_bst, change_chip,
         change_spare, change_used_spare, change_cluster, change_frame,
         cut_frame, reserve_blocks, drop_last_frame, name_empty_block,
-        scramble_table
+        change_stamps, scramble_table
     };
 
     if (once_in(5)) {
@@ -1221,6 +1252,8 @@ static void change_state(void)
         if (once_in(2))
             put_marks();
     }
+    if (once_in(4))
+        change_stamps();
     copy_side(&model, &product);
 }
 
@@ -1357,6 +1390,17 @@ static void read_as_told(struct call k, const uint32_t *list)
     held_reads += list[CNFTL_WHY_HELD];
 }
 
+/* Writes one sector that a why has told to have no stamp left. */
+static void refused_as_told(struct call k, const uint32_t *list)
+{
+    uint64_t a = answer_of(&k);
+
+    if (cnftl_reply_of(a) != CNFTL_NO_STAMP_LEFT || list[CNFTL_WHY_TARGET] != 0
+        || list[CNFTL_WHY_TAKES] != 0 || list[CNFTL_WHY_COPIES] != 0)
+        differ(&k, "the forecast", a, a);
+    stampless++;
+}
+
 /* Writes one sector, and compares the counts of the write, the segment that CT
    and FST then name and the mark that it sets with the forecast, and the
    copies of a reclaim with the marks before it. */
@@ -1398,6 +1442,8 @@ static void hold_to_it(const struct call *why)
     k.len[LIST] = 0;
     if (k.kind == 'R')
         read_as_told(k, list);
+    else if (list[CNFTL_WHY_WRITE] == CNFTL_NO_STAMP_LEFT)
+        refused_as_told(k, list);
     else
         write_as_told(k, list);
 }
@@ -1446,9 +1492,9 @@ static void format_request(void)
         rest_of_episode = 8;
 }
 
-/* A right read, write, release, why or queue.  It is accepted if the board was changed
-   by calls alone since a format; a board that is not orderly is formatted
-   soon. */
+/* A right read, write, release, why or queue.  It is accepted if the board was
+   changed by calls alone since a format.  A board that is not orderly is
+   formatted soon, and one with no stamp left in a region later. */
 static void right_request(void)
 {
     struct call k = right_call("RRRRWWWWWWWLYYQQ"[below(16)]);
@@ -1459,7 +1505,8 @@ static void right_request(void)
         differ(&k, "the reply on a sound board", reply, CNFTL_ACCEPTED);
     if (k.kind == 'Y' && reply == CNFTL_ACCEPTED)
         hold_to_it(&k);
-    if (reply == CNFTL_NOT_ORDERLY && once_in(4) && calls < limit)
+    if (((reply == CNFTL_NOT_ORDERLY && once_in(4))
+         || (reply == CNFTL_NO_STAMP_LEFT && once_in(32))) && calls < limit)
         format_request();
 }
 
@@ -1686,11 +1733,18 @@ static void run_all(void)
 
 /* ==== The program ====================================================== */
 
+/* The replies that items of a queue get. */
+static const int item_replies[] = {
+    CNFTL_ACCEPTED, CNFTL_BAD_COUNT, CNFTL_BAD_ADDRESS, CNFTL_WRONG_DATA,
+    CNFTL_NOT_ORDERLY, CNFTL_NO_STAMP_LEFT
+};
+enum { ITEM_REPLIES = sizeof item_replies / sizeof *item_replies };
+
 /* Prints what was seen; false if something never was. */
 static bool report(void)
 {
     bool all = reclaims > 0 && shadow_reads > 0 && kinds[3] > 0
-            && held_reads > 0;
+            && held_reads > 0 && stampless > 0;
 
     for (int r = 0; r < REPLIES; r++) {
         printf("fuzz: reply %d: %" PRIu64 " calls\n", r, seen[r]);
@@ -1704,13 +1758,12 @@ static bool report(void)
     for (int r = 0; r < REPLIES; r++)
         printf(" %d: %" PRIu64, r, items_seen[r]);
     printf("\n");
-    all = all && items_seen[CNFTL_ACCEPTED] > 0 && items_seen[CNFTL_BAD_COUNT] > 0
-       && items_seen[CNFTL_BAD_ADDRESS] > 0 && items_seen[CNFTL_WRONG_DATA] > 0
-       && items_seen[CNFTL_NOT_ORDERLY] > 0;
+    for (int i = 0; i < ITEM_REPLIES; i++)
+        all = all && items_seen[item_replies[i]] > 0;
     printf("fuzz: %" PRIu64 " whys, %" PRIu64 " read as told, written as told:"
            " %" PRIu64 " continued, %" PRIu64 " opened, %" PRIu64
-           " reclaimed\n", kinds[4], held_reads, forecasts[1], forecasts[2],
-           forecasts[3]);
+           " reclaimed, %" PRIu64 " had no stamp left\n", kinds[4], held_reads,
+           forecasts[1], forecasts[2], forecasts[3], stampless);
     for (int i = 1; i < 4; i++)
         all = all && forecasts[i] > 0;
     printf("fuzz: spare areas looked at, as told: none %" PRIu64 " times, one %"

@@ -38,9 +38,10 @@ static uint8_t chip[640], bst[5], data[32];
 static uint16_t ct[7], bt[4], fst[2];
 static uint32_t wear[5];
 static uint64_t marks[16];
+static uint32_t stamps[2];
 
 static struct cnftl_board board = {
-    { 16, 2, 1, 2, 2, 2, 6, 5 }, chip, ct, bt, fst, bst, wear, marks
+    { 16, 2, 1, 2, 2, 2, 6, 5 }, chip, ct, bt, fst, bst, wear, marks, stamps
 };
 
 /* Whether an answer has this reply and these counts. */
@@ -52,12 +53,13 @@ static int is(uint64_t answer, uint32_t reply, uint32_t programs,
         && cnftl_erases_of(answer) == erases;
 }
 
-/* A new Board T, not yet formatted; its marks are anything. */
+/* A new Board T, not yet formatted; its marks and stamps are anything. */
 static void new_board(void)
 {
     memset(chip, 255, sizeof chip);
     memset(wear, 0, sizeof wear);
     memset(marks, 85, sizeof marks);
+    memset(stamps, 85, sizeof stamps);
     board.params.beta = 1;
     board.params.d = 2;
     board.params.c = 6;
@@ -112,12 +114,13 @@ static int marks_are(uint64_t r0v0, uint64_t r0v1, uint64_t r1v0,
     return 1;
 }
 
-/* The session, its two reads, and the marked cases (a) to (c). */
+/* The session, its two reads, the marked cases (a) to (c), and a stamp for each
+   accepted write. */
 static void check_session(void)
 {
     new_board();
     assert(is(cnftl_board_format(&board), CNFTL_ACCEPTED, 0, 5));
-    assert(marks_are(0, 0, 0, 0));
+    assert(marks_are(0, 0, 0, 0) && stamps[0] == 0 && stamps[1] == 0);
     for (size_t i = 0; i < sizeof session / sizeof session[0]; i++) {
         run_line(&session[i]);
         if (i == 4)
@@ -133,6 +136,7 @@ static void check_session(void)
     }
     assert(ct[0] == 1 && ct[2] == 0 && ct[4] == 2);
     assert(marks_are(3, 1, 1, 0));
+    assert(stamps[0] == 6 && stamps[1] == 1);
 }
 
 /* The marked cases (d) to (i); (f) with the mark on each page, of which the
@@ -357,25 +361,68 @@ static void check_marks(void)
     assert(is(cnftl_board_release(&board, 3), CNFTL_ACCEPTED, 0, 0));
 }
 
+/* The last stamp of a region, and then none left: reply 9 for a write and an
+   item of a queue, the same number in the forecast of a why with nothing behind
+   it, and no other call refused. */
+static void check_stamps(void)
+{
+    static const struct cnftl_request items[3] = {
+        { 0, 1, 0 }, { 2, 1, 0 }, { 4, 1, 1 }
+    };
+    static const uint32_t told[CNFTL_WHY_ENTRIES] = {
+        0, 0, 1, 0, 0, 0, 0, 0, CNFTL_NO_STAMP_LEFT, 0, 0, 0, 1
+    };
+    uint32_t list[CNFTL_WHY_ENTRIES];
+    uint64_t answers[3];
+
+    new_board();
+    assert(is(cnftl_board_format(&board), CNFTL_ACCEPTED, 0, 5));
+    stamps[0] = 4294967294u;
+    assert(is(cnftl_board_write(&board, 0, 1, data, 16), CNFTL_ACCEPTED, 2, 0));
+    assert(stamps[0] == 4294967295u && stamps[1] == 0);
+    assert(is(cnftl_board_write(&board, 4, 1, data, 16), CNFTL_NO_STAMP_LEFT,
+              0, 0));
+    assert(is(cnftl_board_queue(&board, items, 3, data, 16, answers),
+              CNFTL_ACCEPTED, 0, 0));
+    assert(is(answers[0], CNFTL_NO_STAMP_LEFT, 0, 0));
+    assert(is(answers[1], CNFTL_ACCEPTED, 2, 0));
+    assert(is(answers[2], CNFTL_WRONG_DATA, 0, 0));
+    assert(is(cnftl_board_why(&board, 1, list), CNFTL_ACCEPTED, 0, 0));
+    assert(memcmp(list, told, sizeof list) == 0);
+    assert(is(cnftl_board_read(&board, 0, 1, data, 16), CNFTL_ACCEPTED, 0, 0));
+    assert(is(cnftl_board_release(&board, 0), CNFTL_ACCEPTED, 0, 0));
+    assert(stamps[0] == 4294967295u && stamps[1] == 1);
+    fst[0] = CNFTL_NONE;
+    assert(is(cnftl_board_write(&board, 0, 1, data, 16), CNFTL_NOT_ORDERLY,
+              0, 0));
+    assert(is(cnftl_board_format(&board), CNFTL_ACCEPTED, 0, 5));
+    assert(stamps[0] == 0 && stamps[1] == 0);
+}
+
 /* The replies that the cases above do not give, through the long calls. */
 static void check_replies(void)
 {
     new_board();
     assert(is(cnftl_format(16, 2, 1, 2, 2, 2, 6, 5, chip, 639, ct, 6, bt, 4,
-                           fst, 2, bst, 5, wear, 5, marks, 16),
+                           fst, 2, bst, 5, wear, 5, marks, 16, stamps, 2),
               CNFTL_WRONG_LENGTH, 0, 0));
     assert(is(cnftl_format(16, 2, 1, 2, 2, 2, 6, 5, chip, 640, ct, 6, bt, 4,
-                           fst, 2, bst, 5, wear, 5, marks, 15),
+                           fst, 2, bst, 5, wear, 5, marks, 15, stamps, 2),
               CNFTL_WRONG_LENGTH, 0, 0));
     assert(is(cnftl_format(16, 2, 1, 2, 2, 2, 6, 5, chip, 640, ct, 6, bt, 4,
-                           fst, 2, bst, 5, wear, 5, marks, 16),
+                           fst, 2, bst, 5, wear, 5, marks, 16, stamps, 1),
+              CNFTL_WRONG_LENGTH, 0, 0));
+    assert(is(cnftl_format(16, 2, 1, 2, 2, 2, 6, 5, chip, 640, ct, 6, bt, 4,
+                           fst, 2, bst, 5, wear, 5, marks, 16, stamps, 2),
               CNFTL_ACCEPTED, 0, 5));
     assert(is(cnftl_write(16, 2, 1, 2, 2, 2, 6, 5, chip, 640, ct, 6, bt, 4,
-                          fst, 2, bst, 5, wear, 5, marks, 16, 0, 1, data, 17),
+                          fst, 2, bst, 5, wear, 5, marks, 16, stamps, 2,
+                          0, 1, data, 17),
               CNFTL_WRONG_DATA, 0, 0));
     bst[0] = 3;
     assert(is(cnftl_read(16, 2, 1, 2, 2, 2, 6, 5, chip, 640, ct, 6, bt, 4,
-                         fst, 2, bst, 5, wear, 5, marks, 16, 0, 1, data, 16),
+                         fst, 2, bst, 5, wear, 5, marks, 16, stamps, 2,
+                         0, 1, data, 16),
               CNFTL_NOT_ORDERLY, 0, 0));
 }
 
@@ -393,7 +440,7 @@ static void check_wear(void)
    next on; no two alike. */
 static void check_texts(void)
 {
-    for (uint32_t i = 0; i <= CNFTL_TOO_FEW_ANSWERS + 1; i++)
+    for (uint32_t i = 0; i <= CNFTL_NO_STAMP_LEFT + 1; i++)
         for (uint32_t j = 0; j <= i; j++)
             assert((strcmp(cnftl_reply_text(i), cnftl_reply_text(j)) == 0)
                    == (i == j));
@@ -404,7 +451,7 @@ static void check_texts(void)
     assert(strcmp(cnftl_reply_text(CNFTL_ACCEPTED), "accepted") == 0);
     assert(strcmp(cnftl_reply_text(CNFTL_NOT_ORDERLY),
                   "the board is not orderly") == 0);
-    assert(strcmp(cnftl_reply_text(9), "unknown reply") == 0);
+    assert(strcmp(cnftl_reply_text(10), "unknown reply") == 0);
     assert(strcmp(cnftl_reply_text(UINT32_MAX), "unknown reply") == 0);
     assert(strcmp(cnftl_rule_text(CNFTL_RULE_TWICE),
                   "BT names a block twice") == 0);
@@ -426,8 +473,10 @@ static void check_sizes(void)
     assert(cnftl_bst_entries(&board.params) == 5);
     assert(cnftl_wear_entries(&board.params) == 5);
     assert(cnftl_marks_entries(&board.params) == 16);
+    assert(cnftl_stamps_entries(&board.params) == 2);
     assert(cnftl_table_bytes(&board.params) == sizeof ct - sizeof ct[6]
-           + sizeof bt + sizeof fst + sizeof bst + sizeof wear + sizeof marks);
+           + sizeof bt + sizeof fst + sizeof bst + sizeof wear + sizeof marks
+           + sizeof stamps);
     assert(cnftl_sectors(&board.params) == 12);
 }
 
@@ -487,7 +536,7 @@ static void check_figures(void)
     };
     struct cnftl_params p = { 512, 4, 4, 4, 4, 4, 192, 20 };
 
-    assert(cnftl_table_bytes(&p) == 1036);
+    assert(cnftl_table_bytes(&p) == 1052);
     for (size_t i = 0; i < sizeof rows / sizeof rows[0]; i++) {
         p.c = rows[i].c;
         assert(cnftl_params_allowed(&p));
@@ -538,6 +587,7 @@ int main(void)
     check_list_length();
     check_looks();
     check_marks();
+    check_stamps();
     check_wear();
     check_replies();
     printf("header: Board T answers as printed\n");

@@ -1,8 +1,8 @@
 # For the tests of the examples, after common.sh: builds the programs, and makes images with one thing wrong out of the one in $room/board, which
 # examples/control.c has made (docs/IMAGE.md has the offsets).
 
-ct=3884 fst=3936 bst=3940 marks=3990 # where these tables begin in control's images
-page=48 spare=32                     # bytes of a page, and where its spare area begins; the chip begins at 44
+ct=3884 fst=3936 bst=3940 marks=3990 stamps=4182 # where these tables begin in control's images
+page=48 spare=32                                 # bytes of a page, and where its spare area begins; the chip begins at 44
 
 # `build NAME` compiles examples/NAME.c.
 build() { "$cc" -std=c11 -O2 "${strict[@]}" ${link[@]+"${link[@]}"} -o "$room/$1" "examples/$1.c" examples/image.c "$archive"; }
@@ -32,17 +32,20 @@ each_fault() {
     "$1" size "$f/empty" "too short for a board image: 0 bytes"
     head -c 43 "$room/board" >"$f/stub"
     "$1" size "$f/stub" "too short for a board image: 43 bytes"
-    head -c 4181 "$room/board" >"$f/short"
-    "$1" size "$f/short" "too short: 4181 bytes, not 4182"
+    head -c 4189 "$room/board" >"$f/short"
+    "$1" size "$f/short" "too short: 4189 bytes, not 4190"
     { cat "$room/board" && printf 'x'; } >"$f/long"
-    "$1" size "$f/long" "too long: 4183 bytes, not 4182"
+    "$1" size "$f/long" "too long: 4191 bytes, not 4190"
     broken "$f/other" 7 'X'
     "$1" board "$f/other" "not a board image"
-    broken "$f/older" 8 '\001'
-    head -c 3990 "$f/older" >"$f/old"
-    "$1" board "$f/old" "board image of version 1, which has no table of marks; only version 2 is read"
-    broken "$f/newer" 8 '\003'
-    "$1" board "$f/newer" "board image of version 3, not 2"
+    broken "$f/old" 8 '\001'
+    head -c 3990 "$f/old" >"$f/older1"
+    "$1" board "$f/older1" "board image of version 1, which is older than 3: such a board is formatted anew"
+    broken "$f/old" 8 '\002'
+    head -c 4182 "$f/old" >"$f/older2"
+    "$1" board "$f/older2" "board image of version 2, which is older than 3: such a board is formatted anew"
+    broken "$f/newer" 8 '\004'
+    "$1" board "$f/newer" "board image of version 4, not 3"
     broken "$f/regions" 28 '\000'
     "$1" board "$f/regions" "its parameters are not allowed"
 }

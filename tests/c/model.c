@@ -83,6 +83,7 @@ struct view {
     const uint8_t *bst;
     const uint32_t *wear;
     const uint64_t *marks;
+    const uint32_t *stamps;
 };
 
 /* The same state as format and write change it. */
@@ -93,11 +94,12 @@ struct lent {
     uint8_t *bst;
     uint32_t *wear;
     uint64_t *marks;
+    uint32_t *stamps;
 };
 
-/* The lengths of the seven lent slices in elements. */
+/* The lengths of the eight lent slices in elements. */
 struct lengths {
-    size_t chip, ct, bt, fst, bst, wear, marks;
+    size_t chip, ct, bt, fst, bst, wear, marks, stamps;
 };
 
 /* Whether one slice has the length that it should have. */
@@ -108,7 +110,8 @@ static bool length_right(size_t given, uint64_t right)
 
 /* "the chip is N*P*(s+16) bytes"; CT per cluster; BT per region and virtual
    block; FST per region; BST and wear per block.  T-06: "four 64-bit words for
-   each region and virtual block". */
+   each region and virtual block".  T-07: "A new lent table holds each region's
+   last stamp". */
 static bool lengths_right(const struct params *p, const struct lengths *l)
 {
     uint64_t page = (uint64_t)p->s + SPARE;
@@ -120,7 +123,8 @@ static bool lengths_right(const struct params *p, const struct lengths *l)
         && length_right(l->bst, p->n)
         && (MUTANT(WEAR_LENGTH) || length_right(l->wear, p->n))
         && (MUTANT(MARKS_LENGTH)
-            || length_right(l->marks, (uint64_t)4 * p->mu * p->gamma));
+            || length_right(l->marks, (uint64_t)4 * p->mu * p->gamma))
+        && (MUTANT(STAMPS_LENGTH) || length_right(l->stamps, p->mu));
 }
 
 /* "Cluster = LBA / alpha rounded down." */
@@ -746,7 +750,8 @@ static void work_out_marks(const struct view *v, uint64_t *marks)
                 marks[marks_index(&v->p, r, i, w)] = right_word(v, r, i, w);
 }
 
-/* Format, and then "CT, BT and FST become none." */
+/* Format, and then "CT, BT and FST become none."  T-07: "each region's last
+   stamp, 32 bits, 0 at format". */
 static void format_steps(struct lent *l)
 {
     const struct params *p = &l->v.p;
@@ -761,6 +766,8 @@ static void format_steps(struct lent *l)
         l->fst[r] = NONE;
     if (!MUTANT(FORMAT_KEEPS_MARKS))
         work_out_marks(&l->v, l->marks);
+    for (uint32_t r = 0; r < p->mu && !MUTANT(FORMAT_KEEPS_STAMPS); r++)
+        l->stamps[r] = 0;
 }
 
 /* The cluster's valid frame, which is not found if CT has none. */
@@ -922,6 +929,25 @@ static bool frame_copied(const struct view *v, uint32_t region,
     if (MUTANT(OLD_NOT_COPIED) && cluster == written)
         return false;
     return frame_valid(v, region, victim, frame);
+}
+
+/* Where the last stamp of a cluster's region stands. */
+static uint32_t stamp_index(const struct params *p, uint32_t cluster)
+{
+    return MUTANT(ONE_STAMP) ? 0 : region_of(p, cluster);
+}
+
+/* Whether the region of a cluster has no stamp left: a stamp has 32 bits. */
+static bool no_stamp_left(const struct view *v, uint32_t cluster)
+{
+    return v->stamps[stamp_index(&v->p, cluster)]
+        >= UINT32_MAX - MUTANT(STAMP_EARLY);
+}
+
+/* "A host write takes the next": one more than the region's last stamp. */
+static void take_stamp(const struct lent *l, uint32_t cluster)
+{
+    l->stamps[stamp_index(&l->v.p, cluster)]++;
 }
 
 /* Copies one frame of the victim and "CT follows each". */
@@ -1103,6 +1129,7 @@ static struct work write_steps(struct lent *l, uint32_t lba, uint32_t count,
     l->ct[cluster] = (uint16_t)segment;
     l->fst[MUTANT(ONE_OPEN) ? 0 : region_of(p, cluster)] = (uint16_t)segment;
     marks_after_write(l, region_of(p, cluster), &old, &at, &work);
+    take_stamp(l, cluster);
     return work;
 }
 
@@ -1149,7 +1176,7 @@ void model_writes_per_erase(const struct cnftl_params *given,
 
 enum {
     ACCEPTED, BAD_PARAMETER, WRONG_LENGTH, BAD_COUNT, BAD_ADDRESS, WRONG_DATA,
-    TOO_FEW_BLOCKS, NOT_ORDERLY, TOO_FEW_ANSWERS
+    TOO_FEW_BLOCKS, NOT_ORDERLY, TOO_FEW_ANSWERS, NO_STAMP_LEFT
 };
 
 /* The entries of the list of T-05. */
@@ -1228,6 +1255,18 @@ static uint32_t refuse_request(const struct view *v, uint32_t lba,
     return orderly(v) ? ACCEPTED : NOT_ORDERLY;
 }
 
+/* T-07: "9, after 7, when a write's region has no stamp left." */
+static uint32_t refuse_write(const struct view *v, uint32_t lba,
+                             uint32_t count, size_t data_len)
+{
+    uint32_t reply = refuse_request(v, lba, count, data_len);
+
+    if (reply != ACCEPTED
+        && !(reply == NOT_ORDERLY && MUTANT(STAMP_BEFORE_ORDER)))
+        return reply;
+    return no_stamp_left(v, cluster_of(&v->p, lba)) ? NO_STAMP_LEFT : reply;
+}
+
 /* 6: "fewer than mu*gamma+1 blocks are not bad".  "a format reports 0 programs
    and one erase for each block not bad." */
 uint64_t model_format(uint32_t s, uint32_t alpha, uint32_t beta, uint32_t d,
@@ -1238,15 +1277,17 @@ uint64_t model_format(uint32_t s, uint32_t alpha, uint32_t beta, uint32_t d,
                       uint16_t *fst, size_t fst_len,
                       uint8_t *bst, size_t bst_len,
                       uint32_t *wear, size_t wear_len,
-                      uint64_t *marks, size_t marks_len)
+                      uint64_t *marks, size_t marks_len,
+                      uint32_t *stamps, size_t stamps_len)
 {
     struct params p = make_params(s, alpha, beta, d, mu, gamma, c, n);
     struct lengths len = {
-        chip_len, ct_len, bt_len, fst_len, bst_len, wear_len, marks_len
+        chip_len, ct_len, bt_len, fst_len, bst_len, wear_len, marks_len,
+        stamps_len
     };
     struct lent l = {
-        { p, chip, ct, bt, fst, bst, wear, marks },
-        chip, ct, bt, fst, bst, wear, marks
+        { p, chip, ct, bt, fst, bst, wear, marks, stamps },
+        chip, ct, bt, fst, bst, wear, marks, stamps
     };
     uint32_t reply = refuse_board(&p, &len), good;
 
@@ -1274,18 +1315,21 @@ uint64_t model_read(uint32_t s, uint32_t alpha, uint32_t beta, uint32_t d,
                     const uint8_t *bst, size_t bst_len,
                     const uint32_t *wear, size_t wear_len,
                     const uint64_t *marks, size_t marks_len,
+                    const uint32_t *stamps, size_t stamps_len,
                     uint32_t lba, uint32_t count,
                     uint8_t *data, size_t data_len)
 {
     struct params p = make_params(s, alpha, beta, d, mu, gamma, c, n);
     struct lengths len = {
-        chip_len, ct_len, bt_len, fst_len, bst_len, wear_len, marks_len
+        chip_len, ct_len, bt_len, fst_len, bst_len, wear_len, marks_len,
+        stamps_len
     };
-    struct view v = { p, chip, ct, bt, fst, bst, wear, marks };
+    struct view v = { p, chip, ct, bt, fst, bst, wear, marks, stamps };
     uint32_t reply = refuse_board(&p, &len);
 
     if (reply == ACCEPTED)
-        reply = refuse_request(&v, lba, count, data_len);
+        reply = MUTANT(READ_GIVES_9) ? refuse_write(&v, lba, count, data_len)
+                                     : refuse_request(&v, lba, count, data_len);
     if (reply == NOT_ORDERLY && MUTANT(REFUSED_READ_CLEARS))
         memset(data, 255, data_len);
     if (reply != ACCEPTED)
@@ -1303,8 +1347,33 @@ static uint32_t looks_at(const struct view *v, uint32_t lba)
     return looks_for(v, cluster_of(&v->p, lba));
 }
 
+/* The answer of a write that is refused, which changes nothing. */
+static uint64_t refused_write(const struct lent *l, uint32_t reply,
+                              uint32_t lba)
+{
+    if (MUTANT(STAMP_REFUSED) && (reply == WRONG_DATA || reply == NOT_ORDERLY))
+        take_stamp(l, cluster_of(&l->v.p, lba));
+    if (MUTANT(LOOKS_REFUSED) && reply == WRONG_DATA)
+        return answer(reply, 0, 0, looks_at(&l->v, lba));
+    return answer(reply, 0, 0, 0);
+}
+
 /* "A write reports alpha x (frames copied + 1) pages programmed, and 1 erase
    if it reclaimed, else 0."  T-08's looks come as the third count. */
+static uint64_t accepted_write(struct lent *l, uint32_t lba, uint32_t count,
+                               const uint8_t *data)
+{
+    struct work work = write_steps(l, lba, count, data);
+
+    if (MUTANT(PROGRAMS_ALPHA))
+        work.copied = 0;
+    if (MUTANT(ERASE_UNCOUNTED))
+        work.erases = 0;
+    return answer(ACCEPTED, l->v.p.alpha * (work.copied + 1), work.erases,
+                  work.looks);
+}
+
+/* Refuses or makes the steps of a write. */
 uint64_t model_write(uint32_t s, uint32_t alpha, uint32_t beta, uint32_t d,
                      uint32_t mu, uint32_t gamma, uint32_t c, uint32_t n,
                      uint8_t *chip, size_t chip_len,
@@ -1314,33 +1383,26 @@ uint64_t model_write(uint32_t s, uint32_t alpha, uint32_t beta, uint32_t d,
                      uint8_t *bst, size_t bst_len,
                      uint32_t *wear, size_t wear_len,
                      uint64_t *marks, size_t marks_len,
+                     uint32_t *stamps, size_t stamps_len,
                      uint32_t lba, uint32_t count,
                      const uint8_t *data, size_t data_len)
 {
     struct params p = make_params(s, alpha, beta, d, mu, gamma, c, n);
     struct lengths len = {
-        chip_len, ct_len, bt_len, fst_len, bst_len, wear_len, marks_len
+        chip_len, ct_len, bt_len, fst_len, bst_len, wear_len, marks_len,
+        stamps_len
     };
     struct lent l = {
-        { p, chip, ct, bt, fst, bst, wear, marks },
-        chip, ct, bt, fst, bst, wear, marks
+        { p, chip, ct, bt, fst, bst, wear, marks, stamps },
+        chip, ct, bt, fst, bst, wear, marks, stamps
     };
     uint32_t reply = refuse_board(&p, &len);
-    struct work work;
 
     if (reply == ACCEPTED)
-        reply = refuse_request(&l.v, lba, count, data_len);
-    if (reply == WRONG_DATA && MUTANT(LOOKS_REFUSED))
-        return answer(reply, 0, 0, looks_at(&l.v, lba));
+        reply = refuse_write(&l.v, lba, count, data_len);
     if (reply != ACCEPTED)
-        return answer(reply, 0, 0, 0);
-    work = write_steps(&l, lba, count, data);
-    if (MUTANT(PROGRAMS_ALPHA))
-        work.copied = 0;
-    if (MUTANT(ERASE_UNCOUNTED))
-        work.erases = 0;
-    return answer(ACCEPTED, alpha * (work.copied + 1), work.erases,
-                  work.looks);
+        return refused_write(&l, reply, lba);
+    return accepted_write(&l, lba, count, data);
 }
 
 /* T-01: "8, after 2, when the answer list is shorter than the request list".
@@ -1366,9 +1428,24 @@ static bool item_lies(const struct params *p, const uint32_t *item,
     return end <= data_len + MUTANT(QUEUE_ONE_PAST);
 }
 
-/* One item as a single write with its own check of the state.  "An item whose
-   count x s bytes do not lie there gets reply 5, in its turn": it has no
-   data. */
+/* One item as a single write of these bytes, with its own check of the
+   state. */
+static uint64_t write_single(const struct lent *l, const struct lengths *len,
+                             const uint32_t *item, const uint8_t *data,
+                             size_t data_len)
+{
+    const struct params *p = &l->v.p;
+
+    return model_write(p->s, p->alpha, p->beta, p->d, p->mu, p->gamma, p->c,
+                       p->n, l->chip, len->chip, l->ct, len->ct,
+                       l->bt, len->bt, l->fst, len->fst, l->bst, len->bst,
+                       l->wear, len->wear, l->marks, len->marks,
+                       l->stamps, len->stamps,
+                       item[0], item[1], data, data_len);
+}
+
+/* "An item whose count x s bytes do not lie there gets reply 5, in its turn":
+   it has no data. */
 static uint64_t write_item(const struct lent *l, const struct lengths *len,
                            const uint32_t *item, const uint8_t *data,
                            size_t data_len)
@@ -1377,15 +1454,17 @@ static uint64_t write_item(const struct lent *l, const struct lengths *len,
     bool lies = item_lies(p, item, data_len);
     size_t first = lies && item[2] < data_len && !MUTANT(QUEUE_FIRST_ZERO)
                  ? item[2] : 0;
+    size_t given = lies ? (size_t)item[1] * p->s : 0;
+    uint64_t answered;
 
     if (MUTANT(QUEUE_DATA_FIRST) && !lies)
         return answer(WRONG_DATA, 0, 0, 0);
-    return model_write(p->s, p->alpha, p->beta, p->d, p->mu, p->gamma, p->c,
-                       p->n, l->chip, len->chip, l->ct, len->ct,
-                       l->bt, len->bt, l->fst, len->fst, l->bst, len->bst,
-                       l->wear, len->wear, l->marks, len->marks,
-                       item[0], item[1], data + first,
-                       lies ? (size_t)item[1] * p->s : 0);
+    answered = write_single(l, len, item, data + first, given);
+    if (MUTANT(QUEUE_PAST_STAMPS) && answered == NO_STAMP_LEFT) {
+        take_stamp(l, cluster_of(p, item[0]));
+        answered = write_single(l, len, item, data + first, given);
+    }
+    return answered;
 }
 
 /* Keeps the third count of an item that was just written. */
@@ -1434,17 +1513,19 @@ uint64_t model_queue(uint32_t s, uint32_t alpha, uint32_t beta, uint32_t d,
                      uint8_t *bst, size_t bst_len,
                      uint32_t *wear, size_t wear_len,
                      uint64_t *marks, size_t marks_len,
+                     uint32_t *stamps, size_t stamps_len,
                      const uint32_t *requests, size_t requests_len,
                      const uint8_t *data, size_t data_len,
                      uint64_t *answers, size_t answers_len)
 {
     struct params p = make_params(s, alpha, beta, d, mu, gamma, c, n);
     struct lengths len = {
-        chip_len, ct_len, bt_len, fst_len, bst_len, wear_len, marks_len
+        chip_len, ct_len, bt_len, fst_len, bst_len, wear_len, marks_len,
+        stamps_len
     };
     struct lent l = {
-        { p, chip, ct, bt, fst, bst, wear, marks },
-        chip, ct, bt, fst, bst, wear, marks
+        { p, chip, ct, bt, fst, bst, wear, marks, stamps },
+        chip, ct, bt, fst, bst, wear, marks, stamps
     };
     uint32_t reply = refuse_board(&p, &len);
     uint32_t by_lists = refuse_queue(requests_len, answers_len);
@@ -1476,7 +1557,11 @@ static uint32_t refuse_release(const struct view *v, uint32_t cluster)
         return NOT_ORDERLY;
     if (bad_cluster)
         return BAD_ADDRESS;
-    return orderly(v) ? ACCEPTED : NOT_ORDERLY;
+    if (!orderly(v))
+        return NOT_ORDERLY;
+    if (MUTANT(RELEASE_GIVES_9) && no_stamp_left(v, cluster))
+        return NO_STAMP_LEFT;
+    return ACCEPTED;
 }
 
 /* T-03: "its CT entry becomes none .. It reports 0 and 0." */
@@ -1489,13 +1574,15 @@ uint64_t model_release(uint32_t s, uint32_t alpha, uint32_t beta, uint32_t d,
                        const uint8_t *bst, size_t bst_len,
                        const uint32_t *wear, size_t wear_len,
                        uint64_t *marks, size_t marks_len,
+                       uint32_t *stamps, size_t stamps_len,
                        uint32_t cluster)
 {
     struct params p = make_params(s, alpha, beta, d, mu, gamma, c, n);
     struct lengths len = {
-        chip_len, ct_len, bt_len, fst_len, bst_len, wear_len, marks_len
+        chip_len, ct_len, bt_len, fst_len, bst_len, wear_len, marks_len,
+        stamps_len
     };
-    struct view v = { p, chip, ct, bt, fst, bst, wear, marks };
+    struct view v = { p, chip, ct, bt, fst, bst, wear, marks, stamps };
     uint32_t reply = refuse_board(&p, &len);
 
     if (reply == ACCEPTED)
@@ -1511,6 +1598,8 @@ uint64_t model_release(uint32_t s, uint32_t alpha, uint32_t beta, uint32_t d,
         ct[cluster] = NONE;
     if (!MUTANT(RELEASE_KEEPS_MARK))
         work_out_marks(&v, marks);
+    if (MUTANT(RELEASE_TAKES_STAMP))
+        stamps[region_of(&p, cluster)]++;
     return answer(ACCEPTED, 0, MUTANT(RELEASE_COUNTS), 0);
 }
 
@@ -1577,12 +1666,17 @@ static void tell_victim(const struct view *v, uint32_t region, uint32_t *list)
 }
 
 /* "For a write it says whether the frame lies in the open block, opens a named
-   virtual block, or reclaims a named one" */
+   virtual block, or reclaims a named one"; T-12: "T-05's forecast gives 9 ..
+   too", with nothing after it. */
 static void tell_write(const struct view *v, uint32_t cluster, uint32_t *list)
 {
     uint32_t region = region_of(&v->p, cluster), i = 0;
     struct spot open = open_frame(v, region);
 
+    if (no_stamp_left(v, cluster) && !MUTANT(WHY_PAST_STAMPS)) {
+        list[WHY_WRITE] = NO_STAMP_LEFT;
+        return;
+    }
     if (open.found) {
         list[WHY_WRITE] = MUTANT(WHY_OPENS) ? 2 : 1;
         list[WHY_TARGET] = open.virtual_block;
@@ -1599,8 +1693,19 @@ static void tell_write(const struct view *v, uint32_t cluster, uint32_t *list)
     list[WHY_TARGET] = i;
 }
 
+/* The forecast, the frame, and the looks that T-08 counts; frame and looks are
+   told where the forecast is 9 too. */
+static void tell_all(const struct view *v, uint32_t cluster, uint32_t *list)
+{
+    tell_write(v, cluster, list);
+    if (MUTANT(WHY_9_BARE) && no_stamp_left(v, cluster))
+        return;
+    tell_frame(v, cluster, list);
+    list[WHY_LOOKS] = looks_for(v, cluster);
+}
+
 /* T-05: "for one LBA, why it reads so and what a write would do: which reply"
-   and then the rest, and the looks that T-08 counts for both. */
+   and then the rest. */
 uint64_t model_why(uint32_t s, uint32_t alpha, uint32_t beta, uint32_t d,
                    uint32_t mu, uint32_t gamma, uint32_t c, uint32_t n,
                    const uint8_t *chip, size_t chip_len,
@@ -1610,14 +1715,16 @@ uint64_t model_why(uint32_t s, uint32_t alpha, uint32_t beta, uint32_t d,
                    const uint8_t *bst, size_t bst_len,
                    const uint32_t *wear, size_t wear_len,
                    const uint64_t *marks, size_t marks_len,
+                   const uint32_t *stamps, size_t stamps_len,
                    uint32_t lba,
                    uint32_t *list, size_t list_len)
 {
     struct params p = make_params(s, alpha, beta, d, mu, gamma, c, n);
     struct lengths len = {
-        chip_len, ct_len, bt_len, fst_len, bst_len, wear_len, marks_len
+        chip_len, ct_len, bt_len, fst_len, bst_len, wear_len, marks_len,
+        stamps_len
     };
-    struct view v = { p, chip, ct, bt, fst, bst, wear, marks };
+    struct view v = { p, chip, ct, bt, fst, bst, wear, marks, stamps };
     uint32_t reply = refuse_board(&p, &len);
 
     if (reply == ACCEPTED)
@@ -1630,10 +1737,7 @@ uint64_t model_why(uint32_t s, uint32_t alpha, uint32_t beta, uint32_t d,
     list[WHY_REPLY] = reply;
     if (reply == NOT_ORDERLY)
         list[WHY_RULE] = told_rule(&v);
-    if (reply == ACCEPTED) {
-        tell_frame(&v, cluster_of(&p, lba), list);
-        tell_write(&v, cluster_of(&p, lba), list);
-        list[WHY_LOOKS] = looks_for(&v, cluster_of(&p, lba));
-    }
+    if (reply == ACCEPTED)
+        tell_all(&v, cluster_of(&p, lba), list);
     return answer(reply, 0, 0, 0);
 }

@@ -19,6 +19,7 @@
     X(LENGTH_AT_LEAST, "replies: a table too long is accepted")                \
     X(WEAR_LENGTH, "replies: the length of wear is not checked")               \
     X(MARKS_LENGTH, "replies: the length of the marks is not checked")         \
+    X(STAMPS_LENGTH, "replies: the length of the stamps is not checked")       \
     X(COUNT_AFTER_ADDRESS, "replies: 4 checked before 3")                      \
     X(DATA_BEFORE_ADDRESS, "replies: 5 checked before 4")                      \
     X(ORDER_BEFORE_DATA, "replies: 7 checked before 5")                        \
@@ -27,6 +28,10 @@
     X(LAST_SECTOR, "replies: the last sector of the board refused")            \
     X(DATA_AT_LEAST, "replies: data too long accepted")                        \
     X(REFUSED_READ_CLEARS, "replies: a read refused with 7 clears its data")   \
+    X(STAMP_BEFORE_ORDER, "replies: 9 checked before 7")                       \
+    X(STAMP_EARLY, "replies: 9 where one stamp is left")                       \
+    X(READ_GIVES_9, "replies: 9 given to a read")                              \
+    X(RELEASE_GIVES_9, "replies: 9 given to a release")                        \
     /* when a state is orderly */                                              \
     X(BST_VALUE, "orderly: a BST entry above 2 accepted")                      \
     X(NAMED_TWICE, "orderly: a block named twice accepted")                    \
@@ -115,6 +120,11 @@
     X(VICTIM_MARKS_KEPT, "marks: those of a reclaimed block not cleared")      \
     X(FORMAT_KEEPS_MARKS, "marks: a format leaves them")                       \
     X(RELEASE_KEEPS_MARK, "marks: a release leaves its cluster's")             \
+    /* stamps */                                                               \
+    X(ONE_STAMP, "stamps: one last stamp for all regions")                     \
+    X(STAMP_REFUSED, "stamps: a write refused with 5 or 7 takes one")          \
+    X(RELEASE_TAKES_STAMP, "stamps: a release takes one")                      \
+    X(FORMAT_KEEPS_STAMPS, "stamps: a format leaves them")                     \
     /* why */                                                                  \
     X(WHY_RULE_ORDER, "why: too few blocks told before used if named")         \
     X(WHY_MARKS_FIRST, "why: a wrong mark told before a wrong CT entry")       \
@@ -122,6 +132,8 @@
     X(WHY_VICTIM_TIE, "why: the highest victim on a tie")                      \
     X(WHY_OPENS, "why: opens told where the open block has room")              \
     X(WHY_FILLS_4, "why: the list is filled with reply 4 too")                 \
+    X(WHY_PAST_STAMPS, "why: the forecast goes on where no stamp is left")     \
+    X(WHY_9_BARE, "why: no frame told where no stamp is left")                 \
     /* queue */                                                                \
     X(QUEUE_STOPS, "queue: a refused item stops it")                           \
     X(QUEUE_OLD_STATE, "queue: each item with the FST from before it")         \
@@ -136,6 +148,7 @@
     X(QUEUE_SUM_WRAPS, "queue: first + count x s in 32 bits")                  \
     X(QUEUE_ONE_PAST, "queue: a byte past the data part")                      \
     X(QUEUE_FIRST_ZERO, "queue: the bytes from the start of the data")         \
+    X(QUEUE_PAST_STAMPS, "queue: an item accepted where no stamp is left")     \
     /* spare areas looked at */                                                \
     X(LOOKS_UPWARD, "looks: counted from the segment's first frame up")        \
     X(LOOKS_SHORT, "looks: the valid frame is not counted")                    \

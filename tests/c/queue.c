@@ -2,10 +2,10 @@
  * queue.c - compares the queue of write requests as the layer itself has it,
  * a list of structs, with the model.
  *
- * C lends no such list, so the archive of crate queue_test makes one of two requests.
- * Each pair of writes goes to a copy of one board on both sides; then the
- * answers with their third counts, which C gets nowhere else, and every byte of
- * chip and tables, and past their ends, must be equal.
+ * C lends no such list, so the archive of crate queue_test makes one of two
+ * requests.  Each pair of writes goes to a copy of one board on both sides;
+ * then the answers with their third counts, which C gets nowhere else, and
+ * every byte of chip and tables, and past their ends, must be equal.
  *
  *   queue PAIRS SEED [MUTANT]    compare
  *   queue --mutants              list the model's mutants of the third count
@@ -34,15 +34,16 @@ uint64_t cnftl_queue_two(uint32_t s, uint32_t alpha, uint32_t beta, uint32_t d,
                          uint8_t *bst, size_t bst_len,
                          uint32_t *wear, size_t wear_len,
                          uint64_t *marks, size_t marks_len,
+                         uint32_t *stamps, size_t stamps_len,
                          uint32_t lba, uint32_t count, uint32_t first,
                          uint32_t lba2, uint32_t count2, uint32_t first2,
                          const uint8_t *data, size_t data_len,
                          uint64_t *answers, size_t answers_len);
 
-enum { CHIP, CT, BT, FST, BST, WEAR, MARKS, TABLES };
-enum { ROOM = 1 << 16, REPLIES = 9, PLACES = 6, FILLED = 4, MOST_DATA = 200 };
+enum { CHIP, CT, BT, FST, BST, WEAR, MARKS, STAMPS, TABLES };
+enum { ROOM = 1 << 16, REPLIES = 10, PLACES = 6, FILLED = 4, MOST_DATA = 200 };
 
-static const size_t width[TABLES] = { 1, 2, 2, 2, 1, 4, 8 };
+static const size_t width[TABLES] = { 1, 2, 2, 2, 1, 4, 8, 4 };
 /* Both sides' chip and tables: the product's, and the model's. */
 static uint64_t lent[2][TABLES][ROOM / 8];
 static uint8_t data[MOST_DATA];
@@ -69,9 +70,10 @@ static uint32_t below(uint32_t n)
     (uint8_t *)lent[i][CHIP], len[CHIP], (uint16_t *)lent[i][CT], len[CT],     \
     (uint16_t *)lent[i][BT], len[BT], (uint16_t *)lent[i][FST], len[FST],      \
     (uint8_t *)lent[i][BST], len[BST], (uint32_t *)lent[i][WEAR], len[WEAR],   \
-    lent[i][MARKS], len[MARKS]
+    lent[i][MARKS], len[MARKS], (uint32_t *)lent[i][STAMPS], len[STAMPS]
 
-/* A new board of some small size, formatted, and the same on both sides. */
+/* A new board of some small size, formatted, and the same on both sides.  A
+   region has a few stamps left only, at times. */
 static void new_board(void)
 {
     p = (struct cnftl_params){ 16 + below(3), 1 + below(3), 1 + below(3),
@@ -85,10 +87,14 @@ static void new_board(void)
     len[BST] = cnftl_bst_entries(&p);
     len[WEAR] = cnftl_wear_entries(&p);
     len[MARKS] = cnftl_marks_entries(&p);
+    len[STAMPS] = cnftl_stamps_entries(&p);
     assert(len[CHIP] <= ROOM);
     memset(lent[1], 255, sizeof lent[1]);
     memset(lent[1][WEAR], 0, sizeof lent[1][WEAR]);
     assert(cnftl_reply_of(model_format(LENT(1))) == CNFTL_ACCEPTED);
+    for (uint32_t r = 0; r < p.mu; r++)
+        if (below(6) == 0)
+            ((uint32_t *)lent[1][STAMPS])[r] = UINT32_MAX - below(40);
     memcpy(lent[0], lent[1], sizeof lent[0]);
 }
 
@@ -219,6 +225,6 @@ int main(int argc, char **argv)
     printf("  %" PRIu64 " writes looked at two spare areas or more, %" PRIu64
            " at one or more and reclaimed\n", long_looks, reclaim_looks);
     return !(own_seen[0] && own_seen[1] && own_seen[2] && seen[0] && seen[3]
-             && seen[4] && seen[5] && seen[7] && reclaims && long_looks
-             && reclaim_looks);
+             && seen[4] && seen[5] && seen[7] && seen[9] && reclaims
+             && long_looks && reclaim_looks);
 }

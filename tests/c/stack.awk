@@ -2,8 +2,8 @@
 # calls, with the chain; a last line `most N`, or `most unknown` where an instruction moves the stack in a way that is not understood.
 #
 # A function's own part is its return address, what it pushes, the room that it takes, what it may lose to alignment, and the red zone of 128
-# bytes below the stack pointer where it uses that. Functions that are not in the archive are the C library's memory functions, for which
-# `outside` bytes are counted.
+# bytes below the stack pointer where it uses that. A jump by a function's own table of places, as a switch has it, stays in the function.
+# Functions that are not in the archive are the C library's memory functions, for which `outside` bytes are counted.
 
 function hex(s,    n, i) {
     n = 0
@@ -27,7 +27,9 @@ function calls_to(t) {
 /[ \t]and +\$0xf+[0-9a-f]0,%rsp/ { own[name] += 64 }
 /[ \t](sub|add|and|mov|lea) +[^ $].*,%rsp$/ { if ($0 !~ /mov +%rbp,%rsp/ && $0 !~ /lea +-0x[0-9a-f]+\(%rbp\),%rsp/) odd = 1 }
 /-0x[0-9a-f]+\(%rsp/ { red[name] = 128 }
-/[ \t](call|jmp) +\*/ { if ($0 !~ /\(%rip\)/) odd = 1 } # through the table of outside functions, whose relocation names it
+/[ \t]call +\*/ { if ($0 !~ /\(%rip\)/) odd = 1 } # through the table of outside functions, whose relocation names it
+/[ \t]jmp +\*/ { if ($0 !~ /\(%rip\)/ && NR > table + 4) odd = 1 }
+$2 == "R_X86_64_PC32" && index($3, ".rodata." name) == 1 { table = NR } # a switch: the next jump goes to a place of the same function
 /[ \t](call|jmp) .*<[^+>]+>$/ { t = $NF; gsub(/[<>]/, "", t); calls_to(t) }
 /R_X86_64_(PLT32|PC32|GOTPCRELX|REX_GOTPCRELX)/ { t = $NF; sub(/[-+]0x.*/, "", t); sub(/^\.text\./, "", t); if (t !~ /^\./) calls_to(t) }
 

@@ -60,6 +60,7 @@ pub record Long (b₀ : Board) (list₀ : List ℕ) (b : Board) (list : List ℕ
   pub bst : length (b .bst) ≡ length (b₀ .bst)
   pub wear : length (b .wear) ≡ length (b₀ .wear)
   pub marks : length (b .marks) ≡ length (b₀ .marks)
+  pub stamps : length (b .stamps) ≡ length (b₀ .stamps)
   pub answers : length list ≡ length list₀
 
 module _ (p : Params) (ordered : Bool) (requests bytes : List ℕ) (n : ℕ) (b₀ : Board) (answers₀ : List ℕ) where

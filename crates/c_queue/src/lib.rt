@@ -20,16 +20,17 @@ fn turn(
     bst: &mut [u8],
     wear: &mut [u32],
     marks: &mut [u64],
+    stamps: &mut [u32],
     ordered: bool,
     requests: &[u32],
     bytes: &[u8],
     answers: &mut [u64],
     i: usize,
 )
-    requires { ⌜ Ready p ordered (boardOf (now chip) (now ct) (now bt) (now fst) (now bst) (now wear) (now marks)) ⌝ }
+    requires { ⌜ Ready p ordered (boardOf (now chip) (now ct) (now bt) (now fst) (now bst) (now wear) (now marks) (now stamps)) ⌝ }
     requires { ⌜ TurnAsked (now requests) (now answers) i ⌝ }
-    ensures { λ _. ⌜ TurnDone p ordered (entryBoard chip ct bt fst bst wear marks) (now (requests .entry)) (now (bytes .entry)) (now (answers .entry)) i
-        (exitBoard chip ct bt fst bst wear marks) (now (answers .exit)) ⌝ }
+    ensures { λ _. ⌜ TurnDone p ordered (entryBoard chip ct bt fst bst wear marks stamps) (now (requests .entry)) (now (bytes .entry)) (now (answers .entry)) i
+        (exitBoard chip ct bt fst bst wear marks stamps) (now (answers .exit)) ⌝ }
 {
     let a = queue_item::item(
         p,
@@ -40,6 +41,7 @@ fn turn(
         bst,
         wear,
         marks,
+        stamps,
         ordered,
         requests[3 * i],
         requests[3 * i + 1],
@@ -60,15 +62,16 @@ fn turns(
     bst: &mut [u8],
     wear: &mut [u32],
     marks: &mut [u64],
+    stamps: &mut [u32],
     ordered: bool,
     requests: &[u32],
     bytes: &[u8],
     answers: &mut [u64],
     n: usize,
 )
-    requires { ⌜ TurnsAsked p ordered (boardOf (now chip) (now ct) (now bt) (now fst) (now bst) (now wear) (now marks)) (now requests) (now answers) n ⌝ }
-    ensures { λ _. ⌜ (exitBoard chip ct bt fst bst wear marks, now (answers .exit)) ≡ servedFrom packed p (now (bytes .entry)) (take n (itemsOf (now (requests .entry)))) 0
-        (entryBoard chip ct bt fst bst wear marks) (now (answers .entry)) ⌝ }
+    requires { ⌜ TurnsAsked p ordered (boardOf (now chip) (now ct) (now bt) (now fst) (now bst) (now wear) (now marks) (now stamps)) (now requests) (now answers) n ⌝ }
+    ensures { λ _. ⌜ (exitBoard chip ct bt fst bst wear marks stamps, now (answers .exit)) ≡ servedFrom packed p (now (bytes .entry)) (take n (itemsOf (now (requests .entry)))) 0
+        (entryBoard chip ct bt fst bst wear marks stamps) (now (answers .entry)) ⌝ }
 {
     let mut i = 0;
     while i < n {
@@ -81,6 +84,7 @@ fn turns(
             bst,
             wear,
             marks,
+            stamps,
             ordered,
             requests,
             bytes,
@@ -101,11 +105,12 @@ pub fn queue(
     bst: &mut [u8],
     wear: &mut [u32],
     marks: &mut [u64],
+    stamps: &mut [u32],
     requests: &[u32],
     bytes: &[u8],
     answers: &mut [u64],
 ) -> u64
-    ensures { λ word. ⌜ flatOutcome word (now (answers .exit)) (exitBoard chip ct bt fst bst wear marks) ≡ flatCall p (entryBoard chip ct bt fst bst wear marks)
+    ensures { λ word. ⌜ flatOutcome word (now (answers .exit)) (exitBoard chip ct bt fst bst wear marks stamps) ≡ flatCall p (entryBoard chip ct bt fst bst wear marks stamps)
         (now (requests .entry)) (now (bytes .entry)) (now (answers .entry)) ⌝ }
 {
     let h = queue_head::head_flat(
@@ -117,6 +122,7 @@ pub fn queue(
         bst,
         wear,
         marks,
+        stamps,
         requests.len(),
         answers.len(),
     );
@@ -129,6 +135,7 @@ pub fn queue(
         bst,
         wear,
         marks,
+        stamps,
         h.ordered,
         requests,
         bytes,

@@ -19,6 +19,7 @@ fn forecast_numbers(fc: Forecast) -> [u32; 4]
         Forecast::Continues(v, f) => [1, v.0 as u32, f as u32, 0],
         Forecast::Opens(v) => [2, v.0 as u32, 0, 0],
         Forecast::Reclaims(v, n) => [3, v.0 as u32, n as u32, n as u32],
+        Forecast::NoStamp => [9, 0, 0, 0],
     }
 }
 

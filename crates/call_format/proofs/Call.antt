@@ -38,27 +38,32 @@ module _ (p : Params) (b : Board) (e : replyOf p b format ≡ Accepted) where
   unfolding lengthsFit
   wear-length = eqb-true _ _ ((truths _ (given .lengths)) .1 .1 .1 .1 .1 .0)
 
+  stamps-length : length (b .stamps) ≡ p .mu
+  unfolding lengthsFit
+  stamps-length = eqb-true _ _ ((truths _ (given .lengths)) .1 .1 .1 .1 .1 .1 .1 .0)
+
   pub blocks-asked : BlocksAsked p (b .chip) (b .bst) (b .wear)
   blocks-asked = record { fine = lens .fine; chipLength = lens .chipLength ∙ chip-size p; bstLength = lens .bstLength; wearLength = wear-length }
 
   pub few : (k : ℕ) → k ≤ p .N → k < 4294967296
   few k h = omega (arith, h, (sizes p (given .fine)) .blocks)
 
-  -- every block formatted, every entry cleared and every mark gone
-  pub format-done : (r : Reply) → r ≡ replyOf p b format → (chip ct bt fst bst wear marks : List ℕ) (k : ℕ) → ct ≡ replicate (length (b .ct)) none → bt ≡ replicate (length (b .bt)) none
-      → fst ≡ replicate (length (b .fst)) none → marks ≡ replicate (length (b .marks)) 0 → BlocksDone p (b .chip) (b .wear) chip bst wear k
-      → outcome (record { reply = r; programs = 0; erases = k; looks = 0 }) [] [] (boardOf chip ct bt fst bst wear marks) ≡ outcomeOf p b format
+  -- every block formatted, every entry cleared, every mark gone and every last stamp 0
+  pub format-done : (r : Reply) → r ≡ replyOf p b format → (chip ct bt fst bst wear marks stamps : List ℕ) (k : ℕ) → ct ≡ replicate (length (b .ct)) none → bt ≡ replicate (length (b .bt)) none
+      → fst ≡ replicate (length (b .fst)) none → marks ≡ replicate (length (b .marks)) 0 → stamps ≡ replicate (length (b .stamps)) 0 → BlocksDone p (b .chip) (b .wear) chip bst wear k
+      → outcome (record { reply = r; programs = 0; erases = k; looks = 0 }) [] [] (boardOf chip ct bt fst bst wear marks stamps) ≡ outcomeOf p b format
   unfolding answerOf formatted
-  format-done r er chip ct bt fst bst wear marks k ce be fe me d =
+  format-done r er chip ct bt fst bst wear marks stamps k ce be fe me se d =
       let ct-is : ct ≡ replicate (p .C) none = ce ∙ rw (lens .ctLength) in
       let bt-is : bt ≡ replicate (p .mu * p .gamma) none = be ∙ rw (lens .btLength) in
       let fst-is : fst ≡ replicate (p .mu) none = fe ∙ rw (lens .fstLength) in
       let marks-is : marks ≡ marksOf p (formatted p b) = me ∙ rw (marks-fit p b (given .lengths)) (sym (formatted-marks p b e)) in
+      let stamps-is : stamps ≡ replicate (p .mu) 0 = se ∙ rw stamps-length in
       (λ i.
       record {
         answer = record { reply = (er ∙ e) i; programs = sym (format-programs p (b .chip)) i; erases = d .count i; looks = 0 };
         bytes = [];
         answers = [];
-        board = record { chip = d .chipIs i; ct = ct-is i; bt = bt-is i; fst = fst-is i; bst = d .bstIs i; wear = d .wearIs i; marks = marks-is i };
+        board = record { chip = d .chipIs i; ct = ct-is i; bt = bt-is i; fst = fst-is i; bst = d .bstIs i; wear = d .wearIs i; marks = marks-is i; stamps = stamps-is i };
       })
       ∙ sym (format-accepted p b e)

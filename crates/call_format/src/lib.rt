@@ -18,10 +18,11 @@ pub fn format(
     bst: &mut [u8],
     wear: &mut [u32],
     marks: &mut [u64],
+    stamps: &mut [u32],
 ) -> Answer
-    ensures { λ a. ⌜ outcome a [] [] (exitBoard chip ct bt fst bst wear marks) ≡ outcomeOf p (entryBoard chip ct bt fst bst wear marks) format ⌝ }
+    ensures { λ a. ⌜ outcome a [] [] (exitBoard chip ct bt fst bst wear marks stamps) ≡ outcomeOf p (entryBoard chip ct bt fst bst wear marks stamps) format ⌝ }
 {
-    let reply = replies::format_reply(p, chip, ct, bt, fst, bst, wear, marks);
+    let reply = replies::format_reply(p, chip, ct, bt, fst, bst, wear, marks, stamps);
     if rules::number(reply) != 0 {
         return reply_rows::idle(reply);
     }
@@ -29,6 +30,7 @@ pub fn format(
     format_work::clear(bt);
     format_work::clear(fst);
     chip_marks::clear_all(marks);
+    chip_tables::clear_stamps(stamps);
     let k = format_work::format_blocks(p, chip, bst, wear);
     Answer {
         reply,

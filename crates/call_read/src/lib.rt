@@ -18,14 +18,15 @@ pub fn read(
     bst: &[u8],
     wear: &[u32],
     marks: &[u64],
+    stamps: &[u32],
     lba: u32,
     count: u32,
     bytes: &mut [u8],
 ) -> Answer
-    ensures { λ a. ⌜ outcome a (now (bytes .exit)) [] (entryBoard chip ct bt fst bst wear marks) ≡ outcomeOf p (entryBoard chip ct bt fst bst wear marks)
+    ensures { λ a. ⌜ outcome a (now (bytes .exit)) [] (entryBoard chip ct bt fst bst wear marks stamps) ≡ outcomeOf p (entryBoard chip ct bt fst bst wear marks stamps)
         (read (requestOf lba count (now (bytes .entry)))) ⌝ }
 {
-    let reply = replies::access_reply(
+    let reply = replies::read_reply(
         p,
         chip,
         ct,
@@ -34,6 +35,7 @@ pub fn read(
         bst,
         wear,
         marks,
+        stamps,
         lba,
         count,
         bytes.len(),

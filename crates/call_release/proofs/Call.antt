@@ -74,10 +74,10 @@ module _ (p : Params) (b : Board) (c : ℕ) (r : Reply) (e : r ≡ replyOf p b (
           let old = old-is p (b .chip) (b .ct) (b .bt) c release-lookup kept fr u g s w (b .fst) (marksOn p b) in
           (rw er at (h (marksOn p b) marks-are)) ∙ ap (tableOf p) old ∙ sym (released-marks p b c release-is) ∙ sym (release-marks p b c)
 
-      board-is : (ct marks : List ℕ) → ct ≡ set (b .ct) c none → marks ≡ (released p b c) .marks → boardOf (b .chip) ct (b .bt) (b .fst) (b .bst) (b .wear) marks ≡ released p b c
+      board-is : (ct marks : List ℕ) → ct ≡ set (b .ct) c none → marks ≡ (released p b c) .marks → boardOf (b .chip) ct (b .bt) (b .fst) (b .bst) (b .wear) marks (b .stamps) ≡ released p b c
       unfolding released replayChip replayWear
       board-is ct marks x y = rw (y, x)
 
       pub release-done : (ct marks : List ℕ) → ct ≡ set (b .ct) c none → ((k : Marks) → b .marks ≡ tableOf p k → marks ≡ tableOf p (cond kept (putMark k r′ u g false) k))
-          → (a : Answer) → a ≡ answerOf r [] 0 → outcome a [] [] (boardOf (b .chip) ct (b .bt) (b .fst) (b .bst) (b .wear) marks) ≡ outcomeOf p b (release c)
+          → (a : Answer) → a ≡ answerOf r [] 0 → outcome a [] [] (boardOf (b .chip) ct (b .bt) (b .fst) (b .bst) (b .wear) marks (b .stamps)) ≡ outcomeOf p b (release c)
       release-done ct marks x h a y = rw (y, e, release-is, board-is ct marks x (marks-kept marks h)) (sym (release-accepted p b c release-is))

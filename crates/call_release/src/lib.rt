@@ -20,11 +20,12 @@ pub fn release(
     bst: &[u8],
     wear: &[u32],
     marks: &mut [u64],
+    stamps: &mut [u32],
     cluster: u32,
 ) -> Answer
-    ensures { λ a. ⌜ outcome a [] [] (exitBoard chip ct bt fst bst wear marks) ≡ outcomeOf p (entryBoard chip ct bt fst bst wear marks) (release cluster) ⌝ }
+    ensures { λ a. ⌜ outcome a [] [] (exitBoard chip ct bt fst bst wear marks stamps) ≡ outcomeOf p (entryBoard chip ct bt fst bst wear marks stamps) (release cluster) ⌝ }
 {
-    let reply = replies::release_reply(p, chip, ct, bt, fst, bst, wear, marks, cluster);
+    let reply = replies::release_reply(p, chip, ct, bt, fst, bst, wear, marks, stamps, cluster);
     if rules::number(reply) != 0 {
         return reply_rows::idle(reply);
     }

@@ -7,7 +7,7 @@ use Prim.Native.Nat.{_+_, _<_, ℕ}
 use native.Mathlib.Nat.{mod-lt, one-mul}
 use native.Mathlib.Omega.{arith}
 use lib.Dec.{eqb}
-use lib.ListN.{length-replicate, replicate}
+use lib.ListN.{length, length-replicate, replicate}
 use borrow.Author.Tests.{eq-eqb, eqb-false, eqb-true, le-ltb, ne-eqb, not-false, not-true}
 use Rattle.rules.specs.declared.Params.{Params}
 use Rattle.rules.specs.declared.Reply.{Reply}
@@ -16,10 +16,10 @@ use Rattle.rules.specs.Marks.{marksOf}
 use Rattle.rules.specs.Numbers.{clusterOf, regionOf, sectorOf}
 use Rattle.rules.specs.Regions.{looksAt, view}
 use Rattle.rules.specs.Replies.{accessRows, badCount, badParameter, firstRow, isAccepted, lentRows, notOrderly, numberOf, orderRow, replyOf, rowsOf, whyReply, wrongData, wrongLength}
-use Rattle.rules.specs.Requests.{Request, write}
-use Rattle.rules.specs.Tables.{Board, btAt, ctAt, none}
+use Rattle.rules.specs.Requests.{Request, read}
+use Rattle.rules.specs.Tables.{Board, btAt, ctAt, none, stampAt}
 use Rattle.rules.specs.Write.{planOf, planVBlock, reclaims}
-use Rattle.rules.proofs.Admitted.{Admitted, admitted, write-checks}
+use Rattle.rules.proofs.Admitted.{Admitted, admitted, read-checks}
 use Rattle.rules.proofs.Continues.{Makes}
 use Rattle.rules.proofs.RegionFacts.{neat}
 use Rattle.rules.proofs.Sizes.{sizes}
@@ -32,9 +32,9 @@ use Rattle.check_broken.specs.Broken.{brokenRule, ruleNumber}
 use Rattle.read_work.specs.Lookup.{Looked, Lookup, Stands, Within, blockFor, lastFor}
 use Rattle.read_work.proofs.Views.{looks-none}
 use Rattle.read_work.proofs.Requests.{lookup-admitted}
-use Rattle.write_work.proofs.Writes.{plan-asked}
+use Rattle.write_plan.proofs.Asked.{plan-asked}
 use Rattle.call_why.specs.Asked.{ForecastAsked, PlaceAsked}
-use Rattle.call_why.specs.Why.{Small, forecastOf, foundOf, holderOf, planNumbers, whyOf}
+use Rattle.call_why.specs.Why.{Small, forecastIn, forecastOf, foundOf, holderOf, whyOf}
 use Rattle.call_why.proofs.Replies.{Answered, answered, disorder}
 use Rattle.call_why.proofs.Small.{found-small}
 
@@ -57,7 +57,7 @@ module _ (p : Params) (b : Board) (lba : ℕ) (r : Reply) (e : r ≡ whyReply p 
   pub passed : n ≡ 0 → Answered p b lba
   passed z = answered p b lba (sym (ap numberOf e) ∙ sym m ∙ z)
 
--- the sector is one that a write of it would be accepted for, and the marks are the board's
+-- the sector is one that a read of it would be accepted for, and the marks are the board's
 module _ (p : Params) (b : Board) (lba : ℕ) (h : Answered p b lba) where
   pub why-found : (c : ℕ) → c ≡ clusterOf p lba → (ns : List ℕ) → ns ≡ foundOf p b c → ns ≡ whyOf p b lba
   unfolding whyOf isAccepted
@@ -69,7 +69,7 @@ module _ (p : Params) (b : Board) (lba : ℕ) (h : Answered p b lba) where
   request : Request
   request = record { lba = lba; count = 1; bytes = replicate (p .s) 0 }
 
-  accepted : replyOf p b (write request) ≡ Accepted
+  accepted : replyOf p b (read request) ≡ Accepted
   unfolding replyOf rowsOf lentRows accessRows orderRow firstRow badParameter wrongLength badCount wrongData notOrderly request
   accepted =
       rw (
@@ -85,7 +85,7 @@ module _ (p : Params) (b : Board) (lba : ℕ) (h : Answered p b lba) where
       )
 
   adm : Admitted p b request
-  adm = admitted p b request (write-checks p b request accepted)
+  adm = admitted p b request (read-checks p b request accepted)
 
   pub looked : (c : ℕ) → c ≡ clusterOf p lba → Lookup p (b .chip) (b .ct) (b .bt) c
   unfolding request
@@ -101,11 +101,15 @@ module _ (p : Params) (b : Board) (lba : ℕ) (h : Answered p b lba) where
       let mk : Makes p b (regionOf p c) (planOf p (view p b (regionOf p c))) = made (regionOf p c) (mod-lt c (adm .sized .regions)) in
       rw e (found-small p (adm .sized) b (h .ordered) c (rw is (adm .asked .cluster)) (mk .base .ready .mine) (mk .base .ready .low))
 
+  pub stamp-in : (c r : ℕ) → r ≡ regionOf p c → r < length (b .stamps)
+  stamp-in c r e = rw (adm .tables .stampsLength, e) (mod-lt c (adm .sized .regions))
+
   pub asked : (c : ℕ) → c ≡ clusterOf p lba → (r : ℕ) → r ≡ regionOf p c → ForecastAsked p (b .chip) (b .bt) (b .fst) (b .marks) r
   unfolding request planVBlock
   asked c is r e =
       record {
-        plan = plan-asked p b request accepted r (e ∙ ap (regionOf p) is);
+        plan = plan-asked p (adm .sized) (adm .fine) b (adm .tables) r (rw e (mod-lt c (adm .sized .regions)))
+            (neat p r (view p b r) (adm .tidy r (rw e (mod-lt c (adm .sized .regions)))));
         ct = b .ct;
         right = marks-right;
         victim = λ v k. let mk : Makes p b r (reclaims v) = rw (← k) at (made r (rw e (mod-lt c (adm .sized .regions)))) in mk .base .ready .mine;
@@ -113,7 +117,7 @@ module _ (p : Params) (b : Board) (lba : ℕ) (h : Answered p b lba) where
 
 -- ---- the forecast, and where the cluster is
 
-pub forecast-is : (p : Params) (b : Board) (c r : ℕ) → r ≡ regionOf p c → (fc : List ℕ) → fc ≡ planNumbers p (view p b r) (planOf p (view p b r)) → fc ≡ forecastOf p b c
+pub forecast-is : (p : Params) (b : Board) (c r : ℕ) → r ≡ regionOf p c → (fc : List ℕ) → fc ≡ forecastIn p (stampAt (b .stamps) r) (view p b r) → fc ≡ forecastOf p b c
 unfolding forecastOf
 forecast-is p b c r e fc is = rw e at is
 

@@ -24,10 +24,10 @@ plan-is p vw pl e = ap (planNumbers p vw) e
 
 module _ (p : Params) (chip bt fst marks : List ℕ) (r : ℕ) (a : ForecastAsked p chip bt fst marks r) where
   pub marks-long : length marks ≡ marksLength p
-  marks-long = ap length (a .right) ∙ table-length p (marksOn p (boardOf chip (a .ct) bt fst [] [] []))
+  marks-long = ap length (a .right) ∙ table-length p (marksOn p (boardOf chip (a .ct) bt fst [] [] [] []))
 
   pub victim-words : (v : ℕ)
-      → ((ct : List ℕ) → marks ≡ marksOf p (boardOf chip ct bt fst [] [] []) → reclaims v ≡ planOf p (viewOf p chip ct bt fst r)) → WordsAsked p marks r v
+      → ((ct : List ℕ) → marks ≡ marksOf p (boardOf chip ct bt fst [] [] [] []) → reclaims v ≡ planOf p (viewOf p chip ct bt fst r)) → WordsAsked p marks r v
   victim-words v e = record { fine = a .plan .fine; long = marks-long; region = a .plan .low; vblock = a .victim v (e (a .ct) (a .right)) }
 
 pub counted : (p : Params) → allowed p ≡ true → (b : Board) → b .marks ≡ marksOf p b → (r v n : ℕ) → ((m : Marks) → b .marks ≡ tableOf p m → n ≡ countBelow 256 (m r v))

@@ -2,13 +2,13 @@
 -- Assumes nothing.
 use mathlib.Core.Path.{_≡_}
 use mathlib.Core.Logic.{_⊎_, inl, inr}
-use mathlib.Core.Bool.{cond}
+use mathlib.Core.Bool.{Bool, cond, false, true}
 use mathlib.Core.List.{List, [], _++_, _∷_}
 use Prim.Native.Nat.{_<_, ℕ}
 use native.Mathlib.Nat.{mod-lt}
 use native.Mathlib.Decide.{ℕ-discrete}
 use native.Mathlib.Omega.{arith}
-use lib.Dec.{eqb}
+use lib.Dec.{eqb, leb}
 use lib.ListN.{replicate}
 use borrow.Author.Tests.{eq-eqb, ne-eqb}
 use Rattle.rules.specs.declared.Params.{Params}
@@ -17,7 +17,7 @@ use Rattle.rules.specs.Numbers.{regionOf}
 use Rattle.rules.specs.Parameters.{frames}
 use Rattle.rules.specs.Regions.{View, looksAt, view}
 use Rattle.rules.specs.Replies.{numberOf}
-use Rattle.rules.specs.Tables.{Board, ctAt, none}
+use Rattle.rules.specs.Tables.{Board, ctAt, none, stampAt}
 use Rattle.rules.specs.Write.{Plan, continues, opens, planFrame, planOf, planVBlock, reclaims}
 use Rattle.rules.specs.Words.{LooksListed}
 use Rattle.rules.proofs.LooksWords.{looks-exactly}
@@ -28,7 +28,7 @@ use Rattle.check_broken.specs.declared.Rule.the-variants.{BstValues, BtRange, C
 use Rattle.check_broken.specs.Broken.{ruleNumber}
 use Rattle.rules.specs.Replies.{OrderlyBoard}
 use Rattle.call_why.specs.Holder.{holderAt}
-use Rattle.call_why.specs.Why.{Small, forecastOf, foundOf, holderOf, planNumbers}
+use Rattle.call_why.specs.Why.{Small, forecastIn, forecastOf, foundOf, holderOf, planNumbers}
 use Rattle.call_why.proofs.Holder.{holder-true, segment-low, vblock-low}
 
 pub small-append : (xs ys : List ℕ) → Small xs → Small ys → Small (xs ++ ys)
@@ -91,12 +91,15 @@ module _ (p : Params) (z : Sizes p) (b : Board) (h : OrderlyBoard p b) (c : ℕ)
       go (inr w) = omega (arith, w .1 .most, z .betaHigh)
 
   pub found-small : planVBlock (planOf p (view p b (regionOf p c))) < p .gamma → planFrame p (view p b (regionOf p c)) (planOf p (view p b (regionOf p c))) < frames p → Small (foundOf p b c)
-  unfolding foundOf forecastOf
+  unfolding foundOf forecastOf forecastIn
   found-small v f =
       small-append (cond (eqb (ctAt (b .ct) c) none) (replicate 8 0) (0 ∷ 0 ∷ 1 ∷ holderOf p b c)) _ (go (ℕ-discrete (ctAt (b .ct) c) none))
-      (small-append (planNumbers p (view p b (regionOf p c)) (planOf p (view p b (regionOf p c)))) (looksAt p b c ∷ [])
-      (plan-small p _ _ (omega (arith, v, z .gammaHigh)) (omega (arith, f, z .short))) (looks-small, tt))
+      (small-append (forecastOf p b c) (looksAt p b c ∷ []) (either (leb 4294967295 (stampAt (b .stamps) (regionOf p c)))) (looks-small, tt))
     where
+      either : (t : Bool) → Small (cond t (9 ∷ 0 ∷ 0 ∷ 0 ∷ []) (planNumbers p (view p b (regionOf p c)) (planOf p (view p b (regionOf p c)))))
+      either true = (omega arith, (omega arith, (omega arith, (omega arith, tt))))
+      either false = plan-small p _ _ (omega (arith, v, z .gammaHigh)) (omega (arith, f, z .short))
+
       go : Dec (ctAt (b .ct) c ≡ none) → Small (cond (eqb (ctAt (b .ct) c) none) (replicate 8 0) (0 ∷ 0 ∷ 1 ∷ holderOf p b c))
       go (yes e) = rw (eq-eqb (ctAt (b .ct) c) none e) (omega arith)
       go (no e) = rw (ne-eqb (ctAt (b .ct) c) none e) (omega arith, (omega arith, (omega arith, holder-small e)))

@@ -17,7 +17,7 @@ use Rattle.write_plan.specs.Plans.{PlanAsked}
 pub record ForecastAsked (p : Params) (chip bt fst marks : List ℕ) (r : ℕ) : Type 0 where
   pub plan : PlanAsked p chip bt fst r
   pub ct : List ℕ
-  pub right : marks ≡ marksOf p (boardOf chip ct bt fst [] [] [])
+  pub right : marks ≡ marksOf p (boardOf chip ct bt fst [] [] [] [])
   pub victim : (v : ℕ) → reclaims v ≡ planOf p (viewOf p chip ct bt fst r) → v < p .gamma
 
 -- cluster c has an entry in CT, and virtual block v of its region one in BT

@@ -4,26 +4,28 @@
 use mathlib.Core.Bool.{cond}
 use mathlib.Core.List.{List, [], _∷_, _++_}
 use Prim.Native.Nat.{ℕ, _<_}
-use lib.Dec.{eqb}
+use lib.Dec.{eqb, leb}
 use lib.ListN.{length, replicate}
 use Rattle.rules.specs.declared.Params.{Params}
 use Rattle.rules.specs.Numbers.{clusterOf, placeOf, regionOf, vblockOf}
 use Rattle.rules.specs.Pages.{block, lastIn}
 use Rattle.rules.specs.Regions.{View, looksAt, validFrames, view}
 use Rattle.rules.specs.Replies.{isAccepted, numberOf, whyReply}
-use Rattle.rules.specs.Tables.{Board, btAt, ctAt, none}
+use Rattle.rules.specs.Tables.{Board, btAt, ctAt, none, stampAt}
 use Rattle.rules.specs.Write.{Plan, continues, opens, planOf, reclaims}
 use Rattle.check_broken.specs.Broken.{brokenRule, ruleNumber}
 use Rattle.call_why.specs.declared.Forecast.{Forecast}
-use Rattle.call_why.specs.declared.Forecast.the-variants.{Continues, Opens, Reclaims}
+use Rattle.call_why.specs.declared.Forecast.the-variants.{Continues, NoStamp, Opens, Reclaims}
 use Rattle.call_why.specs.declared.Place.{Place}
 use Rattle.call_why.specs.declared.Why.{Why}
 use Rattle.call_why.specs.declared.Why.the-variants.{Refused, Disordered, Empty, Held}
 
 -- ---- the answer's numbers: reply, rule, held, region, segment, virtual block, physical block, frame; then the forecast's four; then the spare areas looked at
 
--- 1, 2 or 3 for a write that continues, opens or reclaims; its virtual block; the frame that it takes; the valid frames that it copies
+-- 1, 2 or 3 for a write that continues, opens or reclaims; its virtual block; the frame that it takes; the valid frames that it copies. For one that is refused
+-- the number of its reply
 unfoldable pub forecastNumbers : Forecast → List ℕ
+forecastNumbers NoStamp = 9 ∷ 0 ∷ 0 ∷ 0 ∷ []
 forecastNumbers (Continues v f) = 1 ∷ v .0 ∷ f ∷ 0 ∷ []
 forecastNumbers (Opens v) = 2 ∷ v .0 ∷ 0 ∷ 0 ∷ []
 forecastNumbers (Reclaims v n) = 3 ∷ v .0 ∷ n ∷ n ∷ []
@@ -58,10 +60,12 @@ planNumbers p vw (continues v f) = 1 ∷ v ∷ f ∷ 0 ∷ []
 planNumbers p vw (opens v) = 2 ∷ v ∷ 0 ∷ 0 ∷ []
 planNumbers p vw (reclaims v) = 3 ∷ v ∷ length (validFrames p vw v) ∷ length (validFrames p vw v) ∷ []
 
+-- "T-05's forecast gives 9 .. too": by the region's last stamp and its view
+unfoldable pub forecastIn : Params → ℕ → View → List ℕ
+forecastIn p t vw = cond (leb 4294967295 t) (9 ∷ 0 ∷ 0 ∷ 0 ∷ []) (planNumbers p vw (planOf p vw))
+
 unfoldable pub forecastOf : Params → Board → ℕ → List ℕ
-forecastOf p b c =
-    let vw = view p b (regionOf p c) in
-    planNumbers p vw (planOf p vw)
+forecastOf p b c = forecastIn p (stampAt (b .stamps) (regionOf p c)) (view p b (regionOf p c))
 
 -- of an orderly board: no frame is held, or one is; the forecast; and T-08's count of a read or a write of the cluster
 unfoldable pub foundOf : Params → Board → ℕ → List ℕ

@@ -2,15 +2,16 @@
 ghost use mathlib.Core.Path.{_≡_};
 ghost use mathlib.Core.Bool.{true};
 ghost use mathlib.Core.List.{List, []};
-ghost use Prim.Native.Nat.{ℕ};
+ghost use Prim.Native.Nat.{ℕ, _<_};
+ghost use lib.ListN.{length};
 ghost use Rattle.rules.specs.Regions.{viewOf};
-ghost use Rattle.rules.specs.Tables.{boardOf};
+ghost use Rattle.rules.specs.Tables.{boardOf, stampAt};
 ghost use Rattle.rules.specs.Lent.{entryBoard};
 ghost use Rattle.rules.specs.Write.{planOf};
 ghost use Rattle.rules.specs.Marks.{marksOf};
 ghost use Rattle.read_work.specs.Lookup.{Within};
 ghost use Rattle.call_why.specs.Asked.{ForecastAsked, PlaceAsked};
-ghost use Rattle.call_why.specs.Why.{Small, forecastNumbers, holderOf, numbersOf, placeNumbers, planNumbers, whyOf};
+ghost use Rattle.call_why.specs.Why.{Small, forecastIn, forecastNumbers, holderOf, numbersOf, placeNumbers, planNumbers, whyOf};
 use check_broken::Rule;
 use read_work::Found;
 use rules::Cluster;
@@ -30,11 +31,13 @@ pub struct Place {
     pub frame: usize,
 }
 
-// What a write would do: take this frame of the open virtual block; open a virtual block; reclaim one that has so many valid frames.
+// What a write would do: take this frame of the open virtual block; open a virtual block; reclaim one that has so many valid frames; or be refused, as its region
+// has no stamp left.
 pub enum Forecast {
     Continues(VBlock, usize),
     Opens(VBlock),
     Reclaims(VBlock, usize),
+    NoStamp,
 }
 
 // Why a sector reads so: the call is refused, or the state or its marks are not in order, by the first broken rule; or no frame is held, or one is held there,
@@ -46,10 +49,10 @@ pub enum Why {
     Held(Place, Forecast, u32),
 }
 
-// What a write to region r would do, on a state that is known to be orderly: where it reclaims, the marks of the virtual block are counted.
-fn forecast_of(p: Params, chip: &[u8], bt: &[u16], fst: &[u16], marks: &[u64], r: usize) -> Forecast
+// What the plan of a write to region r is, on a state that is known to be orderly: where it reclaims, the marks of the virtual block are counted.
+fn planned(p: Params, chip: &[u8], bt: &[u16], fst: &[u16], marks: &[u64], r: usize) -> Forecast
     requires { ⌜ ForecastAsked p (now chip) (now bt) (now fst) (now marks) r ⌝ }
-    ensures { λ fc. ⌜ ((ct : List ℕ) → now (marks .entry) ≡ marksOf p (boardOf (now (chip .entry)) ct (now (bt .entry)) (now (fst .entry)) [] [] [])
+    ensures { λ fc. ⌜ ((ct : List ℕ) → now (marks .entry) ≡ marksOf p (boardOf (now (chip .entry)) ct (now (bt .entry)) (now (fst .entry)) [] [] [] [])
         → forecastNumbers fc ≡ planNumbers p (viewOf p (now (chip .entry)) ct (now (bt .entry)) (now (fst .entry)) r)
         (planOf p (viewOf p (now (chip .entry)) ct (now (bt .entry)) (now (fst .entry)) r))) ⌝ }
 {
@@ -60,11 +63,32 @@ fn forecast_of(p: Params, chip: &[u8], bt: &[u16], fst: &[u16], marks: &[u64], r
     }
 }
 
+// What a write to region r would do, on such a state: its plan, if the region has a stamp left.
+fn forecast_of(
+    p: Params,
+    chip: &[u8],
+    bt: &[u16],
+    fst: &[u16],
+    marks: &[u64],
+    stamps: &[u32],
+    r: usize,
+) -> Forecast
+    requires { ⌜ ForecastAsked p (now chip) (now bt) (now fst) (now marks) r ⌝ }
+    requires { ⌜ r < length (now stamps) ⌝ }
+    ensures { λ fc. ⌜ ((ct : List ℕ) → now (marks .entry) ≡ marksOf p (boardOf (now (chip .entry)) ct (now (bt .entry)) (now (fst .entry)) [] [] [] [])
+        → forecastNumbers fc ≡ forecastIn p (stampAt (now (stamps .entry)) r) (viewOf p (now (chip .entry)) ct (now (bt .entry)) (now (fst .entry)) r)) ⌝ }
+{
+    if chip_tables::stamp_at(stamps, r) == rules::LAST_STAMP {
+        return Forecast::NoStamp;
+    }
+    planned(p, chip, bt, fst, marks, r)
+}
+
 // The place of cluster c, which the lookup found there.
 fn place_at(p: Params, ct: &[u16], bt: &[u16], c: Cluster, at: Found) -> Place
     requires { ⌜ PlaceAsked p (now ct) (now bt) (c .0) (at .vblock .0) ⌝ }
-    ensures { λ pl. ⌜ ((chip fst bst wear marks : List ℕ) → at .kept ≡ true → Within p chip (now (ct .entry)) (now (bt .entry)) (c .0) (at .kept) (at .vblock .0) (at .inner)
-        → placeNumbers pl ≡ holderOf p (boardOf chip (now (ct .entry)) (now (bt .entry)) fst bst wear marks) (c .0)) ⌝ }
+    ensures { λ pl. ⌜ ((chip fst bst wear marks stamps : List ℕ) → at .kept ≡ true → Within p chip (now (ct .entry)) (now (bt .entry)) (c .0) (at .kept) (at .vblock .0) (at .inner)
+        → placeNumbers pl ≡ holderOf p (boardOf chip (now (ct .entry)) (now (bt .entry)) fst bst wear marks stamps) (c .0)) ⌝ }
 {
     let r = rules::region_of(p, c);
     let v = at.vblock;
@@ -87,12 +111,13 @@ pub fn explain(
     bst: &[u8],
     wear: &[u32],
     marks: &[u64],
+    stamps: &[u32],
     lba: u32,
 ) -> Why
-    ensures { λ w. ⌜ numbersOf w ≡ whyOf p (entryBoard chip ct bt fst bst wear marks) lba ⌝ }
+    ensures { λ w. ⌜ numbersOf w ≡ whyOf p (entryBoard chip ct bt fst bst wear marks stamps) lba ⌝ }
     ensures { λ w. ⌜ Small (numbersOf w) ⌝ }
 {
-    let reply = replies::why_reply(p, chip, ct, bt, fst, bst, wear, marks, lba);
+    let reply = replies::why_reply(p, chip, ct, bt, fst, bst, wear, marks, stamps, lba);
     let n = rules::number(reply);
     if n == 7 {
         return Why::Disordered(check_broken::broken_rule(p, chip, ct, bt, fst, bst));
@@ -101,7 +126,7 @@ pub fn explain(
         return Why::Refused(reply);
     }
     let c = rules::cluster_of(p, lba as usize);
-    let fc = forecast_of(p, chip, bt, fst, marks, rules::region_of(p, c));
+    let fc = forecast_of(p, chip, bt, fst, marks, stamps, rules::region_of(p, c));
     let at = read_work::find_frame(p, chip, ct, bt, c);
     if !at.kept {
         return Why::Empty(fc);

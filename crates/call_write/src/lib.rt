@@ -18,14 +18,15 @@ pub fn write(
     bst: &mut [u8],
     wear: &mut [u32],
     marks: &mut [u64],
+    stamps: &mut [u32],
     lba: u32,
     count: u32,
     bytes: &[u8],
 ) -> Answer
-    ensures { λ a. ⌜ outcome a (now (bytes .entry)) [] (exitBoard chip ct bt fst bst wear marks) ≡ outcomeOf p (entryBoard chip ct bt fst bst wear marks)
+    ensures { λ a. ⌜ outcome a (now (bytes .entry)) [] (exitBoard chip ct bt fst bst wear marks stamps) ≡ outcomeOf p (entryBoard chip ct bt fst bst wear marks stamps)
         (write (requestOf lba count (now (bytes .entry)))) ⌝ }
 {
-    let reply = replies::access_reply(
+    let reply = replies::write_reply(
         p,
         chip,
         ct,
@@ -34,6 +35,7 @@ pub fn write(
         bst,
         wear,
         marks,
+        stamps,
         lba,
         count,
         bytes.len(),
@@ -50,6 +52,7 @@ pub fn write(
         bst,
         wear,
         marks,
+        stamps,
         lba as usize,
         count as usize,
         bytes,

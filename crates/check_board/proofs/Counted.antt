@@ -193,9 +193,9 @@ module _ (p : Params) (b : Board) (l : Lengths p (b .chip) (b .ct) (b .bt) (b .f
 -- ---- the check
 
 module _ (p : Params) (chip ct bt fst bst marks : List ℕ) (l : Lengths p chip ct bt fst bst) (long : length marks ≡ marksLength p)
-    (small : (k : ℕ) → k < marksLength p → wordAt marks k < 2 ^ 64) (wear : List ℕ) where
+    (small : (k : ℕ) → k < marksLength p → wordAt marks k < 2 ^ 64) (wear stamps : List ℕ) where
   abbrev board : Board
-  board = boardOf chip ct bt fst bst wear marks
+  board = boardOf chip ct bt fst bst wear marks stamps
 
   z′ : Sizes p
   z′ = sizes p (l .fine)
@@ -209,7 +209,7 @@ module _ (p : Params) (chip ct bt fst bst marks : List ℕ) (l : Lengths p chip 
   unfolding orderOk
   passes h =
       orderly-is p board ∙ and-intro
-      (sym (check-agrees p chip ct bt fst bst l wear marks) ∙ and-intro k (unfold chipOk in and-intro free (all-below-intro (p .mu) _ region)))
+      (sym (check-agrees p chip ct bt fst bst l wear marks stamps) ∙ and-intro k (unfold chipOk in and-intro free (all-below-intro (p .mu) _ region)))
       (rule-of p board (marks-right p board l long k block sub few small))
     where
       k : tablesOk p bt bst ≡ true
@@ -260,7 +260,7 @@ module _ (p : Params) (chip ct bt fst bst marks : List ℕ) (l : Lengths p chip 
       (counts-are ∙ eq-eqb (countBelow (p .C) (named ct)) (countBelow (64 * marksLength p) (bitAt marks)) (omega (arith, no-more p board l long k block o, no-fewer p board l long k block o)))))
     where
       both : tablesOk p bt bst && chipOk p chip ct bt fst bst ≡ true
-      both = check-agrees p chip ct bt fst bst l wear marks ∙ and-left (nineRules p board) _ (sym (orderly-is p board) ∙ o)
+      both = check-agrees p chip ct bt fst bst l wear marks stamps ∙ and-left (nineRules p board) _ (sym (orderly-is p board) ∙ o)
 
       k : tablesOk p bt bst ≡ true
       k = and-left (tablesOk p bt bst) _ both

@@ -195,7 +195,7 @@ pub fn in_order(
 ) -> bool
     requires { ⌜ Lengths p (now chip) (now ct) (now bt) (now fst) (now bst) ⌝ }
     requires { ⌜ length (now marks) ≡ marksLength p ⌝ }
-    ensures { λ ok. ⌜ ((wear : List ℕ) → ok ≡ orderly p (boardOf (now (chip .entry)) (now (ct .entry)) (now (bt .entry)) (now (fst .entry)) (now (bst .entry)) wear (now (marks .entry)))) ⌝ }
+    ensures { λ ok. ⌜ ((wear stamps : List ℕ) → ok ≡ orderly p (boardOf (now (chip .entry)) (now (ct .entry)) (now (bt .entry)) (now (fst .entry)) (now (bst .entry)) wear (now (marks .entry)) stamps)) ⌝ }
 {
     if !check_blocks::tables_ok(p, bt, bst) {
         return false;

@@ -95,7 +95,7 @@ fn blocks_ok(p: Params, chip: &[u8], bt: &[u16]) -> bool
 // The last, that of the marks, needs no look: where the nine others hold it is the one.
 pub fn broken_rule(p: Params, chip: &[u8], ct: &[u16], bt: &[u16], fst: &[u16], bst: &[u8]) -> Rule
     requires { ⌜ Lengths p (now chip) (now ct) (now bt) (now fst) (now bst) ⌝ }
-    ensures { λ k. ⌜ ((wear marks : List ℕ) → k ≡ brokenRule p (boardOf (now (chip .entry)) (now (ct .entry)) (now (bt .entry)) (now (fst .entry)) (now (bst .entry)) wear marks)) ⌝ }
+    ensures { λ k. ⌜ ((wear marks stamps : List ℕ) → k ≡ brokenRule p (boardOf (now (chip .entry)) (now (ct .entry)) (now (bt .entry)) (now (fst .entry)) (now (bst .entry)) wear marks stamps)) ⌝ }
 {
     if !check_tables::bst_ok(p, bst) {
         return Rule::BstValues;

@@ -235,6 +235,7 @@ module _ (p : Params) (b : Board) (fine : Sizes p) (len : lengthsFit p b ≡ tru
           fstLength = eqb-true _ _ ((truths _ len) .1 .1 .1 .0);
           bstLength = eqb-true _ _ ((truths _ len) .1 .1 .1 .1 .0);
           wearLength = eqb-true _ _ ((truths _ len) .1 .1 .1 .1 .1 .0);
+          stampsLength = eqb-true _ _ ((truths _ len) .1 .1 .1 .1 .1 .1 .1 .0);
           kinds = λ n h. leb-true _ _ (all-at (p .N) _ k₀ n h);
           names = entries;
           once = once;
@@ -301,27 +302,28 @@ pub marks-fit : (p : Params) (b : Board) → lengthsFit p b ≡ true → length 
 unfolding lengthsFit
 marks-fit p b l = eqb-true _ _ ((truths _ l) .1 .1 .1 .1 .1 .1 .0)
 
-lengths-out : (p : Params) (chip ct bt fst bst marks : List ℕ) → Lengths p chip ct bt fst bst → length marks ≡ marksLength p → lengthsFit p (boardOf chip ct bt fst bst bst marks) ≡ true
+lengths-out : (p : Params) (chip ct bt fst bst marks stamps : List ℕ) → Lengths p chip ct bt fst bst → length marks ≡ marksLength p → length stamps ≡ p .mu
+    → lengthsFit p (boardOf chip ct bt fst bst bst marks stamps) ≡ true
 unfolding lengthsFit
-lengths-out p chip ct bt fst bst marks z m =
+lengths-out p chip ct bt fst bst marks stamps z m t =
     all-true _ (
       eq-eqb _ _ (z .chipLength),
       (
         eq-eqb _ _ (z .ctLength),
-        (eq-eqb _ _ (z .btLength), (eq-eqb _ _ (z .fstLength), (eq-eqb _ _ (z .bstLength), (eq-eqb _ _ (z .bstLength), (eq-eqb _ _ m, tt))))),
+        (eq-eqb _ _ (z .btLength), (eq-eqb _ _ (z .fstLength), (eq-eqb _ _ (z .bstLength), (eq-eqb _ _ (z .bstLength), (eq-eqb _ _ m, (eq-eqb _ _ t, tt)))))),
       ),
     )
 
--- the nine rules look at no wear and at no mark
-nine-same : (p : Params) (chip ct bt fst bst w w′ m m′ : List ℕ) → nineRules p (boardOf chip ct bt fst bst w m) ≡ nineRules p (boardOf chip ct bt fst bst w′ m′)
+-- the nine rules look at no wear, at no mark and at no stamp
+nine-same : (p : Params) (chip ct bt fst bst w w′ m m′ s s′ : List ℕ) → nineRules p (boardOf chip ct bt fst bst w m s) ≡ nineRules p (boardOf chip ct bt fst bst w′ m′ s′)
 unfolding nineRules rulesOf blocksRule fstRule ctRule
-nine-same p chip ct bt fst bst w w′ m m′ = refl
+nine-same p chip ct bt fst bst w w′ m m′ s s′ = refl
 
 -- the tables' rules, then the chip's, are the nine rules: where the marks are the board's own, those make an orderly state
-pub check-agrees : (p : Params) (chip ct bt fst bst : List ℕ) → Lengths p chip ct bt fst bst → (wear marks : List ℕ)
-    → tablesOk p bt bst && chipOk p chip ct bt fst bst ≡ nineRules p (boardOf chip ct bt fst bst wear marks)
-check-agrees p chip ct bt fst bst z wear marks =
-    let own = marksOf p (boardOf chip ct bt fst bst [] []) in
-    let b = boardOf chip ct bt fst bst bst own in
-    agree p b (sizes p (z .fine)) (lengths-out p chip ct bt fst bst own z (table-length p _)) refl ∙ orderly-is p b ∙ rw (rule-of p b refl, and-true)
-    (nine-same p chip ct bt fst bst bst wear own marks)
+pub check-agrees : (p : Params) (chip ct bt fst bst : List ℕ) → Lengths p chip ct bt fst bst → (wear marks stamps : List ℕ)
+    → tablesOk p bt bst && chipOk p chip ct bt fst bst ≡ nineRules p (boardOf chip ct bt fst bst wear marks stamps)
+check-agrees p chip ct bt fst bst z wear marks stamps =
+    let own = marksOf p (boardOf chip ct bt fst bst [] [] []) in
+    let b = boardOf chip ct bt fst bst bst own fst in
+    agree p b (sizes p (z .fine)) (lengths-out p chip ct bt fst bst own fst z (table-length p _) (z .fstLength)) refl ∙ orderly-is p b ∙ rw (rule-of p b refl, and-true)
+    (nine-same p chip ct bt fst bst bst wear own marks fst stamps)

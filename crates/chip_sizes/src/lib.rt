@@ -108,10 +108,11 @@ pub fn lengths_fit(
     bst: usize,
     wear: usize,
     marks: usize,
+    stamps: usize,
 ) -> bool
     requires { ⌜ allowed p ≡ true ⌝ }
     ensures { λ ok. ⌜ ((b : Board) → length (b .chip) ≡ chip → length (b .ct) ≡ ct → length (b .bt) ≡ bt → length (b .fst) ≡ fst → length (b .bst) ≡ bst
-        → length (b .wear) ≡ wear → length (b .marks) ≡ marks → ok ≡ lengthsFit p b) ⌝ }
+        → length (b .wear) ≡ wear → length (b .marks) ≡ marks → length (b .stamps) ≡ stamps → ok ≡ lengthsFit p b) ⌝ }
 {
     let w = block_bytes(p);
     let all = p.N * w;
@@ -123,4 +124,5 @@ pub fn lengths_fit(
         & (bst == p.N)
         & (wear == p.N)
         & (marks == 4 * named)
+        & (stamps == p.mu)
 }

@@ -3,9 +3,9 @@ ghost use mathlib.Core.Path.{_≡_};
 ghost use mathlib.Core.Bool.{not};
 ghost use Prim.Native.Nat.{_*_, _+_, _<_, min};
 ghost use lib.Dec.{eqb};
-ghost use lib.ListN.{getD, length, set};
+ghost use lib.ListN.{getD, length, replicate, set};
 ghost use Rattle.lists.specs.Below.{countBelow};
-ghost use Rattle.rules.specs.Tables.{none, ctAt, btEntry, btAt, fstAt, bstAt, wearAt};
+ghost use Rattle.rules.specs.Tables.{none, ctAt, btEntry, btAt, fstAt, bstAt, wearAt, stampAt};
 use rules::Cluster;
 use rules::PBlock;
 use rules::Params;
@@ -93,6 +93,14 @@ pub fn wear_at(wear: &[u32], n: PBlock) -> u32
     wear[i]
 }
 
+// The last stamp of a region.
+pub fn stamp_at(stamps: &[u32], r: usize) -> u32
+    requires { ⌜ r < length (now stamps) ⌝ }
+    ensures { λ t. ⌜ t ≡ stampAt (now (stamps .entry)) r ⌝ }
+{
+    stamps[r]
+}
+
 // CT names this segment for the cluster.
 pub fn set_ct(ct: &mut [u16], c: Cluster, sg: Segment)
     requires { ⌜ c .0 < length (now ct) ⌝ }
@@ -150,4 +158,27 @@ pub fn count_erase(wear: &mut [u32], n: PBlock)
 {
     let i = n.0;
     wear[i] = worn(wear[i]);
+}
+
+// The next stamp of a region, which then is its last.
+pub fn take_stamp(stamps: &mut [u32], r: usize) -> u32
+    requires { ⌜ r < length (now stamps) ⌝ }
+    requires { ⌜ stampAt (now stamps) r < 4294967295 ⌝ }
+    ensures { λ t. ⌜ t ≡ stampAt (now (stamps .entry)) r + 1 ⌝ }
+    ensures { λ _. ⌜ now (stamps .exit) ≡ set (now (stamps .entry)) r (stampAt (now (stamps .entry)) r + 1) ⌝ }
+{
+    let t = stamps[r] + 1;
+    stamps[r] = t;
+    t
+}
+
+// Every region's last stamp becomes 0.
+pub fn clear_stamps(stamps: &mut [u32])
+    ensures { λ _. ⌜ now (stamps .exit) ≡ replicate (length (now (stamps .entry))) 0 ⌝ }
+{
+    let mut r = 0;
+    while r < stamps.len() {
+        stamps[r] = 0;
+        r += 1;
+    }
 }

@@ -23,7 +23,7 @@ use Rattle.rules.specs.Calls.{Work, answerOf, answersIn, outcomeOf, over, workO
 use Rattle.rules.proofs.Admitted.{admitted, release-admitted, write-checks}
 use Rattle.rules.proofs.Continues.{Makes}
 use Rattle.rules.proofs.FormatCounts.{format-counts}
-use Rattle.rules.proofs.Outcomes.{all-answer, all-bytes, all-lent, call-refused, is-refused, queue-accepted, read-accepted, release-accepted, reply-cases, reply-is, write-accepted}
+use Rattle.rules.proofs.Outcomes.{format-accepted, all-answer, all-bytes, all-lent, call-refused, is-refused, queue-accepted, read-accepted, release-accepted, reply-cases, reply-is, write-accepted}
 use Rattle.rules.proofs.RegionFacts.{neat}
 use Rattle.rules.proofs.Releases.{entry-none, release-same}
 use Rattle.rules.proofs.Sizes.{Sizes, sizes}
@@ -37,6 +37,7 @@ use Rattle.claims.proofs.Kept.{accepted-orderly, after-orderly}
 use Rattle.claims.proofs.Memory.{freed, read-agrees, stored}
 use Rattle.claims.proofs.Freed.{none-copied}
 use Rattle.claims.proofs.ReplyTable.{reply-by-table}
+use Rattle.claims.proofs.Stamps.{format-stamp, write-stamps}
 use Rattle.claims.proofs.Singles.{Single}
 use Rattle.claims.proofs.Steps.{its-part, partOf}
 
@@ -94,12 +95,20 @@ write-writes p b q e =
       most = w .bounded .0;
       erases = w .erases;
       looks = refl;
+      stamps = write-stamps p b q (a .tables .stampsLength);
     })
 
 -- ---- the others
 
 format-formats : (p : Params) (b : Board) → replyOf p b format ≡ Accepted → Formats p b (outcomeOf p b format)
-format-formats p b e = let k = format-counts p b e in record { programs = ap (λ (a : Answer). a .programs) k; erases = ap (λ (a : Answer). a .erases) k; looks = ap (λ (a : Answer). a .looks) k }
+format-formats p b e =
+    let k = format-counts p b e in
+    record {
+      programs = ap (λ (a : Answer). a .programs) k;
+      erases = ap (λ (a : Answer). a .erases) k;
+      looks = ap (λ (a : Answer). a .looks) k;
+      stamps = λ r h. rw (format-accepted p b e) (format-stamp p b r);
+    }
 
 read-reads : (p : Params) (b : Board) (q : Request) → replyOf p b (read q) ≡ Accepted → Reads p b q (outcomeOf p b (read q))
 unfolding answerOf programsIn erasesIn
@@ -115,6 +124,7 @@ release-frees p b c e =
       reads = freed p b c;
       room = λ v. none-copied p (released p b c) (a .fine) c gone (regionOf p c) v;
       entry = gone;
+      stamps = unfold released in refl;
       already = λ n. release-same p b c (marks-in p b (a .lengths) (a .tidy)) n;
       counts = (refl, refl, refl);
     })

@@ -1,4 +1,4 @@
--- Condition 3: after a format every board shows a region the same, so the region's machine gives the same for the same requests.
+-- Condition 3: after a format every board shows a region the same and its last stamp is 0, so the region's machine gives the same for the same requests.
 -- Assumes nothing.
 use mathlib.Core.Path.{_≡_, refl, sym, ap, _∙_}
 use Prim.Native.Nat.{ℕ, _+_, _*_, _<_}
@@ -23,8 +23,9 @@ use Rattle.marks.proofs.Tables.{region-word}
 use Rattle.claims.specs.Runs.{Told, boardAfter, leaves, noFormat, partsOf, partsTo, requestsTo, toRegion, toldTo}
 use Rattle.claims.specs.Conditions.{Condition3}
 use Rattle.claims.proofs.Kept.{accepted-orderly, after-orderly}
-use Rattle.claims.proofs.RegionMachine.{Gives, run-gives, viewAnswers, viewRun}
+use Rattle.claims.proofs.RegionMachine.{Gives, State, run-gives, stateAnswers, stateOf, stateRun}
 use Rattle.claims.proofs.Singles.{all-single, board-same, no-format, parts-same, singlesOf}
+use Rattle.claims.proofs.Stamps.{format-stamp}
 use Rattle.claims.proofs.Steps.{format-leaves, partOf, parts-step}
 
 -- ---- a region after a format
@@ -32,6 +33,9 @@ use Rattle.claims.proofs.Steps.{format-leaves, partOf, parts-step}
 -- no CT entry, no FST entry, no block
 bare : View
 bare = record { segOf = λ c. none; lastSeg = none; body = λ v. [] }
+
+fresh : State
+fresh = record { vw = bare; stamp = 0 }
 
 all-none : (n i : ℕ) → getD (replicate n none) i none ≡ none
 all-none n i = go (decLt i n)
@@ -50,14 +54,18 @@ format-view p b r =
     view-path (λ c. rw (all-none (p .C) c) (either (eqb (regionOf p c) r) none)) (all-none (p .mu) r)
     (λ v. rw (all-none (p .mu * p .gamma) (r * p .gamma + v)) (either (ltb v (p .gamma)) []))
 
+format-state : (p : Params) (b : Board) (r : ℕ) → stateOf p (formatted p b) r ≡ fresh
+unfolding fresh
+format-state p b r = λ i. record { vw = format-view p b r i; stamp = format-stamp p b r i }
+
 -- ---- a run from a format on
 
 module _ (p : Params) (b : Board) (e : replyOf p b format ≡ Accepted) (r : ℕ) (low : r < p .mu) (cs : List Call) (n : noFormat cs ≡ true) where
   ordered : OrderlyBoard p (leaves p b format)
   ordered = accepted-orderly p b format tt e
 
-  start : view p (leaves p b format) r ≡ bare
-  start = rw (format-leaves p b e) (format-view p b r)
+  start : stateOf p (leaves p b format) r ≡ fresh
+  start = rw (format-leaves p b e) (format-state p b r)
 
   gives : Gives p (leaves p b format) r (singlesOf p (leaves p b format) cs)
   gives = run-gives p r low (leaves p b format) (singlesOf p (leaves p b format) cs) (all-single p (leaves p b format) cs) ordered (no-format p (leaves p b format) cs n)
@@ -66,12 +74,12 @@ module _ (p : Params) (b : Board) (e : replyOf p b format ≡ Accepted) (r : ℕ
   past-format : toldTo p r (partsOf p b (format ∷ cs)) ≡ toldTo p r (partsOf p (leaves p b format) cs)
   past-format = rw (parts-step p b format cs tt) (unfold toldTo partsTo partOf toRegion in refl)
 
-  region-answers : toldTo p r (partsOf p b (format ∷ cs)) ≡ viewAnswers p bare (requestsTo p r (partsOf p (leaves p b format) cs))
+  region-answers : toldTo p r (partsOf p b (format ∷ cs)) ≡ stateAnswers p fresh (requestsTo p r (partsOf p (leaves p b format) cs))
   region-answers = rw (past-format, parts-same p (leaves p b format) cs) (gives .answers ∙ rw start)
 
-  region-view : view p (boardAfter p b (format ∷ cs)) r ≡ viewRun p bare (requestsTo p r (partsOf p (leaves p b format) cs))
+  region-state : stateOf p (boardAfter p b (format ∷ cs)) r ≡ stateRun p fresh (requestsTo p r (partsOf p (leaves p b format) cs))
   unfolding boardAfter
-  region-view = rw (board-same p (leaves p b format) cs, parts-same p (leaves p b format) cs) (gives .left ∙ rw start)
+  region-state = rw (board-same p (leaves p b format) cs, parts-same p (leaves p b format) cs) (gives .left ∙ rw start)
 
   -- its words of marks are a function of its view
   region-words : (v w : ℕ) → v < p .gamma → w < 4 → wordAt ((boardAfter p b (format ∷ cs)) .marks) (markIndex p r v w) ≡ wordOf (marked p (view p (boardAfter p b (format ∷ cs)) r) v) w
@@ -82,11 +90,13 @@ module _ (p : Params) (b : Board) (e : replyOf p b format ≡ Accepted) (r : ℕ
 
 pub condition-3 : Condition3
 condition-3 p b b′ e e′ cs cs′ n n′ r low same =
-    let views : view p (boardAfter p b (format ∷ cs)) r ≡ view p (boardAfter p b′ (format ∷ cs′)) r =
-    region-view p b e r low cs n ∙ ap (viewRun p bare) same ∙ sym (region-view p b′ e′ r low cs′ n′) in
+    let states : stateOf p (boardAfter p b (format ∷ cs)) r ≡ stateOf p (boardAfter p b′ (format ∷ cs′)) r =
+    region-state p b e r low cs n ∙ ap (stateRun p fresh) same ∙ sym (region-state p b′ e′ r low cs′ n′) in
+    let views : view p (boardAfter p b (format ∷ cs)) r ≡ view p (boardAfter p b′ (format ∷ cs′)) r = ap (λ (x : State). x .vw) states in
     record {
-      answers = region-answers p b e r low cs n ∙ ap (viewAnswers p bare) same ∙ sym (region-answers p b′ e′ r low cs′ n′);
+      answers = region-answers p b e r low cs n ∙ ap (stateAnswers p fresh) same ∙ sym (region-answers p b′ e′ r low cs′ n′);
       views = views;
       words = λ v w h k.
           region-words p b e r low cs n v w h k ∙ ap (λ (vw : View). wordOf (marked p vw v) w) views ∙ sym (region-words p b′ e′ r low cs′ n′ v w h k);
+      stamp = ap (λ (x : State). x .stamp) states;
     }

@@ -6,21 +6,22 @@ use Prim.Native.Nat.{ℕ, zero, suc}
 use mathlib.Core.Bool.{Bool, true, false, cond}
 use mathlib.Core.List.{List, [], _∷_, _++_}
 use borrow.Author.Tests.{eqb-true}
+use lib.Dec.{leb}
 use lib.ListN.{length}
 use Rattle.lists.specs.Below.{joinBelow}
 use Rattle.lists.proofs.Tests.{truths}
 use Rattle.rules.specs.declared.Params.{Params}
 use Rattle.rules.specs.declared.Reply.{Reply}
-use Rattle.rules.specs.declared.Reply.the-variants.{Accepted, BadAddress}
+use Rattle.rules.specs.declared.Reply.the-variants.{Accepted, BadAddress, NoStampLeft}
 use Rattle.rules.specs.Parameters.{chipBytes}
-use Rattle.rules.specs.Tables.{Board}
+use Rattle.rules.specs.Tables.{Board, stampAt}
 use Rattle.rules.specs.Traces.{Op, clean, erase, onWear, replayChip, replayWear}
-use Rattle.rules.specs.Requests.{Call, Request, format, queue, read, release, write}
+use Rattle.rules.specs.Requests.{Call, Request, format, queue, read, release, requestRegion, write}
 use Rattle.rules.specs.Format.{bad, formatOps, formatted}
 use Rattle.rules.specs.Write.{writeOps, written, writtenBy}
 use Rattle.rules.specs.Release.{released}
 use Rattle.rules.specs.Calls.{opsOf}
-use Rattle.rules.specs.Replies.{OrderlyBoard, accessRows, badCluster, badParameter, firstRow, isAccepted, lengthsFit, lentRows, notOrderly, orderRow, replyOf, row, rowsOf, wrongLength}
+use Rattle.rules.specs.Replies.{OrderlyBoard, accessRows, badCluster, badParameter, firstRow, isAccepted, lengthsFit, lentRows, noStampLeft, notOrderly, orderRow, replyOf, row, rowsOf, stampRow, wrongLength}
 use Rattle.rules.proofs.Admitted.{format-admitted, read-checks, release-admitted, write-checks}
 use Rattle.rules.proofs.Chip.{clean-append, replay-append}
 use Rattle.rules.proofs.FormatPromise.{format-lengths, format-orderly}
@@ -67,9 +68,9 @@ singles-orderly p b (c ∷ cs) s h = singles-orderly p (leaves p b c) cs (s .1) 
 pub after-orderly : (p : Params) (b : Board) (run : List Call) → OrderlyBoard p b → OrderlyBoard p (boardAfter p b run)
 after-orderly p b run h = rw (board-same p b run) (singles-orderly p b (singlesOf p b run) (all-single p b run) h)
 
--- ---- then the reply depends on the request alone
+-- ---- then the reply depends on the request alone, and of a write on its region's last stamp too
 
--- of a read and of a write
+-- of a read
 unfoldable pub requestReply : Params → Request → Reply
 requestReply p q = firstRow Accepted (accessRows p q)
 
@@ -77,8 +78,12 @@ pub orderly-read : (p : Params) (b : Board) (q : Request) → OrderlyBoard p b �
 unfolding replyOf rowsOf lentRows accessRows orderRow requestReply firstRow badParameter wrongLength notOrderly
 orderly-read p b q h = rw (h .fine, h .lengths, h .tidy)
 
-pub orderly-write : (p : Params) (b : Board) (q : Request) → OrderlyBoard p b → replyOf p b (write q) ≡ requestReply p q
-unfolding replyOf rowsOf lentRows accessRows orderRow requestReply firstRow badParameter wrongLength notOrderly
+-- of a write, where the region's last stamp is t
+unfoldable pub writeReply : Params → ℕ → Request → Reply
+writeReply p t q = firstRow Accepted (accessRows p q ++ (row (leb 4294967295 t) NoStampLeft ∷ []))
+
+pub orderly-write : (p : Params) (b : Board) (q : Request) → OrderlyBoard p b → replyOf p b (write q) ≡ writeReply p (stampAt (b .stamps) (requestRegion p q)) q
+unfolding replyOf rowsOf lentRows accessRows orderRow stampRow noStampLeft writeReply firstRow badParameter wrongLength notOrderly
 orderly-write p b q h = rw (h .fine, h .lengths, h .tidy)
 
 -- and of a release, its cluster's

@@ -6,6 +6,7 @@ pub mod Programs
 pub mod Kept
 pub mod Memory
 pub mod Freed
+pub mod Stamps
 pub mod Condition1
 pub mod Again
 pub mod Condition2

@@ -17,32 +17,32 @@ use Rattle.rules.specs.Orderly.{blocksRule, ctRule, fstRule, marksRule, orderly
 use Rattle.rules.specs.Traces.{Op}
 use Rattle.rules.specs.Requests.{Call, Request, format, lent, read, release, requestCluster, requestRegion, write}
 use Rattle.rules.specs.Format.{formatOps, formatted}
-use Rattle.rules.specs.Write.{Plan, continues, eraseOps, opens, planBlock, planBst, planOf, planOps, reclaims, roomOps, writeOps, written, writtenBy}
+use Rattle.rules.specs.Write.{Plan, continues, eraseOps, opens, nextStamp, planBlock, planBst, planOf, planOps, reclaims, roomOps, writeOps, written, writtenBy}
 use Rattle.rules.specs.Regions.{looksAt, sector, view}
 use Rattle.rules.specs.Release.{released}
-use Rattle.rules.specs.Replies.{accessRows, badCluster, badParameter, firstRow, isAccepted, lengthsFit, lentRows, notOrderly, orderRow, replyOf, row, rowsOf, tooFewBlocks, wrongLength}
+use Rattle.rules.specs.Replies.{accessRows, badCluster, badParameter, firstRow, isAccepted, lengthsFit, lentRows, noStampLeft, notOrderly, orderRow, replyOf, row, rowsOf, stampRow, tooFewBlocks, wrongLength}
 use Rattle.rules.specs.Calls.{Outcome, answerOf, outcomeOf, readBytes}
 use Rattle.rules.proofs.Outcomes.{call-refused, format-accepted, read-accepted, release-accepted, reply-cases, write-accepted}
 use Rattle.claims.specs.OldForm.{AllAsBefore, OldBoard, OldOutcome, oldCall, oldFormat, oldLengths, oldOf, oldOrder, oldOrderly, oldPart, oldRead, oldRelease, oldReply, oldWrite, withoutMarks}
 
--- a last test that passes
-last-true : (xs : List Bool) (t : Bool) → t ≡ true → allTrue (xs ++ (t ∷ [])) ≡ allTrue xs
+-- a test among others that passes
+passes : (xs : List Bool) (t : Bool) (ys : List Bool) → t ≡ true → allTrue (xs ++ (t ∷ ys)) ≡ allTrue (xs ++ ys)
 unfolding allTrue
-last-true [] t e = rw e
-last-true (x ∷ xs) t e = rw (last-true xs t e)
+passes [] t ys e = rw e
+passes (x ∷ xs) t ys e = rw (passes xs t ys e)
 
 -- ---- the rows
 
 same-lengths : (p : Params) (b : Board) → length (b .marks) ≡ marksLength p → lengthsFit p b ≡ oldLengths p (oldOf b)
 unfolding lengthsFit oldLengths
 same-lengths p b long =
-    last-true
+    passes
     (eqb (length (b .chip)) _ ∷ eqb (length (b .ct)) _ ∷ eqb (length (b .bt)) _ ∷ eqb (length (b .fst)) _ ∷ eqb (length (b .bst)) _ ∷ eqb (length (b .wear)) _ ∷ [])
-    (eqb (length (b .marks)) (marksLength p)) (eq-eqb _ _ long)
+    (eqb (length (b .marks)) (marksLength p)) (eqb (length (b .stamps)) (p .mu) ∷ []) (eq-eqb _ _ long)
 
 same-order : (p : Params) (b : Board) → marksRule p b ≡ true → orderly p b ≡ oldOrderly p (oldOf b)
 unfolding orderly oldOrderly rulesOf blocksRule fstRule ctRule
-same-order p b right = last-true _ (marksRule p b) right
+same-order p b right = passes (take 9 (rulesOf p b)) (marksRule p b) [] right
 
 module _ (p : Params) (b : Board) (long : length (b .marks) ≡ marksLength p) where
   format-row : replyOf p b format ≡ oldReply p (oldOf b) (row (tooFewBlocks p (withoutMarks (oldOf b))) TooFewBlocks ∷ [])
@@ -54,8 +54,8 @@ module _ (p : Params) (b : Board) (long : length (b .marks) ≡ marksLength p) w
     unfolding replyOf rowsOf lentRows orderRow oldReply oldOrder wrongLength notOrderly
     read-rows q = rw (same-lengths p b long, same-order p b right)
 
-    write-rows : (q : Request) → replyOf p b (write q) ≡ oldReply p (oldOf b) (accessRows p q ++ oldOrder p (oldOf b))
-    unfolding replyOf rowsOf lentRows orderRow oldReply oldOrder wrongLength notOrderly
+    write-rows : (q : Request) → replyOf p b (write q) ≡ oldReply p (oldOf b) (accessRows p q ++ (oldOrder p (oldOf b) ++ stampRow p (withoutMarks (oldOf b)) q))
+    unfolding replyOf rowsOf lentRows orderRow stampRow noStampLeft oldReply oldOrder wrongLength notOrderly
     write-rows q = rw (same-lengths p b long, same-order p b right)
 
     release-rows : (c : ℕ) → replyOf p b (release c) ≡ oldReply p (oldOf b) (row (badCluster p c) BadAddress ∷ oldOrder p (oldOf b))
@@ -97,7 +97,7 @@ unfolding formatted
 same-format p b = refl
 
 plan-board : (p : Params) (b : Board) (r : ℕ) (q : Request) (pl : Plan) → oldOf (writtenBy p b r q pl) ≡ oldOf (writtenBy p (withoutMarks (oldOf b)) r q pl)
-unfolding writtenBy planOps roomOps planBlock eraseOps planBst
+unfolding writtenBy planOps roomOps planBlock eraseOps planBst nextStamp
 plan-board p b r q (continues v f) = refl
 plan-board p b r q (opens v) = refl
 plan-board p b r q (reclaims v) = refl

@@ -31,6 +31,7 @@ use Rattle.rules.specs.Replies.{
   replyOf,
   row,
   rowsOf,
+  stampRow,
   tooFewAnswers,
   wrongData,
   wrongLength,
@@ -57,7 +58,7 @@ queue-fits p b l e =
 module _ (p : Params) (b : Board) (fine : allowed p ≡ true) (fits : lengthsFit p b ≡ true) (no′ : orderly p b ≡ false) where
   -- each write gets 3, 4, 5 or else 7
   write-reply : (q : Request) → replyOf p b (write q) ≡ firstRow NotOrderly (accessRows p q)
-  unfolding replyOf rowsOf lentRows accessRows orderRow firstRow badParameter wrongLength notOrderly
+  unfolding replyOf rowsOf lentRows accessRows orderRow stampRow firstRow badParameter wrongLength notOrderly
   write-reply q = rw (fine, fits, no′)
 
   some-refusal : (q : Request) → firstRow NotOrderly (accessRows p q) ≡ Accepted → ⊥

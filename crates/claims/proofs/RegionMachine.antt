@@ -1,4 +1,4 @@
--- A region as a machine of its own: its state is its view, and what it answers and how the view changes follow from the view and the request
+-- A region as a machine of its own: its state is its view and its last stamp, and what it answers and how they change follow from them and the request
 -- alone. Every run gives a region what the machine gives for the requests to it.
 -- Assumes nothing.
 use mathlib.Core.Path.{_≡_, refl, sym, ap, ap₂, _∙_}
@@ -15,7 +15,7 @@ use Rattle.rules.specs.declared.Params.{Params}
 use Rattle.rules.specs.declared.Reply.{Reply}
 use Rattle.rules.specs.declared.Reply.the-variants.{Accepted}
 use Rattle.rules.specs.Numbers.{regionOf, sectorOf}
-use Rattle.rules.specs.Tables.{Board}
+use Rattle.rules.specs.Tables.{Board, stampAt}
 use Rattle.rules.specs.Regions.{View, looksAt, looksIn, sector, sectorIn, view}
 use Rattle.rules.specs.Traces.{erasesIn, programsIn}
 use Rattle.rules.specs.Requests.{Call, Request, format, queue, read, release, requestCluster, requestOf, requestRegion, write}
@@ -25,10 +25,12 @@ use Rattle.rules.specs.Replies.{OrderlyBoard, accessRows, badCount, isAccepted,
 use Rattle.rules.specs.Calls.{Outcome, Part, answerOf, outcomeOf, readBytes}
 use Rattle.rules.proofs.Outcomes.{call-refused, read-accepted, release-accepted, reply-cases, write-accepted}
 use Rattle.rules.proofs.Releases.{released-else, released-view}
+use Rattle.rules.proofs.TableFacts.{Lengths, lengths-in}
 use Rattle.rules.proofs.WritePromise.{write-promise}
 use Rattle.claims.specs.Runs.{Told, asked, boardAfter, isFormat, leaves, noFormat, partsOf, partsTo, requestsTo, toRegion, told, toldTo}
-use Rattle.claims.proofs.Kept.{clusterReply, orderly-kept, orderly-read, orderly-release, orderly-write, requestReply}
+use Rattle.claims.proofs.Kept.{clusterReply, orderly-kept, orderly-read, orderly-release, orderly-write, requestReply, writeReply}
 use Rattle.claims.proofs.Singles.{AllSingle, Single, refused-leaves}
+use Rattle.claims.proofs.Stamps.{other-stamp, released-stamp, written-stamp}
 use Rattle.claims.proofs.Steps.{partOf, parts-step, read-leaves, release-leaves, write-leaves}
 
 -- what the caller of a call is told
@@ -37,55 +39,71 @@ toldBy o = told (o .answer) (o .bytes)
 
 -- ---- the machine
 
+-- what the region shows, and its last stamp
+pub record State : Type 0 where
+  pub vw : View
+  pub stamp : ℕ
+
+abbrev pub stateOf : Params → Board → ℕ → State
+stateOf p b r = record { vw = view p b r; stamp = stampAt (b .stamps) r }
+
 tells : Reply → ℕ → ℕ → ℕ → List ℕ → Told
 tells r programs erases looks bytes = record { answer = record { reply = r; programs = programs; erases = erases; looks = looks }; bytes = bytes }
 
 -- what it answers
-answerBy : Params → View → Call → Told
-answerBy p vw format = tells Accepted 0 0 0 []
-answerBy p vw (read q) =
+answerBy : Params → State → Call → Told
+answerBy p st format = tells Accepted 0 0 0 []
+answerBy p st (read q) =
+    let vw = st .vw in
     cond (isAccepted (requestReply p q))
     (tells Accepted 0 0 (looksIn p vw (requestCluster p q)) (joinBelow (q .count) (λ i. sectorIn p vw (requestCluster p q) (sectorOf p (q .lba) + i))))
     (tells (requestReply p q) 0 0 0 [])
-answerBy p vw (write q) =
-    cond (isAccepted (requestReply p q))
+answerBy p st (write q) =
+    let vw = st .vw in
+    cond (isAccepted (writeReply p (st .stamp) q))
     (tells Accepted (p .alpha * (length (copies p vw (planOf p vw)) + 1)) (planErases (planOf p vw)) (looksIn p vw (requestCluster p q)) (q .bytes))
-    (tells (requestReply p q) 0 0 0 [])
-answerBy p vw (release c) = tells (clusterReply p c) 0 0 0 []
-answerBy p vw (queue l) = tells Accepted 0 0 0 []
+    (tells (writeReply p (st .stamp) q) 0 0 0 [])
+answerBy p st (release c) = tells (clusterReply p c) 0 0 0 []
+answerBy p st (queue l) = tells Accepted 0 0 0 []
 
 -- its next state
-viewBy : Params → View → Call → View
-viewBy p vw format = vw
-viewBy p vw (read q) = vw
-viewBy p vw (release c) = cond (isAccepted (clusterReply p c)) (without vw c) vw
-viewBy p vw (write q) = cond (isAccepted (requestReply p q)) (viewAfter p vw q) vw
-viewBy p vw (queue l) = vw
+stateBy : Params → State → Call → State
+stateBy p st format = st
+stateBy p st (read q) = st
+stateBy p st (release c) = cond (isAccepted (clusterReply p c)) (record { vw = without (st .vw) c; stamp = st .stamp }) st
+stateBy p st (write q) = cond (isAccepted (writeReply p (st .stamp) q)) (record { vw = viewAfter p (st .vw) q; stamp = st .stamp + 1 }) st
+stateBy p st (queue l) = st
 
 -- over a list of requests
-pub viewRun : Params → View → List Call → View
-viewRun p vw [] = vw
-viewRun p vw (c ∷ cs) = viewRun p (viewBy p vw c) cs
+pub stateRun : Params → State → List Call → State
+stateRun p st [] = st
+stateRun p st (c ∷ cs) = stateRun p (stateBy p st c) cs
 
-pub viewAnswers : Params → View → List Call → List Told
-viewAnswers p vw [] = []
-viewAnswers p vw (c ∷ cs) = answerBy p vw c ∷ viewAnswers p (viewBy p vw c) cs
+pub stateAnswers : Params → State → List Call → List Told
+stateAnswers p st [] = []
+stateAnswers p st (c ∷ cs) = answerBy p st c ∷ stateAnswers p (stateBy p st c) cs
 
 -- ---- a call to the region is a step of the machine
 
+abbrev state : View → ℕ → State
+state vw t = record { vw = vw; stamp = t }
+
 module _ (p : Params) (b : Board) (ordered : OrderlyBoard p b) where
+  lengths : Lengths p b
+  lengths = lengths-in p b (ordered .lengths)
+
   refused-told : (c : Call) (r : Reply) → isAccepted r ≡ false → replyOf p b c ≡ r → toldBy (outcomeOf p b c) ≡ tells r 0 0 0 []
   unfolding toldBy told answerOf programsIn erasesIn tells
   refused-told c r e is = rw (call-refused p b c (rw is e), is, e)
 
-  read-told : (r : ℕ) (q : Request) → requestRegion p q ≡ r → toldBy (outcomeOf p b (read q)) ≡ answerBy p (view p b r) (read q)
+  read-told : (r : ℕ) (q : Request) → requestRegion p q ≡ r → toldBy (outcomeOf p b (read q)) ≡ answerBy p (stateOf p b r) (read q)
   unfolding answerBy
   read-told r q is = go (reply-cases (requestReply p q))
     where
       reply : replyOf p b (read q) ≡ requestReply p q
       reply = orderly-read p b q ordered
 
-      go : (requestReply p q ≡ Accepted) ⊎ (isAccepted (requestReply p q) ≡ false) → toldBy (outcomeOf p b (read q)) ≡ answerBy p (view p b r) (read q)
+      go : (requestReply p q ≡ Accepted) ⊎ (isAccepted (requestReply p q) ≡ false) → toldBy (outcomeOf p b (read q)) ≡ answerBy p (stateOf p b r) (read q)
       go (inl e) = rw (e, read-accepted p b q (reply ∙ e)) (unfold isAccepted toldBy told answerOf programsIn erasesIn tells readBytes sector looksAt in rw (← is))
       go (inr e) = rw e (refused-told (read q) (requestReply p q) e reply)
 
@@ -98,68 +116,71 @@ module _ (p : Params) (b : Board) (ordered : OrderlyBoard p b) where
       let w = write-promise p b q e in
       ap toldBy (write-accepted p b q e) ∙ ap₂ (λ (n m : ℕ). tells Accepted n m (looksIn p (view p b (requestRegion p q)) (requestCluster p q)) (q .bytes)) (w .programs) (w .erases)
 
-  write-told : (r : ℕ) (q : Request) → requestRegion p q ≡ r → toldBy (outcomeOf p b (write q)) ≡ answerBy p (view p b r) (write q)
+  write-told : (r : ℕ) (q : Request) → requestRegion p q ≡ r → toldBy (outcomeOf p b (write q)) ≡ answerBy p (stateOf p b r) (write q)
   unfolding answerBy
-  write-told r q is = go (reply-cases (requestReply p q))
+  write-told r q is = go (reply-cases (writeReply p (stampAt (b .stamps) r) q))
     where
-      reply : replyOf p b (write q) ≡ requestReply p q
-      reply = orderly-write p b q ordered
+      reply : replyOf p b (write q) ≡ writeReply p (stampAt (b .stamps) r) q
+      reply = rw (← is) (orderly-write p b q ordered)
 
-      go : (requestReply p q ≡ Accepted) ⊎ (isAccepted (requestReply p q) ≡ false) → toldBy (outcomeOf p b (write q)) ≡ answerBy p (view p b r) (write q)
+      go : (writeReply p (stampAt (b .stamps) r) q ≡ Accepted) ⊎ (isAccepted (writeReply p (stampAt (b .stamps) r) q) ≡ false)
+          → toldBy (outcomeOf p b (write q)) ≡ answerBy p (stateOf p b r) (write q)
       go (inl e) = rw e (unfold isAccepted in rw (← is) (written-told q (reply ∙ e)))
-      go (inr e) = rw e (refused-told (write q) (requestReply p q) e reply)
+      go (inr e) = rw e (refused-told (write q) (writeReply p (stampAt (b .stamps) r) q) e reply)
 
-  write-own : (r : ℕ) (q : Request) → requestRegion p q ≡ r → view p (leaves p b (write q)) r ≡ viewBy p (view p b r) (write q)
-  unfolding viewBy
-  write-own r q is = go (reply-cases (requestReply p q))
+  write-own : (r : ℕ) (q : Request) → r < p .mu → requestRegion p q ≡ r → stateOf p (leaves p b (write q)) r ≡ stateBy p (stateOf p b r) (write q)
+  unfolding stateBy
+  write-own r q low is = go (reply-cases (writeReply p (stampAt (b .stamps) r) q))
     where
-      reply : replyOf p b (write q) ≡ requestReply p q
-      reply = orderly-write p b q ordered
+      reply : replyOf p b (write q) ≡ writeReply p (stampAt (b .stamps) r) q
+      reply = rw (← is) (orderly-write p b q ordered)
 
-      go : (requestReply p q ≡ Accepted) ⊎ (isAccepted (requestReply p q) ≡ false) → view p (leaves p b (write q)) r ≡ viewBy p (view p b r) (write q)
-      go (inl e) = rw (e, write-leaves p b q (reply ∙ e)) (unfold isAccepted in rw (← is) ((write-promise p b q (reply ∙ e)) .own))
+      go : (writeReply p (stampAt (b .stamps) r) q ≡ Accepted) ⊎ (isAccepted (writeReply p (stampAt (b .stamps) r) q) ≡ false)
+          → stateOf p (leaves p b (write q)) r ≡ stateBy p (stateOf p b r) (write q)
+      go (inl e) =
+          rw (e, write-leaves p b q (reply ∙ e))
+          (unfold isAccepted in ap₂ state (rw (← is) ((write-promise p b q (reply ∙ e)) .own)) (rw (← is) (written-stamp p b q (rw is (rw (lengths .stampsLength) low)))))
       go (inr e) = rw (e, refused-leaves p b (write q) (rw reply e))
 
-  write-else : (r : ℕ) (q : Request) → r < p .mu → (requestRegion p q ≡ r → ⊥) → view p (leaves p b (write q)) r ≡ view p b r
-  write-else r q low ne = go (reply-cases (requestReply p q))
+  write-else : (r : ℕ) (q : Request) → r < p .mu → (requestRegion p q ≡ r → ⊥) → stateOf p (leaves p b (write q)) r ≡ stateOf p b r
+  write-else r q low ne = go (reply-cases (replyOf p b (write q)))
     where
-      reply : replyOf p b (write q) ≡ requestReply p q
-      reply = orderly-write p b q ordered
+      go : (replyOf p b (write q) ≡ Accepted) ⊎ (isAccepted (replyOf p b (write q)) ≡ false) → stateOf p (leaves p b (write q)) r ≡ stateOf p b r
+      go (inl e) =
+          rw (write-leaves p b q e)
+          (ap₂ state ((write-promise p b q e) .isolated r low (λ i. ne (sym i))) (other-stamp p b q r ne))
+      go (inr e) = rw (refused-leaves p b (write q) e)
 
-      go : (requestReply p q ≡ Accepted) ⊎ (isAccepted (requestReply p q) ≡ false) → view p (leaves p b (write q)) r ≡ view p b r
-      go (inl e) = rw (write-leaves p b q (reply ∙ e)) ((write-promise p b q (reply ∙ e)) .isolated r low (λ i. ne (sym i)))
-      go (inr e) = rw (refused-leaves p b (write q) (rw reply e))
-
-  release-told : (c : ℕ) (vw : View) → toldBy (outcomeOf p b (release c)) ≡ answerBy p vw (release c)
+  release-told : (c : ℕ) (st : State) → toldBy (outcomeOf p b (release c)) ≡ answerBy p st (release c)
   unfolding answerBy
-  release-told c vw = go (reply-cases (clusterReply p c))
+  release-told c st = go (reply-cases (clusterReply p c))
     where
       reply : replyOf p b (release c) ≡ clusterReply p c
       reply = orderly-release p b c ordered
 
-      go : (clusterReply p c ≡ Accepted) ⊎ (isAccepted (clusterReply p c) ≡ false) → toldBy (outcomeOf p b (release c)) ≡ answerBy p vw (release c)
+      go : (clusterReply p c ≡ Accepted) ⊎ (isAccepted (clusterReply p c) ≡ false) → toldBy (outcomeOf p b (release c)) ≡ answerBy p st (release c)
       go (inl e) = rw (e, release-accepted p b c (reply ∙ e)) (unfold isAccepted toldBy told answerOf programsIn erasesIn tells in refl)
       go (inr e) = refused-told (release c) (clusterReply p c) e reply
 
-  release-own : (r c : ℕ) → view p (leaves p b (release c)) r ≡ viewBy p (view p b r) (release c)
-  unfolding viewBy
+  release-own : (r c : ℕ) → stateOf p (leaves p b (release c)) r ≡ stateBy p (stateOf p b r) (release c)
+  unfolding stateBy
   release-own r c = go (reply-cases (clusterReply p c))
     where
       reply : replyOf p b (release c) ≡ clusterReply p c
       reply = orderly-release p b c ordered
 
-      go : (clusterReply p c ≡ Accepted) ⊎ (isAccepted (clusterReply p c) ≡ false) → view p (leaves p b (release c)) r ≡ viewBy p (view p b r) (release c)
-      go (inl e) = rw (e, release-leaves p b c (reply ∙ e)) (unfold isAccepted in released-view p b c r)
+      go : (clusterReply p c ≡ Accepted) ⊎ (isAccepted (clusterReply p c) ≡ false) → stateOf p (leaves p b (release c)) r ≡ stateBy p (stateOf p b r) (release c)
+      go (inl e) = rw (e, release-leaves p b c (reply ∙ e)) (unfold isAccepted in ap₂ state (released-view p b c r) (released-stamp p b c r))
       go (inr e) = rw (e, refused-leaves p b (release c) (rw reply e))
 
-  release-else : (r c : ℕ) → (regionOf p c ≡ r → ⊥) → view p (leaves p b (release c)) r ≡ view p b r
+  release-else : (r c : ℕ) → (regionOf p c ≡ r → ⊥) → stateOf p (leaves p b (release c)) r ≡ stateOf p b r
   release-else r c ne = go (reply-cases (clusterReply p c))
     where
       reply : replyOf p b (release c) ≡ clusterReply p c
       reply = orderly-release p b c ordered
 
-      go : (clusterReply p c ≡ Accepted) ⊎ (isAccepted (clusterReply p c) ≡ false) → view p (leaves p b (release c)) r ≡ view p b r
-      go (inl e) = rw (release-leaves p b c (reply ∙ e)) (released-else p b c r ne)
+      go : (clusterReply p c ≡ Accepted) ⊎ (isAccepted (clusterReply p c) ≡ false) → stateOf p (leaves p b (release c)) r ≡ stateOf p b r
+      go (inl e) = rw (release-leaves p b c (reply ∙ e)) (ap₂ state (released-else p b c r ne) (released-stamp p b c r))
       go (inr e) = rw (refused-leaves p b (release c) (rw reply e))
 
 -- ---- what a read's bytes hold makes no difference to the machine
@@ -168,21 +189,21 @@ asked-reply : (p : Params) (q : Request) → requestReply p (requestOf (q .lba) 
 unfolding requestReply accessRows badCount wrongData
 asked-reply p q = rw (length-replicate {A = ℕ} (length (q .bytes)) 0)
 
-asked-view : (p : Params) (vw : View) (c : Call) → viewBy p vw (asked c) ≡ viewBy p vw c
-unfolding asked viewBy
-asked-view p vw format = refl
-asked-view p vw (read q) = refl
-asked-view p vw (write q) = refl
-asked-view p vw (release c) = refl
-asked-view p vw (queue l) = refl
+asked-state : (p : Params) (st : State) (c : Call) → stateBy p st (asked c) ≡ stateBy p st c
+unfolding asked stateBy
+asked-state p st format = refl
+asked-state p st (read q) = refl
+asked-state p st (write q) = refl
+asked-state p st (release c) = refl
+asked-state p st (queue l) = refl
 
-asked-answer : (p : Params) (vw : View) (c : Call) → answerBy p vw (asked c) ≡ answerBy p vw c
+asked-answer : (p : Params) (st : State) (c : Call) → answerBy p st (asked c) ≡ answerBy p st c
 unfolding asked answerBy
-asked-answer p vw format = refl
-asked-answer p vw (read q) = rw (asked-reply p q)
-asked-answer p vw (write q) = refl
-asked-answer p vw (release c) = refl
-asked-answer p vw (queue l) = refl
+asked-answer p st format = refl
+asked-answer p st (read q) = rw (asked-reply p q)
+asked-answer p st (write q) = refl
+asked-answer p st (release c) = refl
+asked-answer p st (queue l) = refl
 
 -- ---- a call more in the requests to a region, and in what is told of them
 
@@ -199,28 +220,28 @@ one-more {A = A} f p r x xs = go (toRegion p r (x .asks))
 
 -- one call: to the region it is a step of the machine, to another it changes nothing here
 record Turn (p : Params) (b : Board) (r : ℕ) (c : Call) : Type 0 where
-  own : toRegion p r c ≡ true → (view p (leaves p b c) r ≡ viewBy p (view p b r) c) × (toldBy (outcomeOf p b c) ≡ answerBy p (view p b r) c)
-  else : toRegion p r c ≡ false → view p (leaves p b c) r ≡ view p b r
+  own : toRegion p r c ≡ true → (stateOf p (leaves p b c) r ≡ stateBy p (stateOf p b r) c) × (toldBy (outcomeOf p b c) ≡ answerBy p (stateOf p b r) c)
+  else : toRegion p r c ≡ false → stateOf p (leaves p b c) r ≡ stateOf p b r
 
 turn : (p : Params) (b : Board) (r : ℕ) → r < p .mu → OrderlyBoard p b → (c : Call) → Single c → isFormat c ≡ false → Turn p b r c
 unfolding toRegion isFormat
 turn p b r low h format s n = absurd (false≢true (sym n))
 turn p b r low h (read q) s n =
-    record { own = λ e. (rw (read-leaves p b q) (unfold viewBy in refl), read-told p b h r q (eqb-true _ _ e)); else = λ e. rw (read-leaves p b q) }
+    record { own = λ e. (rw (read-leaves p b q) (unfold stateBy in refl), read-told p b h r q (eqb-true _ _ e)); else = λ e. rw (read-leaves p b q) }
 turn p b r low h (write q) s n =
-    record { own = λ e. (write-own p b h r q (eqb-true _ _ e), write-told p b h r q (eqb-true _ _ e)); else = λ e. write-else p b h r q low (eqb-false _ _ e) }
+    record { own = λ e. (write-own p b h r q low (eqb-true _ _ e), write-told p b h r q (eqb-true _ _ e)); else = λ e. write-else p b h r q low (eqb-false _ _ e) }
 turn p b r low h (release c) s n =
-    record { own = λ e. (release-own p b h r c, release-told p b h c (view p b r)); else = λ e. release-else p b h r c (eqb-false _ _ e) }
+    record { own = λ e. (release-own p b h r c, release-told p b h c (stateOf p b r)); else = λ e. release-else p b h r c (eqb-false _ _ e) }
 turn p b r low h (queue l) s n = absurd s
 
 -- what a run of single calls without a format leaves a region and tells it
 pub record Gives (p : Params) (b : Board) (r : ℕ) (cs : List Call) : Type 0 where
-  pub left : view p (boardAfter p b cs) r ≡ viewRun p (view p b r) (requestsTo p r (partsOf p b cs))
-  pub answers : toldTo p r (partsOf p b cs) ≡ viewAnswers p (view p b r) (requestsTo p r (partsOf p b cs))
+  pub left : stateOf p (boardAfter p b cs) r ≡ stateRun p (stateOf p b r) (requestsTo p r (partsOf p b cs))
+  pub answers : toldTo p r (partsOf p b cs) ≡ stateAnswers p (stateOf p b r) (requestsTo p r (partsOf p b cs))
 
 pub run-gives : (p : Params) (r : ℕ) → r < p .mu → (b : Board) (cs : List Call) → AllSingle cs → OrderlyBoard p b → noFormat cs ≡ true → Gives p b r cs
 unfolding boardAfter noFormat
-run-gives p r low b [] s h n = unfold boardAfter partsOf partsTo requestsTo toldTo viewRun viewAnswers in record { left = refl; answers = refl }
+run-gives p r low b [] s h n = unfold boardAfter partsOf partsTo requestsTo toldTo stateRun stateAnswers in record { left = refl; answers = refl }
 run-gives p r low b (c ∷ cs) s h n =
     go (so (toRegion p r c)) (turn p b r low h c (s .0) (not-true _ (and-left (not (isFormat c)) _ n)))
     (run-gives p r low (leaves p b c) cs (s .1) (orderly-kept p b c (s .0) h) (and-right (not (isFormat c)) n))
@@ -234,8 +255,8 @@ run-gives p r low b (c ∷ cs) s h n =
     go : (toRegion p r c ≡ true) ⊎ (toRegion p r c ≡ false) → Turn p b r c → Gives p (leaves p b c) r cs → Gives p b r (c ∷ cs)
     go (inl e) t below =
         record {
-          left = unfold boardAfter in (below .left ∙ rw (requests, e) (unfold viewRun in rw ((t .own e) .0, ← asked-view p (view p b r) c)));
-          answers = rw (answered, requests, e) (unfold viewAnswers in rw (below .answers, (t .own e) .1, (t .own e) .0, ← asked-view p (view p b r) c, ← asked-answer p (view p b r) c));
+          left = unfold boardAfter in (below .left ∙ rw (requests, e) (unfold stateRun in rw ((t .own e) .0, ← asked-state p (stateOf p b r) c)));
+          answers = rw (answered, requests, e) (unfold stateAnswers in rw (below .answers, (t .own e) .1, (t .own e) .0, ← asked-state p (stateOf p b r) c, ← asked-answer p (stateOf p b r) c));
         }
     go (inr e) t below =
         record {

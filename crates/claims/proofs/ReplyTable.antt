@@ -12,7 +12,7 @@ use Rattle.rules.specs.declared.Reply.{Reply}
 use Rattle.rules.specs.declared.Reply.the-variants.{Accepted}
 use Rattle.rules.specs.Tables.{Board}
 use Rattle.rules.specs.Requests.{Call, format, queue, read, release, write}
-use Rattle.rules.specs.Replies.{Row, accessRows, firstRow, lentRows, numberOf, orderRow, queueRows, replyOf, rowsOf}
+use Rattle.rules.specs.Replies.{Row, accessRows, firstRow, lentRows, numberOf, orderRow, queueRows, replyOf, rowsOf, stampRow}
 use Rattle.claims.specs.Conditions.{ByTable, noneApplies}
 
 -- k is none of these numbers; no two of them are the same
@@ -107,7 +107,7 @@ module _ {A : Type 0} (number : A → ℕ) (other : A) where
 -- ---- the calls
 
 rows-distinct : (p : Params) (b : Board) (c : Call) → distinct (0 ∷ numbers numberOf Accepted (rowsOf p b c)) ≡ true
-unfolding rowsOf lentRows accessRows orderRow queueRows numbers distinct differs
+unfolding rowsOf lentRows accessRows orderRow stampRow queueRows numbers distinct differs
 rows-distinct p b format = refl
 rows-distinct p b (read q) = refl
 rows-distinct p b (write q) = refl

@@ -4,7 +4,7 @@
 use Prim.Native.Nat.{ℕ, _+_, _*_, _≤_, _<_}
 use mathlib.Core.Path.{_≡_}
 use mathlib.Core.Logic.{_↔_}
-use mathlib.Core.Bool.{Bool, true, false, not, _&&_}
+use mathlib.Core.Bool.{Bool, true, false, not, _&&_, cond}
 use mathlib.Core.List.{List, [], _∷_, _++_}
 use lib.ListN.{length, drop}
 use lib.Dec.{eqb}
@@ -15,7 +15,7 @@ use Rattle.rules.specs.declared.Reply.the-variants.{Accepted}
 use Rattle.rules.specs.Parameters.{frames, pages}
 use Rattle.rules.specs.Numbers.{regionOf}
 use Rattle.rules.specs.Pages.{held}
-use Rattle.rules.specs.Tables.{Board, none, ctAt, btEntry, bstAt, markIndex, wordAt}
+use Rattle.rules.specs.Tables.{Board, none, ctAt, btEntry, bstAt, markIndex, wordAt, stampAt}
 use Rattle.rules.specs.Regions.{looksAt, view}
 use Rattle.rules.specs.Traces.{replayChip, replayWear, clean}
 use Rattle.rules.specs.Requests.{Request, requestCluster, requestRegion, Queue, Call, format, read, write, release, queue, lent, lentAnswers}
@@ -63,11 +63,12 @@ pub record InOrder (p : Params) (b : Board) : Type 0 where
   pub all : blocksOf p b 0 + blocksOf p b 1 + blocksOf p b 2 ≡ p .N
   pub used : blocksOf p b 1 ≡ assignedBlocks p b
 
--- "a format reports 0 programs and one erase for each block not bad"; T-08: 0 spare areas "from other calls"
+-- "a format reports 0 programs and one erase for each block not bad"; T-08: 0 spare areas "from other calls"; T-07: each last stamp is "0 at format"
 pub record Formats (p : Params) (b : Board) (o : Outcome) : Type 0 where
   pub programs : o .answer .programs ≡ 0
   pub erases : o .answer .erases ≡ goodBlocks p (b .chip)
   pub looks : o .answer .looks ≡ 0
+  pub stamps : (r : ℕ) → r < p .mu → stampAt (o .board .stamps) r ≡ 0
 
 -- "A read reports 0 and 0 and writes only its data buffer": each sector as its LBA reads. T-08: it reports the search for its cluster's valid frame
 pub record Reads (p : Params) (b : Board) (q : Request) (o : Outcome) : Type 0 where
@@ -86,7 +87,7 @@ takesBlock (reclaims v) = true
 -- a write of this request by its plan for region r. "never refused for want of room": a block that it takes is there and free, and the frame that it
 -- writes is one of the block's, also after the copies of a reclaim; it does store: each LBA of the request then reads as given, and every other of the
 -- board as before; "A write reports α × (frames copied + 1) pages programmed, and 1 erase if it reclaimed, else 0. So it programs at most P pages".
--- T-08: it reports the search for its own cluster, "in the state at entry"
+-- T-08: it reports the search for its own cluster, "in the state at entry". T-07: it "takes the next" stamp of its region, and none of another
 pub record Writes (p : Params) (b : Board) (q : Request) (r : ℕ) (pl : Plan) (o : Outcome) : Type 0 where
   pub block : takesBlock pl ≡ true → (planBlock p b r pl < p .N) × (bstAt (b .bst) (planBlock p b r pl) ≡ 0)
   pub frame : planFrame p (view p b r) pl < frames p
@@ -95,6 +96,7 @@ pub record Writes (p : Params) (b : Board) (q : Request) (r : ℕ) (pl : Plan) (
   pub most : o .answer .programs ≤ pages p
   pub erases : o .answer .erases ≡ planErases pl
   pub looks : o .answer .looks ≡ looksAt p b (requestCluster p q)
+  pub stamps : (s : ℕ) → s < p .mu → stampAt (o .board .stamps) s ≡ cond (eqb s r) (stampAt (b .stamps) s + 1) (stampAt (b .stamps) s)
 
 -- none of these frames holds cluster c
 unfoldable pub noneHolds : Params → ℕ → List (List ℕ) → Bool
@@ -102,12 +104,13 @@ noneHolds p c [] = true
 noneHolds p c (x ∷ xs) = not (eqb (held p x) c) && noneHolds p c xs
 
 -- T-03: "its CT entry becomes none, its sectors read as 255", and every other as before; "the room comes back at reclaim": whichever virtual block is
--- reclaimed next, no frame of the cluster is copied. "Where it is none already, nothing changes". "It reports 0 and 0"
+-- reclaimed next, no frame of the cluster is copied. "Where it is none already, nothing changes". "It reports 0 and 0". It takes no stamp
 pub record Frees (p : Params) (b : Board) (c : ℕ) (o : Outcome) : Type 0 where
   pub reads : (a : ℕ) → sectorAt p (o .board) a ≡ cleared p c (sectorAt p b) a
   pub room : (v : ℕ) → v < p .gamma → noneHolds p c (copies p (view p (o .board) (regionOf p c)) (reclaims v)) ≡ true
   pub entry : ctAt (o .board .ct) c ≡ none
   pub already : ctAt (b .ct) c ≡ none → o .board ≡ b
+  pub stamps : o .board .stamps ≡ b .stamps
   pub counts : Idle (o .answer)
 
 -- T-01: the call's own counts are 0, refused or not; its data is as lent, the list keeps its length, and "Answers past the last item stay as lent"
@@ -160,13 +163,14 @@ Condition2 = (p : Params) (b : Board) → replyOf p b format ≡ Accepted → (c
 
 -- ---- condition 3: two runs
 
--- two runs, from b on and from b′ on, give region r the same answers, counts and data, and leave it the same CT and FST entries, page contents and
--- words of marks
+-- two runs, from b on and from b′ on, give region r the same answers, counts and data, and leave it the same CT and FST entries, page contents,
+-- words of marks and last stamp
 pub record SameRegion (p : Params) (r : ℕ) (b b′ : Board) (run run′ : List Call) : Type 0 where
   pub answers : toldTo p r (partsOf p b run) ≡ toldTo p r (partsOf p b′ run′)
   pub views : view p (boardAfter p b run) r ≡ view p (boardAfter p b′ run′) r
   pub words : (v w : ℕ) → v < p .gamma → w < 4
       → wordAt ((boardAfter p b run) .marks) (markIndex p r v w) ≡ wordAt ((boardAfter p b′ run′) .marks) (markIndex p r v w)
+  pub stamp : stampAt ((boardAfter p b run) .stamps) r ≡ stampAt ((boardAfter p b′ run′) .stamps) r
 
 -- for "two boards .. each formatted with reply 0, not formatted again": "If the requests to one region are the same and in the same order", up to what
 -- the bytes lent to a read hold; T-01: "over

@@ -1,5 +1,5 @@
--- Document 02, T-06: "Every call answers and leaves chip and old tables as before, proved against the old form". The old form, the calls before the table of
--- marks was lent, is kept here for this one promise; nothing else is defined by it.
+-- Document 02, T-06: "Every call answers and leaves chip and old tables as before, proved against the old form". The old form, the calls without the table of
+-- marks, is kept here for this one promise; nothing else is defined by it.
 -- Assumes nothing.
 use Prim.Native.Nat.{ℕ, _*_}
 use mathlib.Core.Path.{_≡_}
@@ -21,10 +21,10 @@ use Rattle.rules.specs.Requests.{Request, format, read, release, requestCluster
 use Rattle.rules.specs.Format.{formatOps, formatted}
 use Rattle.rules.specs.Write.{writeOps, written}
 use Rattle.rules.specs.Release.{released}
-use Rattle.rules.specs.Replies.{Row, accessRows, badCluster, badParameter, firstRow, isAccepted, row, tooFewBlocks}
+use Rattle.rules.specs.Replies.{Row, accessRows, badCluster, badParameter, firstRow, isAccepted, row, stampRow, tooFewBlocks}
 use Rattle.rules.specs.Calls.{Outcome, answerOf, outcomeOf, readBytes}
 
--- the lent chip and the five old tables; no step but the marks' own looks at the sixth, which stands here empty
+-- the lent chip and every table but the marks; no step but the marks' own looks at theirs, which stands here empty
 pub record OldBoard : Type 0 where
   pub chip : List ℕ
   pub ct : List ℕ
@@ -32,14 +32,15 @@ pub record OldBoard : Type 0 where
   pub fst : List ℕ
   pub bst : List ℕ
   pub wear : List ℕ
+  pub stamps : List ℕ
 
 abbrev pub oldOf : Board → OldBoard
-oldOf b = record { chip = b .chip; ct = b .ct; bt = b .bt; fst = b .fst; bst = b .bst; wear = b .wear }
+oldOf b = record { chip = b .chip; ct = b .ct; bt = b .bt; fst = b .fst; bst = b .bst; wear = b .wear; stamps = b .stamps }
 
 abbrev pub withoutMarks : OldBoard → Board
-withoutMarks o = boardOf (o .chip) (o .ct) (o .bt) (o .fst) (o .bst) (o .wear) []
+withoutMarks o = boardOf (o .chip) (o .ct) (o .bt) (o .fst) (o .bst) (o .wear) [] (o .stamps)
 
--- document 01's nine rules, six lengths and rows
+-- the nine rules, the lengths and the rows without it
 unfoldable pub oldOrderly : Params → OldBoard → Bool
 oldOrderly p o = allTrue (take 9 (rulesOf p (withoutMarks o)))
 
@@ -52,6 +53,7 @@ oldLengths p o =
     ∷ eqb (length (o .fst)) (p .mu)
     ∷ eqb (length (o .bst)) (p .N)
     ∷ eqb (length (o .wear)) (p .N)
+    ∷ eqb (length (o .stamps)) (p .mu)
     ∷ [])
 
 unfoldable pub oldReply : Params → OldBoard → List (Row Reply) → Reply
@@ -85,7 +87,7 @@ oldRead p o q =
 unfoldable pub oldWrite : Params → OldBoard → Request → OldOutcome
 oldWrite p o q =
     let b = withoutMarks o in
-    oldCall o (oldReply p o (accessRows p q ++ oldOrder p o)) (q .bytes) (writeOps p b q) (looksAt p b (requestCluster p q)) (q .bytes) (oldOf (written p b q))
+    oldCall o (oldReply p o (accessRows p q ++ (oldOrder p o ++ stampRow p b q))) (q .bytes) (writeOps p b q) (looksAt p b (requestCluster p q)) (q .bytes) (oldOf (written p b q))
 
 unfoldable pub oldRelease : Params → OldBoard → ℕ → OldOutcome
 oldRelease p o c =

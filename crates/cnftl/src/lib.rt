@@ -11,10 +11,10 @@ ghost use Rattle.cnftl.specs.Listed.{Listed};
 
 // The number of this interface, which is in the name too: an object that was compiled with a header of another number does not link.
 #[no_mangle]
-pub extern "C" fn cnftl_api_1() -> u32
-    ensures { λ n. ⌜ n ≡ 1 ⌝ }
+pub extern "C" fn cnftl_api_2() -> u32
+    ensures { λ n. ⌜ n ≡ 2 ⌝ }
 {
-    1
+    2
 }
 
 // Document 01's format.
@@ -35,11 +35,12 @@ pub extern "C" fn cnftl_format(
     bst: &mut [u8],
     wear: &mut [u32],
     marks: &mut [u64],
+    stamps: &mut [u32],
 ) -> u64
-    ensures { λ word. ⌜ Given (outcomeOf (paramsOf s alpha beta d mu gamma c n) (entryBoard chip ct bt fst bst wear marks) format) word [] (exitBoard chip ct bt fst bst wear marks) ⌝ }
+    ensures { λ word. ⌜ Given (outcomeOf (paramsOf s alpha beta d mu gamma c n) (entryBoard chip ct bt fst bst wear marks stamps) format) word [] (exitBoard chip ct bt fst bst wear marks stamps) ⌝ }
 {
     let p = c_answer::params(s, alpha, beta, d, mu, gamma, c, n);
-    c_answer::pack(calls::format(p, chip, ct, bt, fst, bst, wear, marks))
+    c_answer::pack(calls::format(p, chip, ct, bt, fst, bst, wear, marks, stamps))
 }
 
 // Document 01's read.
@@ -60,15 +61,29 @@ pub extern "C" fn cnftl_read(
     bst: &[u8],
     wear: &[u32],
     marks: &[u64],
+    stamps: &[u32],
     lba: u32,
     count: u32,
     bytes: &mut [u8],
 ) -> u64
-    ensures { λ word. ⌜ Given (outcomeOf (paramsOf s alpha beta d mu gamma c n) (entryBoard chip ct bt fst bst wear marks) (read (requestOf lba count (now (bytes .entry)))))
-        word (now (bytes .exit)) (entryBoard chip ct bt fst bst wear marks) ⌝ }
+    ensures { λ word. ⌜ Given (outcomeOf (paramsOf s alpha beta d mu gamma c n) (entryBoard chip ct bt fst bst wear marks stamps) (read (requestOf lba count (now (bytes .entry)))))
+        word (now (bytes .exit)) (entryBoard chip ct bt fst bst wear marks stamps) ⌝ }
 {
     let p = c_answer::params(s, alpha, beta, d, mu, gamma, c, n);
-    c_answer::pack(calls::read(p, chip, ct, bt, fst, bst, wear, marks, lba, count, bytes))
+    c_answer::pack(calls::read(
+        p,
+        chip,
+        ct,
+        bt,
+        fst,
+        bst,
+        wear,
+        marks,
+        stamps,
+        lba,
+        count,
+        bytes,
+    ))
 }
 
 // Document 01's write.
@@ -89,15 +104,29 @@ pub extern "C" fn cnftl_write(
     bst: &mut [u8],
     wear: &mut [u32],
     marks: &mut [u64],
+    stamps: &mut [u32],
     lba: u32,
     count: u32,
     bytes: &[u8],
 ) -> u64
-    ensures { λ word. ⌜ Given (outcomeOf (paramsOf s alpha beta d mu gamma c n) (entryBoard chip ct bt fst bst wear marks) (write (requestOf lba count (now (bytes .entry)))))
-        word (now (bytes .entry)) (exitBoard chip ct bt fst bst wear marks) ⌝ }
+    ensures { λ word. ⌜ Given (outcomeOf (paramsOf s alpha beta d mu gamma c n) (entryBoard chip ct bt fst bst wear marks stamps) (write (requestOf lba count (now (bytes .entry)))))
+        word (now (bytes .entry)) (exitBoard chip ct bt fst bst wear marks stamps) ⌝ }
 {
     let p = c_answer::params(s, alpha, beta, d, mu, gamma, c, n);
-    c_answer::pack(calls::write(p, chip, ct, bt, fst, bst, wear, marks, lba, count, bytes))
+    c_answer::pack(calls::write(
+        p,
+        chip,
+        ct,
+        bt,
+        fst,
+        bst,
+        wear,
+        marks,
+        stamps,
+        lba,
+        count,
+        bytes,
+    ))
 }
 
 // Document 02's queue of writes, from flat lists.
@@ -118,12 +147,13 @@ pub extern "C" fn cnftl_queue(
     bst: &mut [u8],
     wear: &mut [u32],
     marks: &mut [u64],
+    stamps: &mut [u32],
     requests: &[u32],
     bytes: &[u8],
     answers: &mut [u64],
 ) -> u64
-    ensures { λ word. ⌜ flatOutcome word (now (answers .exit)) (exitBoard chip ct bt fst bst wear marks) ≡ flatCall (paramsOf s alpha beta d mu gamma c n)
-        (entryBoard chip ct bt fst bst wear marks) (now (requests .entry)) (now (bytes .entry)) (now (answers .entry)) ⌝ }
+    ensures { λ word. ⌜ flatOutcome word (now (answers .exit)) (exitBoard chip ct bt fst bst wear marks stamps) ≡ flatCall (paramsOf s alpha beta d mu gamma c n)
+        (entryBoard chip ct bt fst bst wear marks stamps) (now (requests .entry)) (now (bytes .entry)) (now (answers .entry)) ⌝ }
 {
     let p = c_answer::params(s, alpha, beta, d, mu, gamma, c, n);
     c_queue::queue(
@@ -135,6 +165,7 @@ pub extern "C" fn cnftl_queue(
         bst,
         wear,
         marks,
+        stamps,
         requests,
         bytes,
         answers,
@@ -159,12 +190,13 @@ pub extern "C" fn cnftl_release(
     bst: &[u8],
     wear: &[u32],
     marks: &mut [u64],
+    stamps: &mut [u32],
     cluster: u32,
 ) -> u64
-    ensures { λ word. ⌜ Given (outcomeOf (paramsOf s alpha beta d mu gamma c n) (entryBoard chip ct bt fst bst wear marks) (release cluster)) word [] (exitBoard chip ct bt fst bst wear marks) ⌝ }
+    ensures { λ word. ⌜ Given (outcomeOf (paramsOf s alpha beta d mu gamma c n) (entryBoard chip ct bt fst bst wear marks stamps) (release cluster)) word [] (exitBoard chip ct bt fst bst wear marks stamps) ⌝ }
 {
     let p = c_answer::params(s, alpha, beta, d, mu, gamma, c, n);
-    c_answer::pack(calls::release(p, chip, ct, bt, fst, bst, wear, marks, cluster))
+    c_answer::pack(calls::release(p, chip, ct, bt, fst, bst, wear, marks, stamps, cluster))
 }
 
 // Document 02's question why a sector reads so, and what a write of it would do.
@@ -185,10 +217,11 @@ pub extern "C" fn cnftl_why(
     bst: &[u8],
     wear: &[u32],
     marks: &[u64],
+    stamps: &[u32],
     lba: u32,
     list: &mut [u32],
 ) -> u64
-    ensures { λ word. ⌜ Listed (paramsOf s alpha beta d mu gamma c n) (entryBoard chip ct bt fst bst wear marks) lba (now (list .entry)) word (now (list .exit)) ⌝ }
+    ensures { λ word. ⌜ Listed (paramsOf s alpha beta d mu gamma c n) (entryBoard chip ct bt fst bst wear marks stamps) lba (now (list .entry)) word (now (list .exit)) ⌝ }
 {
     let p = c_answer::params(s, alpha, beta, d, mu, gamma, c, n);
     if list.len() != c_why::WHY_NUMBERS {
@@ -198,7 +231,7 @@ pub extern "C" fn cnftl_why(
         return 1;
     }
     c_why::tell(
-        call_why::explain(p, chip, ct, bt, fst, bst, wear, marks, lba),
+        call_why::explain(p, chip, ct, bt, fst, bst, wear, marks, stamps, lba),
         list,
     )
 }

@@ -11,11 +11,22 @@ fn take(
     bst: &mut [u8],
     wear: &mut [u32],
     marks: &mut [u64],
+    stamps: &mut [u32],
     held: Held,
     b: u8,
 ) -> Held {
     if b == b'\n' {
-        demo_serve::answer(chip, ct, bt, fst, bst, wear, marks, demo_lines::asked(held));
+        demo_serve::answer(
+            chip,
+            ct,
+            bt,
+            fst,
+            bst,
+            wear,
+            marks,
+            stamps,
+            demo_lines::asked(held),
+        );
         demo_lines::none()
     } else {
         demo_lines::push(held, b)
@@ -31,13 +42,14 @@ fn take_all(
     bst: &mut [u8],
     wear: &mut [u32],
     marks: &mut [u64],
+    stamps: &mut [u32],
     held: Held,
     s: &[u8],
 ) -> Held {
     let mut h = held;
     let mut i = 0;
     while i < s.len() {
-        h = take(chip, ct, bt, fst, bst, wear, marks, h, s[i]);
+        h = take(chip, ct, bt, fst, bst, wear, marks, stamps, h, s[i]);
         i += 1;
     }
     h
@@ -53,6 +65,7 @@ fn take_input(
     bst: &mut [u8],
     wear: &mut [u32],
     marks: &mut [u64],
+    stamps: &mut [u32],
 ) -> Held {
     let mut held = demo_lines::none();
     let mut buf = io::buffer();
@@ -64,7 +77,18 @@ fn take_input(
         if n == 0 {
             return held;
         }
-        held = take_all(chip, ct, bt, fst, bst, wear, marks, held, &chunk[..n]);
+        held = take_all(
+            chip,
+            ct,
+            bt,
+            fst,
+            bst,
+            wear,
+            marks,
+            stamps,
+            held,
+            &chunk[..n],
+        );
         turns -= 1;
     }
     held
@@ -79,10 +103,21 @@ fn session(
     bst: &mut [u8],
     wear: &mut [u32],
     marks: &mut [u64],
+    stamps: &mut [u32],
 ) {
-    let held = take_input(chip, ct, bt, fst, bst, wear, marks);
+    let held = take_input(chip, ct, bt, fst, bst, wear, marks, stamps);
     if demo_lines::is_begun(held) {
-        demo_serve::answer(chip, ct, bt, fst, bst, wear, marks, demo_lines::asked(held));
+        demo_serve::answer(
+            chip,
+            ct,
+            bt,
+            fst,
+            bst,
+            wear,
+            marks,
+            stamps,
+            demo_lines::asked(held),
+        );
     }
 }
 
@@ -94,6 +129,7 @@ fn main() {
     let mut bst = [0u8; 5];
     let mut wear = [0u32; 5];
     let mut marks = [0u64; 16];
+    let mut stamps = [0u32; 2];
     demo_serve::start(
         &mut chip,
         &mut ct,
@@ -102,6 +138,7 @@ fn main() {
         &mut bst,
         &mut wear,
         &mut marks,
+        &mut stamps,
     );
     session(
         &mut chip,
@@ -111,5 +148,6 @@ fn main() {
         &mut bst,
         &mut wear,
         &mut marks,
+        &mut stamps,
     );
 }

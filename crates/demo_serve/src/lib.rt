@@ -47,11 +47,12 @@ fn write(
     bst: &mut [u8],
     wear: &mut [u32],
     marks: &mut [u64],
+    stamps: &mut [u32],
     lba: u32,
     count: u32,
     value: u8,
 )
-    ensures { λ _. ⌜ Turned (Line.Write lba count value) (entryBoard chip ct bt fst bst wear marks) (exitBoard chip ct bt fst bst wear marks) ⌝ }
+    ensures { λ _. ⌜ Turned (Line.Write lba count value) (entryBoard chip ct bt fst bst wear marks stamps) (exitBoard chip ct bt fst bst wear marks stamps) ⌝ }
 {
     let bytes = demo_board::filled(value);
     let n = demo_board::lent(count);
@@ -64,6 +65,7 @@ fn write(
         bst,
         wear,
         marks,
+        stamps,
         lba,
         count,
         &bytes[..n],
@@ -80,6 +82,7 @@ fn read_into(
     bst: &[u8],
     wear: &[u32],
     marks: &[u64],
+    stamps: &[u32],
     lba: u32,
     count: u32,
     bytes: &mut [u8],
@@ -95,6 +98,7 @@ fn read_into(
         bst,
         wear,
         marks,
+        stamps,
         lba,
         count,
         bytes,
@@ -111,6 +115,7 @@ fn read(
     bst: &[u8],
     wear: &[u32],
     marks: &[u64],
+    stamps: &[u32],
     lba: u32,
     count: u32,
 ) {
@@ -124,6 +129,7 @@ fn read(
         bst,
         wear,
         marks,
+        stamps,
         lba,
         count,
         &mut bytes[..n],
@@ -139,16 +145,29 @@ pub fn answer(
     bst: &mut [u8],
     wear: &mut [u32],
     marks: &mut [u64],
+    stamps: &mut [u32],
     line: Line,
 )
-    ensures { λ _. ⌜ Turned line (entryBoard chip ct bt fst bst wear marks) (exitBoard chip ct bt fst bst wear marks) ⌝ }
+    ensures { λ _. ⌜ Turned line (entryBoard chip ct bt fst bst wear marks stamps) (exitBoard chip ct bt fst bst wear marks stamps) ⌝ }
 {
     match line {
         Line::Write(lba, count, value) => {
-            write(chip, ct, bt, fst, bst, wear, marks, lba, count, value);
+            write(
+                chip,
+                ct,
+                bt,
+                fst,
+                bst,
+                wear,
+                marks,
+                stamps,
+                lba,
+                count,
+                value,
+            );
         }
         Line::Read(lba, count) => {
-            read(chip, ct, bt, fst, bst, wear, marks, lba, count);
+            read(chip, ct, bt, fst, bst, wear, marks, stamps, lba, count);
         }
         Line::Other => {
             say_unknown();
@@ -165,10 +184,21 @@ pub fn start(
     bst: &mut [u8],
     wear: &mut [u32],
     marks: &mut [u64],
+    stamps: &mut [u32],
 )
     requires { ⌜ length (now marks) ≡ 16 ⌝ }
-    ensures { λ _. ⌜ Started (entryBoard chip ct bt fst bst wear marks) (exitBoard chip ct bt fst bst wear marks) ⌝ }
+    ensures { λ _. ⌜ Started (entryBoard chip ct bt fst bst wear marks stamps) (exitBoard chip ct bt fst bst wear marks stamps) ⌝ }
 {
-    let a = calls::format(demo_board::board(), chip, ct, bt, fst, bst, wear, marks);
+    let a = calls::format(
+        demo_board::board(),
+        chip,
+        ct,
+        bt,
+        fst,
+        bst,
+        wear,
+        marks,
+        stamps,
+    );
     say_format(a);
 }

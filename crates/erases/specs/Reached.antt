@@ -38,6 +38,7 @@ blankSmall =
       bst = replicate 5 0;
       wear = replicate 5 0;
       marks = replicate 16 0;
+      stamps = replicate 2 0;
     }
 
 unfoldable pub puts : ℕ → Call

@@ -22,12 +22,13 @@ pub fn head_of(
     bst: &[u8],
     wear: &[u32],
     marks: &[u64],
+    stamps: &[u32],
     items: usize,
     answers: usize,
 ) -> Head
-    ensures { λ h. ⌜ HeadIs p (entryBoard chip ct bt fst bst wear marks) items answers h ⌝ }
+    ensures { λ h. ⌜ HeadIs p (entryBoard chip ct bt fst bst wear marks stamps) items answers h ⌝ }
 {
-    let board = replies::board_reply(p, chip, ct, bt, fst, bst, wear, marks);
+    let board = replies::board_reply(p, chip, ct, bt, fst, bst, wear, marks, stamps);
     if rules::number(board) != 0 {
         return Head {
             reply: board,
@@ -61,13 +62,26 @@ pub fn head_flat(
     bst: &[u8],
     wear: &[u32],
     marks: &[u64],
+    stamps: &[u32],
     len: usize,
     answers: usize,
 ) -> Head
-    ensures { λ h. ⌜ FlatHead p (entryBoard chip ct bt fst bst wear marks) len answers h ⌝ }
+    ensures { λ h. ⌜ FlatHead p (entryBoard chip ct bt fst bst wear marks stamps) len answers h ⌝ }
 {
     if len % 3 == 0 {
-        return head_of(p, chip, ct, bt, fst, bst, wear, marks, len / 3, answers);
+        return head_of(
+            p,
+            chip,
+            ct,
+            bt,
+            fst,
+            bst,
+            wear,
+            marks,
+            stamps,
+            len / 3,
+            answers,
+        );
     }
     if chip_sizes::parameters_allowed(p) {
         return Head {

@@ -27,9 +27,9 @@ use Rattle.queue_head.specs.Heads.{Ready}
 use Rattle.queue_item.specs.Items.{ItemIs}
 
 -- what the reply of an item promises
-abbrev Replied : Params → Bool → ℕ → ℕ → Bool → Reply → Type 0
-Replied p ordered lba count fits r =
-    (b : Board) (q : Request) → lengthsFit p b ≡ true → ordered ≡ orderly p b → q .lba ≡ lba → q .count ≡ count
+abbrev Replied : Params → Bool → List ℕ → ℕ → ℕ → Bool → Reply → Type 0
+Replied p ordered stamps lba count fits r =
+    (b : Board) (q : Request) → lengthsFit p b ≡ true → ordered ≡ orderly p b → b .stamps ≡ stamps → q .lba ≡ lba → q .count ≡ count
     → (badCount p q ≡ false → wrongData p q ≡ not fits) → r ≡ replyOf p b (write q)
 
 module _ (p : Params) (ordered : Bool) (b : Board) (y : Ready p ordered b) (bytes : List ℕ) (it : Item) where
@@ -37,11 +37,11 @@ module _ (p : Params) (ordered : Bool) (b : Board) (y : Ready p ordered b) (byte
   abbrev request : Request
   request = itemRequest p bytes it
 
-  -- replied by its count, its address, whether its bytes lie there, and the flag
-  module _ (fits : Bool) (fit : fits ≡ lies p bytes it) (r : Reply) (replied : Replied p ordered (it .lba) (it .count) fits r) (n : ℕ) (m : n ≡ numberOf r) where
+  -- replied by its count, its address, whether its bytes lie there, the flag, and the last stamps
+  module _ (fits : Bool) (fit : fits ≡ lies p bytes it) (r : Reply) (replied : Replied p ordered (b .stamps) (it .lba) (it .count) fits r) (n : ℕ) (m : n ≡ numberOf r) where
     is : r ≡ replyOf p b (write request)
     unfolding itemRequest
-    is = replied b request (y .lengths) (y .order) refl refl (λ e. item-data p bytes it (y .fine) e ∙ ap not (sym fit))
+    is = replied b request (y .lengths) (y .order) refl refl refl (λ e. item-data p bytes it (y .fine) e ∙ ap not (sym fit))
 
     pub item-refused : (n ≡ 0 → ⊥) → (a : Answer) → a ≡ answerOf r [] 0 → ItemIs p ordered b bytes it a b
     unfolding itemOutcome

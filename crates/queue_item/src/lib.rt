@@ -22,7 +22,7 @@ fn has_bytes(p: Params, len: usize, count: u32, first: u32) -> bool
     first as usize + count as usize * p.s <= len
 }
 
-// One item: refused by its count, its address, its bytes or the state, in this order, else written.
+// One item: refused by its count, its address, its bytes, the state or its region's last stamp, in this order, else written.
 pub fn item(
     p: Params,
     chip: &mut [u8],
@@ -32,17 +32,18 @@ pub fn item(
     bst: &mut [u8],
     wear: &mut [u32],
     marks: &mut [u64],
+    stamps: &mut [u32],
     ordered: bool,
     lba: u32,
     count: u32,
     first: u32,
     bytes: &[u8],
 ) -> Answer
-    requires { ⌜ Ready p ordered (boardOf (now chip) (now ct) (now bt) (now fst) (now bst) (now wear) (now marks)) ⌝ }
-    ensures { λ a. ⌜ ItemIs p ordered (entryBoard chip ct bt fst bst wear marks) (now (bytes .entry)) (itemOf lba count first) a (exitBoard chip ct bt fst bst wear marks) ⌝ }
+    requires { ⌜ Ready p ordered (boardOf (now chip) (now ct) (now bt) (now fst) (now bst) (now wear) (now marks) (now stamps)) ⌝ }
+    ensures { λ a. ⌜ ItemIs p ordered (entryBoard chip ct bt fst bst wear marks stamps) (now (bytes .entry)) (itemOf lba count first) a (exitBoard chip ct bt fst bst wear marks stamps) ⌝ }
 {
     let fits = has_bytes(p, bytes.len(), count, first);
-    let reply = reply_rows::item_reply(p, ordered, lba, count, fits);
+    let reply = reply_rows::item_reply(p, ordered, stamps, lba, count, fits);
     if rules::number(reply) != 0 {
         return reply_rows::idle(reply);
     }
@@ -57,6 +58,7 @@ pub fn item(
         bst,
         wear,
         marks,
+        stamps,
         lba as usize,
         count as usize,
         &bytes[from..to],

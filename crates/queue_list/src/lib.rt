@@ -18,11 +18,12 @@ pub fn queue(
     bst: &mut [u8],
     wear: &mut [u32],
     marks: &mut [u64],
+    stamps: &mut [u32],
     requests: &[Item],
     bytes: &[u8],
     answers: &mut [Answer],
 ) -> Answer
-    ensures { λ a. ⌜ outcome a (now (bytes .entry)) (now (answers .exit)) (exitBoard chip ct bt fst bst wear marks) ≡ outcomeOf p (entryBoard chip ct bt fst bst wear marks)
+    ensures { λ a. ⌜ outcome a (now (bytes .entry)) (now (answers .exit)) (exitBoard chip ct bt fst bst wear marks stamps) ≡ outcomeOf p (entryBoard chip ct bt fst bst wear marks stamps)
         (queue (queueOf (now (requests .entry)) (now (bytes .entry)) (now (answers .entry)))) ⌝ }
 {
     let h = queue_head::head_of(
@@ -34,6 +35,7 @@ pub fn queue(
         bst,
         wear,
         marks,
+        stamps,
         requests.len(),
         answers.len(),
     );
@@ -49,6 +51,7 @@ pub fn queue(
             bst,
             wear,
             marks,
+            stamps,
             h.ordered,
             q.lba,
             q.count,

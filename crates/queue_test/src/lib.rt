@@ -29,13 +29,14 @@ fn two(
     bst: &mut [u8],
     wear: &mut [u32],
     marks: &mut [u64],
+    stamps: &mut [u32],
     a: Item,
     b: Item,
     bytes: &[u8],
     blank: Answer,
 ) -> Pair
-    ensures { λ r. ⌜ outcome (r .own) (now (bytes .entry)) (r .first ∷ r .second ∷ []) (exitBoard chip ct bt fst bst wear marks)
-        ≡ outcomeOf p (entryBoard chip ct bt fst bst wear marks) (queue (queueOf (a ∷ b ∷ []) (now (bytes .entry)) (blank ∷ blank ∷ []))) ⌝ }
+    ensures { λ r. ⌜ outcome (r .own) (now (bytes .entry)) (r .first ∷ r .second ∷ []) (exitBoard chip ct bt fst bst wear marks stamps)
+        ≡ outcomeOf p (entryBoard chip ct bt fst bst wear marks stamps) (queue (queueOf (a ∷ b ∷ []) (now (bytes .entry)) (blank ∷ blank ∷ []))) ⌝ }
 {
     let requests = [a, b];
     let mut answers = [blank, blank];
@@ -48,6 +49,7 @@ fn two(
         bst,
         wear,
         marks,
+        stamps,
         &requests,
         bytes,
         &mut answers,
@@ -69,6 +71,7 @@ pub fn queue_two(
     bst: &mut [u8],
     wear: &mut [u32],
     marks: &mut [u64],
+    stamps: &mut [u32],
     lba: u32,
     count: u32,
     first: u32,
@@ -77,8 +80,8 @@ pub fn queue_two(
     first2: u32,
     bytes: &[u8],
 ) -> Pair
-    ensures { λ r. ⌜ outcome (r .own) (now (bytes .entry)) (r .first ∷ r .second ∷ []) (exitBoard chip ct bt fst bst wear marks)
-        ≡ outcomeOf p (entryBoard chip ct bt fst bst wear marks) (queue (queueOf (itemOf lba count first ∷ itemOf lba2 count2 first2 ∷ []) (now (bytes .entry)) (unset ∷ unset ∷ []))) ⌝ }
+    ensures { λ r. ⌜ outcome (r .own) (now (bytes .entry)) (r .first ∷ r .second ∷ []) (exitBoard chip ct bt fst bst wear marks stamps)
+        ≡ outcomeOf p (entryBoard chip ct bt fst bst wear marks stamps) (queue (queueOf (itemOf lba count first ∷ itemOf lba2 count2 first2 ∷ []) (now (bytes .entry)) (unset ∷ unset ∷ []))) ⌝ }
 {
     let a = Item {
         lba: lba,
@@ -96,7 +99,21 @@ pub fn queue_two(
         erases: 0,
         looks: 0,
     };
-    two(p, chip, ct, bt, fst, bst, wear, marks, a, b, bytes, blank)
+    two(
+        p,
+        chip,
+        ct,
+        bt,
+        fst,
+        bst,
+        wear,
+        marks,
+        stamps,
+        a,
+        b,
+        bytes,
+        blank,
+    )
 }
 
 // Both answers' numbers in the first places, and then their counts of spare areas, where there are four places or more.
@@ -129,6 +146,7 @@ pub extern "C" fn cnftl_queue_two(
     bst: &mut [u8],
     wear: &mut [u32],
     marks: &mut [u64],
+    stamps: &mut [u32],
     lba: u32,
     count: u32,
     first: u32,
@@ -138,9 +156,9 @@ pub extern "C" fn cnftl_queue_two(
     bytes: &[u8],
     answers: &mut [u64],
 ) -> u64
-    ensures { λ word. ⌜ Two (outcomeOf (paramsOf s alpha beta d mu gamma c n) (entryBoard chip ct bt fst bst wear marks)
+    ensures { λ word. ⌜ Two (outcomeOf (paramsOf s alpha beta d mu gamma c n) (entryBoard chip ct bt fst bst wear marks stamps)
         (queue (queueOf (itemOf lba count first ∷ itemOf lba2 count2 first2 ∷ []) (now (bytes .entry)) (unset ∷ unset ∷ [])))) (now (bytes .entry)) (now (answers .entry)) word
-        (now (answers .exit)) (exitBoard chip ct bt fst bst wear marks) ⌝ }
+        (now (answers .exit)) (exitBoard chip ct bt fst bst wear marks stamps) ⌝ }
 {
     let p = c_answer::params(s, alpha, beta, d, mu, gamma, c, n);
     let r = queue_two(
@@ -152,6 +170,7 @@ pub extern "C" fn cnftl_queue_two(
         bst,
         wear,
         marks,
+        stamps,
         lba,
         count,
         first,

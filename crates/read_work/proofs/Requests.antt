@@ -41,8 +41,8 @@ module _ (p : Params) (chip ct bt : List ℕ) (lba count : ℕ) (bytes : List �
   pub run-asked : (j : ℕ) → j ≡ sectorOf p lba → RunAsked p chip kept frame j count bytes
   run-asked j e = record { source = source p chip ct bt ct (clusterOf p lba) (a .lookup) kept frame s; inside = rw e (a .inside); size = a .size }
 
-  pub read-is : (j : ℕ) → j ≡ sectorOf p lba → (fst bst wear marks : List ℕ)
-      → joinBelow count (λ i. sectorFrom p chip kept frame (j + i)) ≡ readBytes p (boardOf chip ct bt fst bst wear marks) (requestOf lba count bytes)
+  pub read-is : (j : ℕ) → j ≡ sectorOf p lba → (fst bst wear marks stamps : List ℕ)
+      → joinBelow count (λ i. sectorFrom p chip kept frame (j + i)) ≡ readBytes p (boardOf chip ct bt fst bst wear marks stamps) (requestOf lba count bytes)
   unfolding readBytes sector
-  read-is j e fst bst wear marks =
+  read-is j e fst bst wear marks stamps =
       join-cong count _ _ (λ i h. rw e (sector-same p chip ct bt fst (clusterOf p lba) (a .lookup) kept frame s (sectorOf p lba + i) (omega (arith, a .inside))))

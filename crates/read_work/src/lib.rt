@@ -126,7 +126,7 @@ pub fn read_sectors(
     bytes: &mut [u8],
 ) -> u32
     requires { ⌜ ReadAsked p (now chip) (now ct) (now bt) lba count (now bytes) ⌝ }
-    ensures { λ _. ⌜ ((fst bst wear marks : List ℕ) → now (bytes .exit) ≡ readBytes p (boardOf (now (chip .entry)) (now (ct .entry)) (now (bt .entry)) fst bst wear marks)
+    ensures { λ _. ⌜ ((fst bst wear marks stamps : List ℕ) → now (bytes .exit) ≡ readBytes p (boardOf (now (chip .entry)) (now (ct .entry)) (now (bt .entry)) fst bst wear marks stamps)
         (requestOf lba count (now (bytes .entry)))) ⌝ }
     ensures { λ looks. ⌜ Looked p (now (chip .entry)) (now (ct .entry)) (now (bt .entry)) (clusterOf p lba) looks ⌝ }
 {

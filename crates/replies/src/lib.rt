@@ -21,8 +21,9 @@ pub fn board_reply(
     bst: &[u8],
     wear: &[u32],
     marks: &[u64],
+    stamps: &[u32],
 ) -> Reply
-    ensures { λ r. ⌜ r ≡ firstRow Reply.Accepted (lentRows p (entryBoard chip ct bt fst bst wear marks)) ⌝ }
+    ensures { λ r. ⌜ r ≡ firstRow Reply.Accepted (lentRows p (entryBoard chip ct bt fst bst wear marks stamps)) ⌝ }
 {
     if !chip_sizes::parameters_allowed(p) {
         return Reply::BadParameter;
@@ -36,6 +37,7 @@ pub fn board_reply(
         bst.len(),
         wear.len(),
         marks.len(),
+        stamps.len(),
     ) {
         return Reply::WrongLength;
     }
@@ -54,8 +56,8 @@ pub fn state_reply(
 ) -> Reply
     requires { ⌜ Lengths p (now chip) (now ct) (now bt) (now fst) (now bst) ⌝ }
     requires { ⌜ length (now marks) ≡ marksLength p ⌝ }
-    ensures { λ r. ⌜ ((wear : List ℕ) → r ≡ firstRow Reply.Accepted
-        (orderRow p (boardOf (now (chip .entry)) (now (ct .entry)) (now (bt .entry)) (now (fst .entry)) (now (bst .entry)) wear (now (marks .entry))))) ⌝ }
+    ensures { λ r. ⌜ ((wear stamps : List ℕ) → r ≡ firstRow Reply.Accepted
+        (orderRow p (boardOf (now (chip .entry)) (now (ct .entry)) (now (bt .entry)) (now (fst .entry)) (now (bst .entry)) wear (now (marks .entry)) stamps))) ⌝ }
 {
     if check_board::in_order(p, chip, ct, bt, fst, bst, marks) {
         return Reply::Accepted;
@@ -63,8 +65,8 @@ pub fn state_reply(
     Reply::NotOrderly
 }
 
-// The reply to a read or a write of `count` sectors from LBA on, with `len` bytes of data.
-pub fn access_reply(
+// The reply to a read of `count` sectors from LBA on, with `len` bytes of data.
+pub fn read_reply(
     p: Params,
     chip: &[u8],
     ct: &[u16],
@@ -73,14 +75,14 @@ pub fn access_reply(
     bst: &[u8],
     wear: &[u32],
     marks: &[u64],
+    stamps: &[u32],
     lba: u32,
     count: u32,
     len: usize,
 ) -> Reply
-    ensures { λ r. ⌜ ((q : Request) → q .lba ≡ lba → q .count ≡ count → length (q .bytes) ≡ len → r ≡ replyOf p (entryBoard chip ct bt fst bst wear marks) (read q)) ⌝ }
-    ensures { λ r. ⌜ ((q : Request) → q .lba ≡ lba → q .count ≡ count → length (q .bytes) ≡ len → r ≡ replyOf p (entryBoard chip ct bt fst bst wear marks) (write q)) ⌝ }
+    ensures { λ r. ⌜ ((q : Request) → q .lba ≡ lba → q .count ≡ count → length (q .bytes) ≡ len → r ≡ replyOf p (entryBoard chip ct bt fst bst wear marks stamps) (read q)) ⌝ }
 {
-    let head = board_reply(p, chip, ct, bt, fst, bst, wear, marks);
+    let head = board_reply(p, chip, ct, bt, fst, bst, wear, marks, stamps);
     if rules::number(head) != 0 {
         return head;
     }
@@ -89,6 +91,43 @@ pub fn access_reply(
         return asked;
     }
     state_reply(p, chip, ct, bt, fst, bst, marks)
+}
+
+// The reply to a write of them: a read's, and 9 where its region has no stamp left.
+pub fn write_reply(
+    p: Params,
+    chip: &[u8],
+    ct: &[u16],
+    bt: &[u16],
+    fst: &[u16],
+    bst: &[u8],
+    wear: &[u32],
+    marks: &[u64],
+    stamps: &[u32],
+    lba: u32,
+    count: u32,
+    len: usize,
+) -> Reply
+    ensures { λ r. ⌜ ((q : Request) → q .lba ≡ lba → q .count ≡ count → length (q .bytes) ≡ len → r ≡ replyOf p (entryBoard chip ct bt fst bst wear marks stamps) (write q)) ⌝ }
+{
+    let reply = read_reply(
+        p,
+        chip,
+        ct,
+        bt,
+        fst,
+        bst,
+        wear,
+        marks,
+        stamps,
+        lba,
+        count,
+        len,
+    );
+    if rules::number(reply) != 0 {
+        return reply;
+    }
+    reply_rows::stamp_reply(p, stamps, lba)
 }
 
 // The reply to a release of cluster c.
@@ -101,11 +140,12 @@ pub fn release_reply(
     bst: &[u8],
     wear: &[u32],
     marks: &[u64],
+    stamps: &[u32],
     c: u32,
 ) -> Reply
-    ensures { λ r. ⌜ r ≡ replyOf p (entryBoard chip ct bt fst bst wear marks) (release c) ⌝ }
+    ensures { λ r. ⌜ r ≡ replyOf p (entryBoard chip ct bt fst bst wear marks stamps) (release c) ⌝ }
 {
-    let head = board_reply(p, chip, ct, bt, fst, bst, wear, marks);
+    let head = board_reply(p, chip, ct, bt, fst, bst, wear, marks, stamps);
     if rules::number(head) != 0 {
         return head;
     }
@@ -125,11 +165,12 @@ pub fn why_reply(
     bst: &[u8],
     wear: &[u32],
     marks: &[u64],
+    stamps: &[u32],
     lba: u32,
 ) -> Reply
-    ensures { λ r. ⌜ r ≡ whyReply p (entryBoard chip ct bt fst bst wear marks) lba ⌝ }
+    ensures { λ r. ⌜ r ≡ whyReply p (entryBoard chip ct bt fst bst wear marks stamps) lba ⌝ }
 {
-    let head = board_reply(p, chip, ct, bt, fst, bst, wear, marks);
+    let head = board_reply(p, chip, ct, bt, fst, bst, wear, marks, stamps);
     if rules::number(head) != 0 {
         return head;
     }
@@ -149,10 +190,11 @@ pub fn format_reply(
     bst: &[u8],
     wear: &[u32],
     marks: &[u64],
+    stamps: &[u32],
 ) -> Reply
-    ensures { λ r. ⌜ r ≡ replyOf p (entryBoard chip ct bt fst bst wear marks) format ⌝ }
+    ensures { λ r. ⌜ r ≡ replyOf p (entryBoard chip ct bt fst bst wear marks stamps) format ⌝ }
 {
-    let head = board_reply(p, chip, ct, bt, fst, bst, wear, marks);
+    let head = board_reply(p, chip, ct, bt, fst, bst, wear, marks, stamps);
     if rules::number(head) != 0 {
         return head;
     }

@@ -2,21 +2,23 @@
 -- Assumes nothing.
 use mathlib.Core.Path.{_≡_, refl, sym, ap, _∙_}
 use lib.Dec.{ltb}
+use borrow.Author.Tests.{le-leb, leb-false, lt-leb}
 use mathlib.Core.Bool.{Bool, true, false, not, cond}
 use mathlib.Core.List.{List, [], _∷_, _++_}
 use native.Mathlib.Omega.{arith}
 use Prim.Native.Nat.{ℕ, _+_, _*_, _≤_, _<_}
-use native.Mathlib.Nat.{mod-lt, mul-le-mul}
+use native.Mathlib.Nat.{div-lt-iff-lt-mul, mod-lt, mul-le-mul}
 use Rattle.rules.specs.declared.Params.{Params}
 use Rattle.rules.specs.declared.Reply.{Reply}
-use Rattle.rules.specs.declared.Reply.the-variants.{Accepted, BadParameter, WrongLength, BadCount, BadAddress, WrongData, NotOrderly}
+use Rattle.rules.specs.declared.Reply.the-variants.{Accepted, BadParameter, WrongLength, BadCount, BadAddress, WrongData, NotOrderly, NoStampLeft}
 use Rattle.rules.specs.Parameters.{allowed}
-use Rattle.rules.specs.Numbers.{sectorOf}
+use Rattle.rules.specs.Numbers.{clusterOf, sectorOf}
 use Rattle.rules.specs.Orderly.{orderly}
-use Rattle.rules.specs.Tables.{Board}
-use Rattle.rules.specs.Requests.{Request}
+use Rattle.rules.specs.Tables.{Board, stampAt}
+use Rattle.rules.specs.Requests.{Request, requestRegion, write}
 use Rattle.rules.specs.Format.{goodBlocks}
-use Rattle.rules.specs.Replies.{Row, row, accessRows, badAddress, badCount, badParameter, firstRow, lengthsFit, lentRows, notOrderly, numberOf, orderRow, tooFewBlocks, wrongData, wrongLength}
+use Rattle.rules.specs.Replies.{Row, row, accessRows, badAddress, badCount, badParameter, firstRow, lengthsFit, lentRows, noStampLeft, notOrderly, numberOf, orderRow, replyOf, rowsOf, stampRow, tooFewBlocks, wrongData, wrongLength}
+use Rattle.rules.proofs.Admitted.{Checks}
 use Rattle.rules.proofs.Sizes.{sizes}
 
 -- ---- no sum and no product wraps
@@ -101,6 +103,36 @@ state-row p b ok t e is = rw (← e, is) (go t)
     go : (t : Bool) → cond t Accepted NotOrderly ≡ cond (not t) NotOrderly Accepted
     go true = refl
     go false = refl
+
+-- the same where other rows follow
+module _ (p : Params) (b : Board) (ok : Bool) (xs : List (Row Reply)) (e : ok ≡ orderly p b) where
+  pub order-here : ok ≡ false → NotOrderly ≡ firstRow Accepted (orderRow p b ++ xs)
+  unfolding orderRow firstRow notOrderly
+  order-here is = rw (← e, is)
+
+  pub after-order : ok ≡ true → (r : Reply) → r ≡ firstRow Accepted xs → r ≡ firstRow Accepted (orderRow p b ++ xs)
+  unfolding orderRow firstRow notOrderly
+  after-order is r h = rw (← e, is) h
+
+-- the row of a write's stamp, where its region's last one is t
+module _ (p : Params) (b : Board) (q : Request) (t : ℕ) (e : t ≡ stampAt (b .stamps) (requestRegion p q)) where
+  pub stamp-none : t ≡ 4294967295 → NoStampLeft ≡ firstRow Accepted (stampRow p b q)
+  unfolding stampRow firstRow noStampLeft
+  stamp-none k = rw (le-leb 4294967295 (stampAt (b .stamps) (requestRegion p q)) (omega (arith, e, k)))
+
+  pub stamp-some : t < 4294967296 → (t ≡ 4294967295 → ⊥) → Accepted ≡ firstRow Accepted (stampRow p b q)
+  unfolding stampRow firstRow noStampLeft
+  stamp-some h k = rw (lt-leb 4294967295 (stampAt (b .stamps) (requestRegion p q)) (omega (arith, e, h, k)))
+
+-- a write that passes the checks of a read gets the reply of that row
+pub write-row : (p : Params) (b : Board) (q : Request) → Checks p b q → firstRow Accepted (stampRow p b q) ≡ replyOf p b (write q)
+unfolding replyOf rowsOf lentRows accessRows orderRow firstRow badParameter wrongLength notOrderly
+write-row p b q c = rw (c .fine, c .lengths, c .count, c .address, c .given, c .tidy)
+
+-- an LBA that is not refused is one of a cluster of the board
+pub cluster-low : (p : Params) → allowed p ≡ true → (lba : ℕ) → badAddress p lba ≡ false → clusterOf p lba < p .C
+unfolding badAddress
+cluster-low p fine lba h = div-lt-iff-lt-mul ((sizes p fine) .sectors) .1 (leb-false _ _ h)
 
 -- the row of a format
 pub few-is : (p : Params) (b : Board) (k : ℕ) → k ≡ goodBlocks p (b .chip) → ltb k (p .mu * p .gamma + 1) ≡ tooFewBlocks p b

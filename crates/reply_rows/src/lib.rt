@@ -1,4 +1,4 @@
-// Document 01, "Reply numbers": the rows that look at the request alone, and the answer of a call that is refused.
+// Document 01, "Reply numbers": the rows that look at the request and at its region's last stamp alone, and the answer of a call that is refused.
 ghost use mathlib.Core.Path.{_≡_};
 ghost use mathlib.Core.Bool.{true, false, not};
 ghost use mathlib.Core.List.{[]};
@@ -7,7 +7,7 @@ ghost use Rattle.rules.specs.Parameters.{allowed};
 ghost use Rattle.rules.specs.Tables.{Board};
 ghost use Rattle.rules.specs.Orderly.{orderly};
 ghost use Rattle.rules.specs.Requests.{Request, write};
-ghost use Rattle.rules.specs.Replies.{accessRows, badAddress, badCluster, badCount, firstRow, lengthsFit, replyOf, wrongData};
+ghost use Rattle.rules.specs.Replies.{accessRows, badAddress, badCluster, badCount, firstRow, lengthsFit, numberOf, replyOf, stampRow, wrongData};
 ghost use Rattle.rules.specs.Calls.{answerOf};
 use rules::Answer;
 use rules::Params;
@@ -44,6 +44,7 @@ pub fn wrong_data(p: Params, count: u32, len: usize) -> bool
 pub fn request_reply(p: Params, lba: u32, count: u32, wrong: bool) -> Reply
     requires { ⌜ allowed p ≡ true ⌝ }
     ensures { λ r. ⌜ ((q : Request) → q .lba ≡ lba → q .count ≡ count → (badCount p q ≡ false → wrongData p q ≡ wrong) → r ≡ firstRow Reply.Accepted (accessRows p q)) ⌝ }
+    ensures { λ r. ⌜ (numberOf r ≡ 0 → badAddress p lba ≡ false) ⌝ }
 {
     if bad_count(p, lba, count) {
         return Reply::BadCount;
@@ -64,22 +65,43 @@ pub fn bad_cluster(p: Params, c: u32) -> bool
     p.C <= c as usize
 }
 
-// The reply to a write whose parameters and lengths are right, by its count, its address, whether its data has the right length, and whether the state
-// is orderly.
-pub fn item_reply(p: Params, ordered: bool, lba: u32, count: u32, fits: bool) -> Reply
+// The reply by the last stamp of the LBA's region: 9, else 0.
+pub fn stamp_reply(p: Params, stamps: &[u32], lba: u32) -> Reply
     requires { ⌜ allowed p ≡ true ⌝ }
-    ensures { λ r. ⌜ ((b : Board) (q : Request) → lengthsFit p b ≡ true → ordered ≡ orderly p b → q .lba ≡ lba → q .count ≡ count
+    requires { ⌜ badAddress p lba ≡ false ⌝ }
+    requires { ⌜ length (now stamps) ≡ p .mu ⌝ }
+    ensures { λ r. ⌜ ((b : Board) (q : Request) → b .stamps ≡ now (stamps .entry) → q .lba ≡ lba → r ≡ firstRow Reply.Accepted (stampRow p b q)) ⌝ }
+{
+    let c = rules::cluster_of(p, lba as usize);
+    if chip_tables::stamp_at(stamps, rules::region_of(p, c)) == rules::LAST_STAMP {
+        return Reply::NoStampLeft;
+    }
+    Reply::Accepted
+}
+
+// The reply to a write whose parameters and lengths are right, by its count, its address, whether its data has the right length, whether the state
+// is orderly, and the last stamps.
+pub fn item_reply(
+    p: Params,
+    ordered: bool,
+    stamps: &[u32],
+    lba: u32,
+    count: u32,
+    fits: bool,
+) -> Reply
+    requires { ⌜ allowed p ≡ true ⌝ }
+    requires { ⌜ length (now stamps) ≡ p .mu ⌝ }
+    ensures { λ r. ⌜ ((b : Board) (q : Request) → lengthsFit p b ≡ true → ordered ≡ orderly p b → b .stamps ≡ now (stamps .entry) → q .lba ≡ lba → q .count ≡ count
         → (badCount p q ≡ false → wrongData p q ≡ not fits) → r ≡ replyOf p b (write q)) ⌝ }
 {
     let asked = request_reply(p, lba, count, !fits);
     if rules::number(asked) != 0 {
         return asked;
     }
-    if ordered {
-        Reply::Accepted
-    } else {
-        Reply::NotOrderly
+    if !ordered {
+        return Reply::NotOrderly;
     }
+    stamp_reply(p, stamps, lba)
 }
 
 // The answer of a call that programs and erases nothing and looks at so many spare areas: a read.

@@ -6,7 +6,7 @@ use native.Mathlib.Nat.{div-lt-iff-lt-mul, mod-lt}
 use native.Mathlib.Omega.{arith}
 use native.Mathlib.Decide.{ℕ-discrete, decLt}
 use mathlib.Core.Bool.{Bool, true, false, cond}
-use mathlib.Core.List.{_++_}
+use mathlib.Core.List.{List, [], _++_}
 use lib.Dec.{eqb}
 use borrow.Author.Tests.{eqb-true, eqb-false, ne-eqb, ltb-false, leb-false, not-false}
 use lib.ListN.{length}
@@ -16,12 +16,13 @@ use Rattle.rules.specs.declared.Reply.{Reply}
 use Rattle.rules.specs.declared.Reply.the-variants.{Accepted}
 use Rattle.rules.specs.Parameters.{allowed}
 use Rattle.rules.specs.Numbers.{regionOf, sectorOf}
-use Rattle.rules.specs.Tables.{Board}
+use Rattle.rules.specs.Tables.{Board, stampAt}
 use Rattle.rules.specs.Regions.{view, viewOf}
 use Rattle.rules.specs.Marks.{marksOf}
 use Rattle.rules.specs.Orderly.{blocksRule, clusterRule, ctRule, fstRule, orderly, regionBlocks, regionFst, rulesOf}
 use Rattle.rules.specs.Format.{goodBlocks}
 use Rattle.rules.specs.Replies.{
+  Row,
   accessRows,
   badAddress,
   badCluster,
@@ -30,16 +31,18 @@ use Rattle.rules.specs.Replies.{
   firstRow,
   lengthsFit,
   lentRows,
+  noStampLeft,
   notOrderly,
   numberOf,
   orderRow,
   replyOf,
   rowsOf,
+  stampRow,
   tooFewBlocks,
   wrongData,
   wrongLength,
 }
-use Rattle.rules.specs.Requests.{Request, requestCluster, format, read, release, write}
+use Rattle.rules.specs.Requests.{Request, requestCluster, requestRegion, format, read, release, write}
 use Rattle.rules.proofs.RegionFacts.{regionOrderly}
 use Rattle.rules.proofs.Sizes.{Sizes, sizes}
 use Rattle.rules.proofs.TableFacts.{Tables, orderly-out, tables-in}
@@ -114,24 +117,31 @@ pub record Checks (p : Params) (b : Board) (q : Request) : Type 0 where
   pub given : wrongData p q ≡ false
   pub tidy : orderly p b ≡ true
 
-rows-checks : (p : Params) (b : Board) (q : Request) → firstRow Accepted (lentRows p b ++ (accessRows p q ++ orderRow p b)) ≡ Accepted → Checks p b q
+-- the rows of a read and of a write begin so; those that follow are passed too
+rows-checks : (p : Params) (b : Board) (q : Request) (more : List (Row Reply)) → firstRow Accepted (lentRows p b ++ (accessRows p q ++ (orderRow p b ++ more))) ≡ Accepted
+    → Checks p b q × (firstRow Accepted more ≡ Accepted)
 unfolding lentRows accessRows orderRow firstRow badParameter wrongLength notOrderly
-rows-checks p b q e =
+rows-checks p b q more e =
     let a = passed (badParameter p) _ _ (λ x. omega arith) e in
     let l = passed (wrongLength p b) _ _ (λ x. omega arith) (a .1) in
     let c = passed (badCount p q) _ _ (λ x. omega arith) (l .1) in
     let i = passed (badAddress p (q .lba)) _ _ (λ x. omega arith) (c .1) in
     let d = passed (wrongData p q) _ _ (λ x. omega arith) (i .1) in
     let o = passed (notOrderly p b) _ _ (λ x. omega arith) (d .1) in
-    record { fine = not-false _ (a .0); lengths = not-false _ (l .0); count = c .0; address = i .0; given = d .0; tidy = not-false _ (o .0) }
+    (record { fine = not-false _ (a .0); lengths = not-false _ (l .0); count = c .0; address = i .0; given = d .0; tidy = not-false _ (o .0) }, o .1)
 
 pub read-checks : (p : Params) (b : Board) (q : Request) → replyOf p b (read q) ≡ Accepted → Checks p b q
-unfolding replyOf rowsOf
-read-checks p b q e = rows-checks p b q e
+unfolding replyOf rowsOf orderRow
+read-checks p b q e = (rows-checks p b q [] e) .0
 
 pub write-checks : (p : Params) (b : Board) (q : Request) → replyOf p b (write q) ≡ Accepted → Checks p b q
 unfolding replyOf rowsOf
-write-checks p b q e = rows-checks p b q e
+write-checks p b q e = (rows-checks p b q (stampRow p b q) e) .0
+
+-- its region has a stamp left
+pub write-left : (p : Params) (b : Board) (q : Request) → replyOf p b (write q) ≡ Accepted → stampAt (b .stamps) (requestRegion p q) < 4294967295
+unfolding replyOf rowsOf stampRow firstRow noStampLeft
+write-left p b q e = leb-false _ _ ((passed (noStampLeft b (requestRegion p q)) _ _ (λ x. omega arith) ((rows-checks p b q (stampRow p b q) e) .1)) .0)
 
 pub admitted : (p : Params) (b : Board) (q : Request) → Checks p b q → Admitted p b q
 admitted p b q c =

@@ -117,6 +117,7 @@ module _ (p : Params) (b : Board) (e : replyOf p b format ≡ Accepted) where
         fstLength = length-replicate (p .mu) none;
         bstLength = tab-length (p .N) (λ n. cond (bad p (b .chip) n) 2 0);
         wearLength = wear-length (b .wear) (formatOps p (b .chip)) ∙ lengths .wearLength;
+        stampsLength = length-replicate (p .mu) 0;
         kinds = λ m h. rw (kind m h) ((two (bad p (b .chip) m)) .0);
         names = λ i h. inl (entry i);
         once = λ i j hi hj x ne. absurd (ne (entry i));

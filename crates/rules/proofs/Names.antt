@@ -3,7 +3,7 @@
 use Rattle.lists.specs.Below.{allBelow, allTrue, countBelow, firstBelow, lastBelow, leastBelow, keepBelow, joinBelow, listBelow, bitsBelow, updated}
 use Rattle.lists.specs.Parts.{part, putPart, allAre, sameList}
 use Rattle.rules.specs.Parameters.{frames, pages, pageBytes, frameBytes, blockBytes, chipBytes, perRegion, within, allowed}
-use Rattle.rules.specs.Tables.{ctAt, btEntry, btAt, fstAt, bstAt, wearAt, wordAt}
+use Rattle.rules.specs.Tables.{ctAt, btEntry, btAt, fstAt, bstAt, wearAt, wordAt, stampAt}
 use Rattle.rules.specs.Pages.{block, frame, page, spare, le32, bytes32, spareBytes, held, pageUsed, programmed, whole, holds, filled, lastIn, programmedDownTo}
 use Rattle.rules.specs.Regions.{bodyAt, viewOf, assigned, valid, validFrames, frameOf, sectorIn, sector, looksIn, looksAt}
 use Rattle.rules.specs.Marks.{wordOf, entryOf, tableOf, marked, marksIn}
@@ -55,6 +55,7 @@ use Rattle.rules.specs.Write.{
   planOps,
   followCt,
   planBst,
+  nextStamp,
   writtenBy,
   writeOps,
   written,
@@ -72,10 +73,12 @@ use Rattle.rules.specs.Replies.{
   tooFewBlocks,
   notOrderly,
   tooFewAnswers,
+  noStampLeft,
   firstRow,
   lentRows,
   accessRows,
   orderRow,
+  stampRow,
   rowsOf,
   replyOf,
   whyRows,
@@ -113,13 +116,13 @@ use Rattle.rules.specs.BoardT.{
 -- what the calls are defined by
 unfoldable pub all-rules : Unit {0}
 unfolding allBelow allTrue countBelow firstBelow lastBelow leastBelow keepBelow joinBelow listBelow bitsBelow updated part putPart allAre sameList frames pages pageBytes
-    frameBytes blockBytes chipBytes perRegion within allowed ctAt btEntry btAt fstAt bstAt wearAt wordAt block frame page spare le32 bytes32 spareBytes held pageUsed programmed whole holds
+    frameBytes blockBytes chipBytes perRegion within allowed ctAt btEntry btAt fstAt bstAt wearAt wordAt stampAt block frame page spare le32 bytes32 spareBytes held pageUsed programmed whole holds
     filled lastIn programmedDownTo bodyAt viewOf assigned valid validFrames frameOf sectorIn sector looksIn looksAt wordOf entryOf tableOf marked marksIn bstRule btRule
     onceRule named usedRule roomRule freeRule usedPages goodPages goodFrame goodUpTo blockRule regionBlocks blocksRule fullRule openRule regionFst fstRule entryRule clusterRule ctRule marksRule
     rulesOf orderly onChip onWear replayChip replayWear clean isErase programsIn erasesIn frameOps framesOps lies itemRequest itemRequests lent lentAnswers badMark bad
     goodBlocks formatOps formatted hasRoom lowestUnassigned victim planOf planVBlock copies planFrame planErases newSector newPage newFrame freeBlock planBlock eraseOps
-    roomOps planOps followCt planBst writtenBy writeOps written released isAccepted lengthsFit badParameter wrongLength badCount badAddress badCluster wrongData tooFewBlocks
-    notOrderly tooFewAnswers firstRow lentRows accessRows orderRow rowsOf replyOf whyRows whyReply answerOf single refuses does readBytes writeWork writeAll queueWork workOf
+    roomOps planOps followCt planBst nextStamp writtenBy writeOps written released isAccepted lengthsFit badParameter wrongLength badCount badAddress badCluster wrongData tooFewBlocks
+    notOrderly tooFewAnswers noStampLeft firstRow lentRows accessRows orderRow stampRow rowsOf replyOf whyRows whyReply answerOf single refuses does readBytes writeWork writeAll queueWork workOf
     opsOf over answersIn outcomeOf
 all-rules = tt
 

@@ -298,6 +298,7 @@ orderly-back p b z l o = orderly-all p b z tables (λ r k. region-out p z r (vie
           fstLength = a .fstLength;
           bstLength = a .bstLength;
           wearLength = a .wearLength;
+          stampsLength = a .stampsLength;
           kinds = λ n k. low-kind (bstAt (b .bst) n) (o .kinds n k);
           names = o .names;
           once = λ i j hi hj e ne. o .once i j hi hj ne e;

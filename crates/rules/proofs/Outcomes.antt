@@ -10,7 +10,7 @@ use borrow.Author.Tests.{eq-eqb}
 use Rattle.lists.proofs.Tests.{never}
 use Rattle.rules.specs.declared.Params.{Params}
 use Rattle.rules.specs.declared.Reply.{Reply}
-use Rattle.rules.specs.declared.Reply.the-variants.{Accepted, BadParameter, WrongLength, BadCount, BadAddress, WrongData, TooFewBlocks, NotOrderly, TooFewAnswers}
+use Rattle.rules.specs.declared.Reply.the-variants.{Accepted, BadParameter, WrongLength, BadCount, BadAddress, WrongData, TooFewBlocks, NotOrderly, TooFewAnswers, NoStampLeft}
 use Rattle.rules.specs.declared.Answer.{Answer}
 use Rattle.rules.specs.Tables.{Board}
 use Rattle.rules.specs.Regions.{looksAt}
@@ -36,6 +36,7 @@ reply-cases WrongData = inr refl
 reply-cases TooFewBlocks = inr refl
 reply-cases NotOrderly = inr refl
 reply-cases TooFewAnswers = inr refl
+reply-cases NoStampLeft = inr refl
 
 -- it is accepted if its number is 0
 pub accepted-by : (r : Reply) (n : ℕ) → n ≡ numberOf r → n ≡ 0 → r ≡ Accepted
@@ -46,7 +47,7 @@ accepted-by r n e z = go (reply-cases r)
     go (inl a) = a
     go (inr f) = absurd (never (eq-eqb (numberOf r) 0 (sym e ∙ z)) f)
 
-pub number-low : (r : Reply) → numberOf r < 9
+pub number-low : (r : Reply) → numberOf r < 10
 number-low Accepted = omega arith
 number-low BadParameter = omega arith
 number-low WrongLength = omega arith
@@ -56,6 +57,7 @@ number-low WrongData = omega arith
 number-low TooFewBlocks = omega arith
 number-low NotOrderly = omega arith
 number-low TooFewAnswers = omega arith
+number-low NoStampLeft = omega arith
 
 pub is-refused : (r : Reply) → (r ≡ Accepted → ⊥) → isAccepted r ≡ false
 is-refused r ne = go (reply-cases r)

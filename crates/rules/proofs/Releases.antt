@@ -139,6 +139,7 @@ module _ (p : Params) (b : Board) (c : ℕ) where
         fstLength = t .fstLength;
         bstLength = t .bstLength;
         wearLength = t .wearLength;
+        stampsLength = t .stampsLength;
         kinds = t .kinds;
         names = t .names;
         once = t .once;
@@ -155,8 +156,8 @@ module _ (p : Params) (b : Board) (c : ℕ) where
   pub release-same : b .marks ≡ marksOf p b → ctAt (b .ct) c ≡ none → released p b c ≡ b
   unfolding released replayChip replayWear
   release-same m e =
-      ap (λ (ct : List ℕ). finish p b [] (record { ct = ct; bt = b .bt; fst = b .fst; bst = b .bst })) (entry-stays (b .ct) c e)
-      ∙ ap (λ (marks : List ℕ). boardOf (b .chip) (b .ct) (b .bt) (b .fst) (b .bst) (b .wear) marks) (sym m)
+      ap (λ (ct : List ℕ). finish p b [] (record { ct = ct; bt = b .bt; fst = b .fst; bst = b .bst; stamps = b .stamps })) (entry-stays (b .ct) c e)
+      ∙ ap (λ (marks : List ℕ). boardOf (b .chip) (b .ct) (b .bt) (b .fst) (b .bst) (b .wear) marks (b .stamps)) (sym m)
 
   pub release-orderly : Sizes p → lengthsFit p b ≡ true → orderly p b ≡ true → orderly p (released p b c) ≡ true
   release-orderly z l o =

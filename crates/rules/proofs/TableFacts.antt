@@ -29,6 +29,7 @@ pub record Tables (p : Params) (b : Board) : Type 0 where
   pub fstLength : length (b .fst) ≡ p .mu
   pub bstLength : length (b .bst) ≡ p .N
   pub wearLength : length (b .wear) ≡ p .N
+  pub stampsLength : length (b .stamps) ≡ p .mu
   pub kinds : (n : ℕ) → n < p .N → bstAt (b .bst) n ≤ 2
   pub names : (i : ℕ) → i < p .mu * p .gamma → (btEntry (b .bt) i ≡ none) ⊎ (btEntry (b .bt) i < p .N)
   pub once : (i j : ℕ) → i < p .mu * p .gamma → j < p .mu * p .gamma → btEntry (b .bt) i ≡ btEntry (b .bt) j → (btEntry (b .bt) i ≡ none → ⊥) → i ≡ j
@@ -140,6 +141,7 @@ pub record Lengths (p : Params) (b : Board) : Type 0 where
   pub fstLength : length (b .fst) ≡ p .mu
   pub bstLength : length (b .bst) ≡ p .N
   pub wearLength : length (b .wear) ≡ p .N
+  pub stampsLength : length (b .stamps) ≡ p .mu
   pub marksLength : length (b .marks) ≡ marksLength p
 
 pub lengths-in : (p : Params) (b : Board) → lengthsFit p b ≡ true → Lengths p b
@@ -154,6 +156,7 @@ lengths-in p b l =
       bstLength = eqb-true _ _ (a .1 .1 .1 .1 .0);
       wearLength = eqb-true _ _ (a .1 .1 .1 .1 .1 .0);
       marksLength = eqb-true _ _ (a .1 .1 .1 .1 .1 .1 .0);
+      stampsLength = eqb-true _ _ (a .1 .1 .1 .1 .1 .1 .1 .0);
     }
 
 pub tables-in : (p : Params) (b : Board) → lengthsFit p b ≡ true → orderly p b ≡ true → Tables p b
@@ -168,6 +171,7 @@ tables-in p b l h =
       fstLength = a .fstLength;
       bstLength = a .bstLength;
       wearLength = a .wearLength;
+      stampsLength = a .stampsLength;
       kinds = λ n k. leb-true _ _ (all-at (p .N) (λ n. leb (bstAt (b .bst) n) 2) (t .0) n k);
       names = names-in p b (t .1 .0);
       once = once-in p b (t .1 .1 .0);
@@ -191,7 +195,7 @@ lengths-out p b t m =
         eq-eqb _ _ (t .ctLength),
         (
           eq-eqb _ _ (t .btLength),
-          (eq-eqb _ _ (t .fstLength), (eq-eqb _ _ (t .bstLength), (eq-eqb _ _ (t .wearLength), (eq-eqb _ _ (marks-long p b m), tt)))),
+          (eq-eqb _ _ (t .fstLength), (eq-eqb _ _ (t .bstLength), (eq-eqb _ _ (t .wearLength), (eq-eqb _ _ (marks-long p b m), (eq-eqb _ _ (t .stampsLength), tt))))),
         ),
       ),
     )

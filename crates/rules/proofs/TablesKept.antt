@@ -26,6 +26,7 @@ pub record Change (p : Params) (b b′ : Board) (k n : ℕ) : Type 0 where
   pub fstLength : length (b′ .fst) ≡ p .mu
   pub bstLength : length (b′ .bst) ≡ p .N
   pub wearLength : length (b′ .wear) ≡ p .N
+  pub stampsLength : length (b′ .stamps) ≡ p .mu
   pub index : k < p .mu * p .gamma
   pub low : n < p .N
   pub entryElse : (i : ℕ) → (i ≡ k → ⊥) → btEntry (b′ .bt) i ≡ btEntry (b .bt) i
@@ -144,6 +145,7 @@ module _ (p : Params) (z : Sizes p) (b b′ : Board) (t : Tables p b) (k n : ℕ
         fstLength = ch .fstLength;
         bstLength = ch .bstLength;
         wearLength = ch .wearLength;
+        stampsLength = ch .stampsLength;
         kinds = kinds;
         names = names;
         once = once;

@@ -168,6 +168,7 @@ module _ (p : Params) (b : Board) (q : Request) (acc : Admitted p b q) (r : ℕ)
         fstLength = rw length-set (acc .tables .fstLength);
         bstLength = makes .bstLength;
         wearLength = wear-length (b .wear) (planOps p b r q pl) ∙ acc .tables .wearLength;
+        stampsLength = length-set (b .stamps) r _ ∙ acc .tables .stampsLength;
         index = index-low p r (planVBlock pl) region (makes .base .ready .mine);
         low = makes .room .low;
         entryElse = effect .entryElse;

@@ -36,6 +36,7 @@ blankT n q x =
       bst = replicate n 0;
       wear = replicate n 0;
       marks = replicate 16 0;
+      stamps = replicate 2 0;
     }
 
 -- "count, byte value for all given bytes"
@@ -183,8 +184,8 @@ asSaid =
 unfoldable pub begunT : ℕ → Board
 begunT sg =
     let b = after 1 in
-    let made = boardOf (putPart 32 1 (replicate 32 255) (b .chip)) (sg ∷ replicate 5 none) (b .bt) (b .fst) (b .bst) (b .wear) [] in
-    record { chip = made .chip; ct = made .ct; bt = made .bt; fst = made .fst; bst = made .bst; wear = made .wear; marks = marksOf boardT made }
+    let made = boardOf (putPart 32 1 (replicate 32 255) (b .chip)) (sg ∷ replicate 5 none) (b .bt) (b .fst) (b .bst) (b .wear) [] (b .stamps) in
+    record { chip = made .chip; ct = made .ct; bt = made .bt; fst = made .fst; bst = made .bst; wear = made .wear; marks = marksOf boardT made; stamps = made .stamps }
 
 -- "an orderly state allows it", but CT's rule does not count it: a read of its cluster where CT has none, and where CT names its segment; what the read gives; the next
 -- write goes on behind it

@@ -27,7 +27,7 @@ goodBlocks p chip = countBelow (p .N) (λ n. not (bad p chip n))
 unfoldable pub formatOps : Params → List ℕ → List Op
 formatOps p chip = joinBelow (p .N) (λ n. cond (bad p chip n) [] (erase n ∷ []))
 
--- "Bad blocks become reserved .. All others .. become free. CT, BT and FST become none"
+-- "Bad blocks become reserved .. All others .. become free. CT, BT and FST become none"; T-07: a last stamp is "0 at format"
 unfoldable pub formatted : Params → Board → Board
 formatted p b =
     finish p b (formatOps p (b .chip))
@@ -36,4 +36,5 @@ formatted p b =
       bt = replicate (p .mu * p .gamma) none;
       fst = replicate (p .mu) none;
       bst = joinBelow (p .N) (λ n. cond (bad p (b .chip) n) 2 0 ∷ []);
+      stamps = replicate (p .mu) 0;
     })

@@ -10,10 +10,10 @@ use Rattle.rules.specs.Tables.{Board, boardOf}
 abbrev pub Lent : Type 0
 Lent = Both (RefT (List ℕ)) (RefT (List ℕ))
 
-abbrev pub entryBoard : (chip ct bt fst bst wear marks : Lent) → Board
-entryBoard chip ct bt fst bst wear marks =
-    boardOf (now (chip .entry)) (now (ct .entry)) (now (bt .entry)) (now (fst .entry)) (now (bst .entry)) (now (wear .entry)) (now (marks .entry))
+abbrev pub entryBoard : (chip ct bt fst bst wear marks stamps : Lent) → Board
+entryBoard chip ct bt fst bst wear marks stamps =
+    boardOf (now (chip .entry)) (now (ct .entry)) (now (bt .entry)) (now (fst .entry)) (now (bst .entry)) (now (wear .entry)) (now (marks .entry)) (now (stamps .entry))
 
-abbrev pub exitBoard : (chip ct bt fst bst wear marks : Lent) → Board
-exitBoard chip ct bt fst bst wear marks =
-    boardOf (now (chip .exit)) (now (ct .exit)) (now (bt .exit)) (now (fst .exit)) (now (bst .exit)) (now (wear .exit)) (now (marks .exit))
+abbrev pub exitBoard : (chip ct bt fst bst wear marks stamps : Lent) → Board
+exitBoard chip ct bt fst bst wear marks stamps =
+    boardOf (now (chip .exit)) (now (ct .exit)) (now (bt .exit)) (now (fst .exit)) (now (bst .exit)) (now (wear .exit)) (now (marks .exit)) (now (stamps .exit))

@@ -9,4 +9,4 @@ use Rattle.rules.specs.Traces.{finish}
 
 -- "its CT entry becomes none .. Where it is none already, nothing changes"
 unfoldable pub released : Params → Board → ℕ → Board
-released p b c = finish p b [] (record { ct = set (b .ct) c none; bt = b .bt; fst = b .fst; bst = b .bst })
+released p b c = finish p b [] (record { ct = set (b .ct) c none; bt = b .bt; fst = b .fst; bst = b .bst; stamps = b .stamps })

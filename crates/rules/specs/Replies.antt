@@ -9,15 +9,15 @@ use lib.Dec.{leb, ltb, eqb}
 use Rattle.lists.specs.Below.{allTrue}
 use Rattle.rules.specs.declared.Params.{Params}
 use Rattle.rules.specs.declared.Reply.{Reply}
-use Rattle.rules.specs.declared.Reply.the-variants.{Accepted, BadParameter, WrongLength, BadCount, BadAddress, WrongData, TooFewBlocks, NotOrderly, TooFewAnswers}
+use Rattle.rules.specs.declared.Reply.the-variants.{Accepted, BadParameter, WrongLength, BadCount, BadAddress, WrongData, TooFewBlocks, NotOrderly, TooFewAnswers, NoStampLeft}
 use Rattle.rules.specs.Parameters.{chipBytes, allowed}
 use Rattle.rules.specs.Numbers.{sectorOf}
-use Rattle.rules.specs.Tables.{Board, marksLength}
+use Rattle.rules.specs.Tables.{Board, marksLength, stampAt}
 use Rattle.rules.specs.Orderly.{orderly}
-use Rattle.rules.specs.Requests.{Request, Call, format, read, write, release, queue}
+use Rattle.rules.specs.Requests.{Request, requestRegion, Call, format, read, write, release, queue}
 use Rattle.rules.specs.Format.{goodBlocks}
 
--- the documents' number of each reply; 8 is T-01's
+-- the documents' number of each reply; 8 is T-01's, 9 T-07's
 abbrev pub numberOf : Reply → ℕ
 numberOf Accepted = 0
 numberOf BadParameter = 1
@@ -28,13 +28,14 @@ numberOf WrongData = 5
 numberOf TooFewBlocks = 6
 numberOf NotOrderly = 7
 numberOf TooFewAnswers = 8
+numberOf NoStampLeft = 9
 
 unfoldable pub isAccepted : Reply → Bool
 isAccepted r = eqb (numberOf r) 0
 
 -- ---- when a row applies
 
--- the chip (in bytes) and each table (in entries) has the right length; T-06: "also for the new table's length"
+-- the chip (in bytes) and each table (in entries) has the right length; T-06: "also for the new table's length", and so with T-07's
 unfoldable pub lengthsFit : Params → Board → Bool
 lengthsFit p b =
     allTrue
@@ -45,6 +46,7 @@ lengthsFit p b =
     ∷ eqb (length (b .bst)) (p .N)
     ∷ eqb (length (b .wear)) (p .N)
     ∷ eqb (length (b .marks)) (marksLength p)
+    ∷ eqb (length (b .stamps)) (p .mu)
     ∷ [])
 
 -- what a call past 1, 2 and 7 finds: the parameters are allowed, the lengths fit, and the state is orderly
@@ -89,6 +91,10 @@ notOrderly p b = not (orderly p b)
 unfoldable pub tooFewAnswers : ℕ → ℕ → Bool
 tooFewAnswers items answers = ltb answers items
 
+-- T-07: 9 "when a write's region has no stamp left": its last one is the largest of 32 bits
+unfoldable pub noStampLeft : Board → ℕ → Bool
+noStampLeft b r = leb 4294967295 (stampAt (b .stamps) r)
+
 -- ---- the table
 
 -- what is given where the row applies
@@ -114,6 +120,10 @@ accessRows p q = row (badCount p q) BadCount ∷ row (badAddress p (q .lba)) Bad
 unfoldable pub orderRow : Params → Board → List (Row Reply)
 orderRow p b = row (notOrderly p b) NotOrderly ∷ []
 
+-- T-07: "9, after 7"
+unfoldable pub stampRow : Params → Board → Request → List (Row Reply)
+stampRow p b q = row (noStampLeft b (requestRegion p q)) NoStampLeft ∷ []
+
 -- T-01: "8, after 2"; "1, 2 and 8 are for the whole call"; by the lengths of both lists
 unfoldable pub queueRows : Params → Board → ℕ → ℕ → List (Row Reply)
 queueRows p b items answers = lentRows p b ++ (row (tooFewAnswers items answers) TooFewAnswers ∷ [])
@@ -122,7 +132,7 @@ queueRows p b items answers = lentRows p b ++ (row (tooFewAnswers items answers)
 unfoldable pub rowsOf : Params → Board → Call → List (Row Reply)
 rowsOf p b format = lentRows p b ++ (row (tooFewBlocks p b) TooFewBlocks ∷ [])
 rowsOf p b (read q) = lentRows p b ++ (accessRows p q ++ orderRow p b)
-rowsOf p b (write q) = lentRows p b ++ (accessRows p q ++ orderRow p b)
+rowsOf p b (write q) = lentRows p b ++ (accessRows p q ++ (orderRow p b ++ stampRow p b q))
 rowsOf p b (release c) = lentRows p b ++ (row (badCluster p c) BadAddress ∷ orderRow p b)
 rowsOf p b (queue l) = queueRows p b (length (l .items)) (length (l .answers))
 

@@ -1,4 +1,4 @@
--- Document 01, "Numbers and tables", the tables, with document 02's table of marks. An entry past a table's end has a value too, so that every
+-- Document 01, "Numbers and tables", the tables, with document 02's marks and last stamps. An entry past a table's end has a value too, so that every
 -- definition has one for every content.
 -- Assumes nothing.
 use Prim.Native.Nat.{ℕ, _+_, _*_}
@@ -6,7 +6,7 @@ use mathlib.Core.List.{List}
 use lib.ListN.{getD}
 use Rattle.rules.specs.declared.Params.{Params}
 
--- the lent chip and the six lent tables
+-- the lent chip and the seven lent tables
 pub record Board : Type 0 where
   pub chip : List ℕ
   pub ct : List ℕ
@@ -15,10 +15,12 @@ pub record Board : Type 0 where
   pub bst : List ℕ
   pub wear : List ℕ
   pub marks : List ℕ
+  pub stamps : List ℕ
 
 -- as they are lent, one after the other
-abbrev pub boardOf : List ℕ → List ℕ → List ℕ → List ℕ → List ℕ → List ℕ → List ℕ → Board
-boardOf chip ct bt fst bst wear marks = record { chip = chip; ct = ct; bt = bt; fst = fst; bst = bst; wear = wear; marks = marks }
+abbrev pub boardOf : List ℕ → List ℕ → List ℕ → List ℕ → List ℕ → List ℕ → List ℕ → List ℕ → Board
+boardOf chip ct bt fst bst wear marks stamps =
+    record { chip = chip; ct = ct; bt = bt; fst = fst; bst = bst; wear = wear; marks = marks; stamps = stamps }
 
 -- "65,535 means none in all three"
 abbrev pub none : ℕ
@@ -56,6 +58,10 @@ markIndex p r v w = 4 * (r * p .gamma + v) + w
 
 unfoldable pub wordAt : List ℕ → ℕ → ℕ
 wordAt marks k = getD marks k 0
+
+-- T-07: "A new lent table holds each region's last stamp, 32 bits"
+unfoldable pub stampAt : List ℕ → ℕ → ℕ
+stampAt stamps r = getD stamps r 0
 
 -- what a search gives that finds nothing: each is over numbers below it
 abbrev pub notFound : ℕ

@@ -76,6 +76,7 @@ pub record NewTables : Type 0 where
   pub bt : List ℕ
   pub fst : List ℕ
   pub bst : List ℕ
+  pub stamps : List ℕ
 
 -- the board b once these operations are made, with these tables and these marks
 abbrev pub made : Params → Board → List Op → NewTables → List ℕ → Board
@@ -88,6 +89,7 @@ made p b ops t marks =
       bst = t .bst;
       wear = replayWear (b .wear) ops;
       marks = marks;
+      stamps = t .stamps;
     }
 
 -- T-06: the marks are those of the board itself

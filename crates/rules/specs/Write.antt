@@ -11,7 +11,7 @@ use Rattle.lists.specs.Parts.{part}
 use Rattle.rules.specs.declared.Params.{Params}
 use Rattle.rules.specs.Parameters.{frames}
 use Rattle.rules.specs.Numbers.{sectorOf, vblockOf, segmentOf}
-use Rattle.rules.specs.Tables.{Board, none, notFound, btAt, bstAt, wearAt}
+use Rattle.rules.specs.Tables.{Board, none, notFound, btAt, bstAt, wearAt, stampAt}
 use Rattle.rules.specs.Pages.{frame, spareBytes, held, filled}
 use Rattle.rules.specs.Regions.{View, view, assigned, validFrames, sectorIn}
 use Rattle.rules.specs.Traces.{Op, erase, frameOps, framesOps, finish}
@@ -123,6 +123,10 @@ planBst p b r (continues v f) = b .bst
 planBst p b r (opens v) = set (b .bst) (freeBlock p (b .bst) (b .wear)) 1
 planBst p b r (reclaims v) = set (set (b .bst) (freeBlock p (b .bst) (b .wear)) 1) (btAt p (b .bt) r v) 0
 
+-- T-07: "A host write takes the next"
+unfoldable pub nextStamp : Board → ℕ → ℕ
+nextStamp b r = stampAt (b .stamps) r + 1
+
 -- "BT names the new block"; "Then CT and FST name the segment just written"
 unfoldable pub writtenBy : Params → Board → ℕ → Request → Plan → Board
 writtenBy p b r q pl =
@@ -134,6 +138,7 @@ writtenBy p b r q pl =
       bt = set (b .bt) (r * p .gamma + planVBlock pl) (planBlock p b r pl);
       fst = set (b .fst) r sg;
       bst = planBst p b r pl;
+      stamps = set (b .stamps) r (nextStamp b r);
     })
 
 unfoldable pub writeOps : Params → Board → Request → List Op

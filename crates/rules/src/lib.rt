@@ -28,6 +28,9 @@ pub const NOT_FOUND: usize = 65535;
 // A page is s data bytes and then 16 spare bytes.
 pub const SPARE_BYTES: usize = 16;
 
+// The largest stamp of 32 bits: a region whose last stamp it is has none left.
+pub const LAST_STAMP: u32 = 4294967295;
+
 // BST, a byte per physical block: 0 free.
 pub const FREE: u8 = 0;
 
@@ -49,7 +52,7 @@ pub struct VBlock(pub usize);
 // A physical block number: what BT holds, an index of BST and of the wear.
 pub struct PBlock(pub usize);
 
-// Why a call is refused, or that it is accepted. `numberOf` gives the number of each: document 01's, and 8, which is document 02's.
+// Why a call is refused, or that it is accepted. `numberOf` gives the number of each: document 01's, and 8 and 9, which are document 02's.
 pub enum Reply {
     Accepted,
     BadParameter,
@@ -60,6 +63,7 @@ pub enum Reply {
     TooFewBlocks,
     NotOrderly,
     TooFewAnswers,
+    NoStampLeft,
 }
 
 // One record that holds the reply, both counts of document 01, and T-08's third: how many spare areas the search for the cluster's valid frame looks at.
@@ -91,6 +95,7 @@ pub fn number(r: Reply) -> u32
         Reply::TooFewBlocks => 6,
         Reply::NotOrderly => 7,
         Reply::TooFewAnswers => 8,
+        Reply::NoStampLeft => 9,
     }
 }
 

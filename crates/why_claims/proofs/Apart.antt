@@ -6,14 +6,14 @@ use Prim.Native.Nat.{ℕ, _-_, _<_}
 use native.Mathlib.Omega.{arith}
 use lib.ListN.{drop, getD, take}
 use Rattle.rules.specs.declared.Reply.{Reply}
-use Rattle.rules.specs.declared.Reply.the-variants.{Accepted, BadAddress, BadCount, BadParameter, NotOrderly, TooFewAnswers, TooFewBlocks, WrongData, WrongLength}
+use Rattle.rules.specs.declared.Reply.the-variants.{Accepted, BadAddress, BadCount, BadParameter, NotOrderly, TooFewAnswers, TooFewBlocks, WrongData, WrongLength, NoStampLeft}
 use Rattle.rules.specs.declared.VBlock.{VBlock}
 use Rattle.rules.specs.Replies.{numberOf}
 use Rattle.check_broken.specs.declared.Rule.{Rule}
 use Rattle.check_broken.specs.declared.Rule.the-variants.{BstValues, BtRange, Ct, FreeErased, Fst, Marks, NamedTwice, TooFewLeft, UsedBlock, UsedIfNamed}
 use Rattle.check_broken.specs.Broken.{ruleNames, ruleNumber}
 use Rattle.call_why.specs.declared.Forecast.{Forecast}
-use Rattle.call_why.specs.declared.Forecast.the-variants.{Continues, Opens, Reclaims}
+use Rattle.call_why.specs.declared.Forecast.the-variants.{Continues, NoStamp, Opens, Reclaims}
 use Rattle.call_why.specs.declared.Place.{Place}
 use Rattle.call_why.specs.declared.Why.the-variants.{Disordered, Empty, Held, Refused}
 use Rattle.call_why.specs.Why.{forecastNumbers, numbersOf, placeNumbers}
@@ -27,7 +27,7 @@ at xs ys i e = ap (λ (ns : List ℕ). getD ns i 0) e
 
 -- the replies by their numbers
 unfoldable replies : List Reply
-replies = Accepted ∷ BadParameter ∷ WrongLength ∷ BadCount ∷ BadAddress ∷ WrongData ∷ TooFewBlocks ∷ NotOrderly ∷ TooFewAnswers ∷ []
+replies = Accepted ∷ BadParameter ∷ WrongLength ∷ BadCount ∷ BadAddress ∷ WrongData ∷ TooFewBlocks ∷ NotOrderly ∷ TooFewAnswers ∷ NoStampLeft ∷ []
 
 reply-at : (r : Reply) → getD replies (numberOf r) Accepted ≡ r
 unfolding replies
@@ -40,6 +40,7 @@ reply-at WrongData = refl
 reply-at TooFewBlocks = refl
 reply-at NotOrderly = refl
 reply-at TooFewAnswers = refl
+reply-at NoStampLeft = refl
 
 reply-apart : (r r′ : Reply) → numberOf r ≡ numberOf r′ → r ≡ r′
 reply-apart r r′ e = sym (reply-at r) ∙ ap (λ (n : ℕ). getD replies n Accepted) e ∙ reply-at r′
@@ -79,6 +80,13 @@ vblock-apart v v′ e = λ i. record { 0 = e i }
 
 forecast-apart : (fc fc′ : Forecast) → forecastNumbers fc ≡ forecastNumbers fc′ → fc ≡ fc′
 unfolding forecastNumbers
+forecast-apart NoStamp NoStamp e = refl
+forecast-apart NoStamp (Continues v′ f′) e = absurd (omega (arith, at _ _ 0 e))
+forecast-apart NoStamp (Opens v′) e = absurd (omega (arith, at _ _ 0 e))
+forecast-apart NoStamp (Reclaims v′ n′) e = absurd (omega (arith, at _ _ 0 e))
+forecast-apart (Continues v f) NoStamp e = absurd (omega (arith, at _ _ 0 e))
+forecast-apart (Opens v) NoStamp e = absurd (omega (arith, at _ _ 0 e))
+forecast-apart (Reclaims v n) NoStamp e = absurd (omega (arith, at _ _ 0 e))
 forecast-apart (Continues v f) (Continues v′ f′) e = ap₂ Continues (vblock-apart v v′ (at _ _ 1 e)) (at _ _ 2 e)
 forecast-apart (Continues v f) (Opens v′) e = absurd (omega (arith, at _ _ 0 e))
 forecast-apart (Continues v f) (Reclaims v′ n′) e = absurd (omega (arith, at _ _ 0 e))
@@ -92,18 +100,21 @@ forecast-apart (Reclaims v n) (Reclaims v′ n′) e = ap₂ Reclaims (vblock-ap
 -- its four numbers in front of others; the first is not 0
 forecast-some : (fc : Forecast) (xs : List ℕ) → 0 < getD (forecastNumbers fc ++ xs) 0 0
 unfolding forecastNumbers
+forecast-some NoStamp xs = omega arith
 forecast-some (Continues v f) xs = omega arith
 forecast-some (Opens v) xs = omega arith
 forecast-some (Reclaims v n) xs = omega arith
 
 forecast-front : (fc : Forecast) (xs : List ℕ) → take 4 (forecastNumbers fc ++ xs) ≡ forecastNumbers fc
 unfolding forecastNumbers
+forecast-front NoStamp xs = refl
 forecast-front (Continues v f) xs = refl
 forecast-front (Opens v) xs = refl
 forecast-front (Reclaims v n) xs = refl
 
 forecast-after : (fc : Forecast) (xs : List ℕ) → drop 4 (forecastNumbers fc ++ xs) ≡ xs
 unfolding forecastNumbers
+forecast-after NoStamp xs = refl
 forecast-after (Continues v f) xs = refl
 forecast-after (Opens v) xs = refl
 forecast-after (Reclaims v n) xs = refl

@@ -1,24 +1,25 @@
 -- The forecast is what a write then does: the plan's numbers are those of the write's counts, of the place that it leaves the cluster at, and of the block that
 -- it opens or erases.
 -- Assumes nothing.
-use mathlib.Core.Path.{_≡_, refl, sym, _∙_}
+use mathlib.Core.Path.{_≡_, ap, refl, sym, _∙_}
 use mathlib.Core.Logic.{_⊎_, inl, inr}
-use mathlib.Core.Bool.{cond, false, true}
+use mathlib.Core.Bool.{Bool, cond, false, true}
 use mathlib.Core.List.{List, [], _++_, _∷_}
 use Prim.Native.Nat.{_*_, _+_, _/_, _<_, ℕ, suc, zero}
 use native.Mathlib.Nat.{mod-lt}
 use native.Mathlib.Omega.{arith}
-use lib.Dec.{eqb}
+use lib.Dec.{eqb, leb}
 use lib.ListN.{getD, length, length-map}
 use Rattle.rules.specs.declared.Params.{Params}
-use Rattle.rules.specs.declared.Reply.the-variants.{Accepted}
+use Rattle.rules.specs.declared.Reply.{Reply}
+use Rattle.rules.specs.declared.Reply.the-variants.{Accepted, NoStampLeft}
 use Rattle.rules.specs.Calls.{answerOf, outcomeOf}
 use Rattle.rules.specs.Numbers.{clusterOf, placeOf, segmentOf, vblockOf}
 use Rattle.rules.specs.Pages.{block, erased, lastIn}
 use Rattle.rules.specs.Regions.{View, looksAt, validFrames, view, viewOf}
-use Rattle.rules.specs.Replies.{OrderlyBoard, badAddress, badParameter, firstRow, lentRows, notOrderly, numberOf, orderRow, replyOf, whyReply, whyRows, wrongLength}
+use Rattle.rules.specs.Replies.{accessRows, badAddress, badCount, badParameter, firstRow, lentRows, noStampLeft, notOrderly, numberOf, OrderlyBoard, orderRow, replyOf, rowsOf, stampRow, whyReply, whyRows, wrongData, wrongLength}
 use Rattle.rules.specs.Requests.{Request, requestCluster, requestRegion, write}
-use Rattle.rules.specs.Tables.{Board, bstAt, btAt, ctAt, none}
+use Rattle.rules.specs.Tables.{Board, bstAt, btAt, ctAt, none, stampAt}
 use Rattle.rules.specs.Words.{PlanListed}
 use Rattle.rules.specs.Write.{Plan, continues, copies, newFrame, opens, planBlock, planBst, planErases, planFrame, planOf, planVBlock, reclaims, written, writtenBy}
 use Rattle.rules.specs.Machine.{viewAfter, withFrame, withRoom}
@@ -35,7 +36,7 @@ use Rattle.rules.proofs.Views.{block-low, free-unnamed, has-block, no-block}
 use Rattle.rules.proofs.Words.{plan-exactly}
 use Rattle.rules.proofs.Writes.{own-sheet}
 use Rattle.rules.proofs.WritePromise.{Promise, makes, write-promise}
-use Rattle.call_why.specs.Why.{forecastOf, holderOf, planNumbers, whyOf}
+use Rattle.call_why.specs.Why.{forecastIn, forecastOf, holderOf, planNumbers, whyOf}
 use Rattle.call_why.proofs.Holder.{body-is}
 use Rattle.why_claims.specs.Truths.{ForecastTrue, toldAt}
 use Rattle.why_claims.proofs.Told.{told-held}
@@ -63,6 +64,33 @@ unfolding planNumbers
 plan-last p vw (continues v f) x = refl
 plan-last p vw (opens v) x = refl
 plan-last p vw (reclaims v) x = refl
+
+-- the same of a forecast that may be the refusal
+pub forecast-last : (p : Params) (t : ℕ) (vw : View) (x : ℕ) → getD (forecastIn p t vw ++ (x ∷ [])) 4 0 ≡ x
+unfolding forecastIn
+forecast-last p t vw x = go (leb 4294967295 t)
+  where
+    go : (k : Bool) → getD (cond k (9 ∷ 0 ∷ 0 ∷ 0 ∷ []) (planNumbers p vw (planOf p vw)) ++ (x ∷ [])) 4 0 ≡ x
+    go true = refl
+    go false = plan-last p vw (planOf p vw) x
+
+-- a write that gets 9 finds no stamp left
+pub no-stamp : (p : Params) (b : Board) (q : Request) → replyOf p b (write q) ≡ NoStampLeft → leb 4294967295 (stampAt (b .stamps) (requestRegion p q)) ≡ true
+unfolding replyOf rowsOf lentRows accessRows orderRow stampRow firstRow noStampLeft
+no-stamp p b q e =
+    last (leb 4294967295 (stampAt (b .stamps) (requestRegion p q)))
+    (skip (notOrderly p b) _ _ (λ k. omega (arith, k))
+    (skip (wrongData p q) _ _ (λ k. omega (arith, k))
+    (skip (badAddress p (q .lba)) _ _ (λ k. omega (arith, k))
+    (skip (badCount p q) _ _ (λ k. omega (arith, k)) (skip (wrongLength p b) _ _ (λ k. omega (arith, k)) (skip (badParameter p) _ _ (λ k. omega (arith, k)) e))))))
+  where
+    skip : (t : Bool) (r x : Reply) → (numberOf r ≡ 9 → ⊥) → cond t r x ≡ NoStampLeft → x ≡ NoStampLeft
+    skip true r x ne k = absurd (ne (ap numberOf k))
+    skip false r x ne k = k
+
+    last : (t : Bool) → cond t NoStampLeft Accepted ≡ NoStampLeft → t ≡ true
+    last true k = refl
+    last false k = absurd (omega (arith, ap numberOf k))
 
 -- the last but one of the numbers n are those of the plan
 pub record Planned (p : Params) (vw : View) (pl : Plan) (n : ℕ → ℕ) : Type 0 where

@@ -8,9 +8,11 @@ use native.Mathlib.Nat.{div-lt-iff-lt-mul}
 use native.Mathlib.Decide.{ℕ-discrete}
 use native.Mathlib.Omega.{arith}
 use lib.ListN.{getD, take}
-use borrow.Author.Tests.{eq-eqb, leb-false, ne-eqb}
+use lib.Dec.{leb}
+use borrow.Author.Tests.{eq-eqb, leb-false, lt-leb, ne-eqb}
+use mathlib.Core.Bool.{false, true}
 use Rattle.rules.specs.declared.Params.{Params}
-use Rattle.rules.specs.declared.Reply.the-variants.{Accepted}
+use Rattle.rules.specs.declared.Reply.the-variants.{Accepted, NoStampLeft}
 use Rattle.rules.specs.Calls.{answerOf, outcomeOf}
 use Rattle.rules.specs.Numbers.{clusterOf, regionOf, sectorOf}
 use Rattle.rules.specs.Orderly.{rulesOf}
@@ -18,21 +20,22 @@ use Rattle.rules.specs.Pages.{block, frame, page}
 use Rattle.rules.specs.Regions.{View, frameOf, looksAt, sector, sectorIn, view}
 use Rattle.rules.specs.Replies.{OrderlyBoard, badAddress, numberOf, replyOf, whyReply}
 use Rattle.rules.specs.Requests.{Request, read, requestCluster, write}
-use Rattle.rules.specs.Tables.{Board, ctAt, none}
+use Rattle.rules.specs.Tables.{Board, ctAt, none, stampAt}
 use Rattle.rules.specs.Write.{planOf}
 use Rattle.rules.proofs.Continues.{segs-in}
 use Rattle.rules.proofs.Frames.{seg-low}
+use Rattle.rules.proofs.Admitted.{write-left}
 use Rattle.rules.proofs.Outcomes.{read-accepted}
 use Rattle.rules.proofs.Sizes.{Sizes, sizes}
 use Rattle.rules.proofs.Victims.{valid-in}
 use Rattle.check_broken.specs.Broken.{FirstFails}
 use Rattle.check_broken.proofs.First.{broken-rule}
 use Rattle.call_why.specs.Holder.{holderAt}
-use Rattle.call_why.specs.Why.{forecastOf, holderOf}
+use Rattle.call_why.specs.Why.{forecastIn, forecastOf, holderOf}
 use Rattle.call_why.proofs.Holder.{body-is, holder-true}
 use Rattle.call_why.proofs.Replies.{answered, disorder}
 use Rattle.why_claims.specs.Truths.{ForecastTrue, HeldTrue, NotHeldTrue, WhyTrue, toldAt}
-use Rattle.why_claims.proofs.Forecasts.{Planned, forecast-true, plan-front, plan-last, planAt}
+use Rattle.why_claims.proofs.Forecasts.{Planned, forecast-last, forecast-true, no-stamp, plan-front, planAt}
 use Rattle.why_claims.proofs.Told.{told-held, told-none, told-reply, told-rule}
 
 module _ (p : Params) (b : Board) (lba : ℕ) where
@@ -131,18 +134,21 @@ module _ (p : Params) (b : Board) (lba : ℕ) where
     seen = go (ℕ-discrete (ctAt (b .ct) (clusterOf p lba)) none)
       where
         go : Dec (ctAt (b .ct) (clusterOf p lba) ≡ none) → toldAt p b lba 12 ≡ looksAt p b (clusterOf p lba)
-        go (yes n) = rw (told-none p b lba accepted n) (plan-last p vw (planOf p vw) (looksAt p b (clusterOf p lba)))
-        go (no n) = rw (told-held p b lba accepted n) (plan-last p vw (planOf p vw) (looksAt p b (clusterOf p lba)))
+        go (yes n) = rw (told-none p b lba accepted n) (forecast-last p _ vw (looksAt p b (clusterOf p lba)))
+        go (no n) = rw (told-held p b lba accepted n) (forecast-last p _ vw (looksAt p b (clusterOf p lba)))
 
     looks-true : (q : Request) → requestCluster p q ≡ clusterOf p lba → replyOf p b (read q) ≡ Accepted → (outcomeOf p b (read q)) .answer .looks ≡ toldAt p b lba 12
     unfolding answerOf
     looks-true q is a = rw (read-accepted p b q a, is) (sym seen)
 
-    planned : Planned p vw (planOf p vw) (toldAt p b lba)
-    planned = go (ℕ-discrete (ctAt (b .ct) (clusterOf p lba)) none)
+    abbrev last-stamp : ℕ
+    last-stamp = stampAt (b .stamps) (regionOf p (clusterOf p lba))
+
+    planned : leb 4294967295 last-stamp ≡ false → Planned p vw (planOf p vw) (toldAt p b lba)
+    planned left = go (ℕ-discrete (ctAt (b .ct) (clusterOf p lba)) none)
       where
         front : (i : ℕ) → i < 4 → getD (forecastOf p b (clusterOf p lba) ++ (looksAt p b (clusterOf p lba) ∷ [])) i 0 ≡ planAt p vw (planOf p vw) i
-        front i h = unfold forecastOf in plan-front p vw (planOf p vw) (looksAt p b (clusterOf p lba)) i h
+        front i h = unfold forecastOf forecastIn in rw left (plan-front p vw (planOf p vw) (looksAt p b (clusterOf p lba)) i h)
 
         go : Dec (ctAt (b .ct) (clusterOf p lba) ≡ none) → Planned p vw (planOf p vw) (toldAt p b lba)
         go (yes n) =
@@ -155,7 +161,18 @@ module _ (p : Params) (b : Board) (lba : ℕ) where
             record { kind = rw w (front 0 (omega arith)); vblock = rw w (front 1 (omega arith)); frame = rw w (front 2 (omega arith)); count = rw w (front 3 (omega arith)) }
 
     forecast : (q : Request) → requestCluster p q ≡ clusterOf p lba → replyOf p b (write q) ≡ Accepted → ForecastTrue p b lba (toldAt p b lba) (outcomeOf p b (write q))
-    forecast q is a = forecast-true p b q a lba ((answered p b lba accepted) .low) is (toldAt p b lba) (rw is planned) (rw is seen)
+    forecast q is a = forecast-true p b q a lba ((answered p b lba accepted) .low) is (toldAt p b lba) (rw is (planned (rw is at (lt-leb 4294967295 _ (write-left p b q a))))) (rw is seen)
+
+    refused : (q : Request) → requestCluster p q ≡ clusterOf p lba → replyOf p b (write q) ≡ NoStampLeft → toldAt p b lba 8 ≡ 9
+    unfolding toldAt holderOf forecastOf forecastIn
+    refused q is a = go (ℕ-discrete (ctAt (b .ct) (clusterOf p lba)) none)
+      where
+        none-left : leb 4294967295 last-stamp ≡ true
+        none-left = rw is at (no-stamp p b q a)
+
+        go : Dec (ctAt (b .ct) (clusterOf p lba) ≡ none) → toldAt p b lba 8 ≡ 9
+        go (yes n) = rw (told-none p b lba accepted n, none-left)
+        go (no n) = rw (told-held p b lba accepted n, none-left)
 
 pub why-true : (p : Params) (b : Board) (lba : ℕ) → WhyTrue p b lba
 why-true p b lba = record {
@@ -165,5 +182,6 @@ why-true p b lba = record {
   held = held-true p b lba;
   notHeld = not-held-true p b lba;
   forecast = forecast p b lba;
+  refused = refused p b lba;
   looks = looks-true p b lba;
 }

@@ -9,7 +9,7 @@ use Prim.Native.Nat.{_*_, _+_, _-_, _<_, ℕ}
 use lib.Dec.{eqb}
 use lib.ListN.{getD, length, replicate, take}
 use Rattle.rules.specs.declared.Params.{Params}
-use Rattle.rules.specs.declared.Reply.the-variants.{Accepted}
+use Rattle.rules.specs.declared.Reply.the-variants.{Accepted, NoStampLeft}
 use Rattle.rules.specs.Calls.{Outcome, outcomeOf}
 use Rattle.rules.specs.Numbers.{clusterOf, regionOf, sectorOf, vblockOf}
 use Rattle.rules.specs.Orderly.{rulesOf}
@@ -81,6 +81,8 @@ pub record AnswerTrue (p : Params) (b : Board) (lba : ℕ) (n : ℕ → ℕ) : T
   pub notHeld : n 0 ≡ 0 → n 2 ≡ 0 → NotHeldTrue p b (clusterOf p lba) (sectorOf p lba)
   -- "what a write would do": any write of the cluster that is accepted
   pub forecast : n 0 ≡ 0 → (q : Request) → requestCluster p q ≡ clusterOf p lba → replyOf p b (write q) ≡ Accepted → ForecastTrue p b lba n (outcomeOf p b (write q))
+  -- T-12: "T-05's forecast gives 9 .. too": any write of it that is refused so
+  pub refused : n 0 ≡ 0 → (q : Request) → requestCluster p q ≡ clusterOf p lba → replyOf p b (write q) ≡ NoStampLeft → n 8 ≡ 9
   -- T-08: and any read of it
   pub looks : n 0 ≡ 0 → (q : Request) → requestCluster p q ≡ clusterOf p lba → replyOf p b (read q) ≡ Accepted → (outcomeOf p b (read q)) .answer .looks ≡ n 12
 

@@ -21,8 +21,8 @@ use Rattle.lists.proofs.Tests.{never}
 use Rattle.rules.specs.declared.Params.{Params}
 use Rattle.rules.specs.Parameters.{frames, pageBytes, frameBytes, blockBytes}
 use Rattle.rules.specs.Numbers.{sectorOf, regionOf, vblockOf, placeOf, segmentOf}
-use Rattle.rules.specs.Write.{newSector, newPage, newFrame}
-use Rattle.rules.specs.Tables.{Board, none, ctAt, btAt, btEntry}
+use Rattle.rules.specs.Write.{newSector, newPage, newFrame, nextStamp}
+use Rattle.rules.specs.Tables.{Board, none, ctAt, btAt, btEntry, stampAt}
 use Rattle.rules.specs.Regions.{View, view, viewOf, bodyAt, assigned, frameOf, sectorIn}
 use Rattle.rules.specs.Pages.{block, frame, page, spare, spareBytes, holds, lastIn}
 use Rattle.rules.specs.Requests.{requestCluster, Request, requestRegion}
@@ -239,6 +239,12 @@ module _ (p : Params) (b : Board) (q : Request) (v f : ℕ) (t : Standing p b q 
     pub fst-in : r′ < length (b .fst)
     fst-in = rw (region-is, t .fstLength) region-in
 
+    pub stamps-in : r′ < length (b .stamps)
+    stamps-in = rw (region-is, t .stampsLength) region-in
+
+    pub stamp-left : stampAt (b .stamps) r′ < 4294967295
+    stamp-left = rw region-is (t .left)
+
     pub frame-few : f < 256
     frame-few = omega (arith, t .base .ready .low, z .short)
 
@@ -259,12 +265,14 @@ module _ (p : Params) (b : Board) (q : Request) (v f : ℕ) (t : Standing p b q 
         pub host-requires : HostAsked (b .chip) (p .s) (p .alpha) to kept fr off (q .count) (q .bytes) c′
         host-requires = rw ec (host-asked kept fr found to off to-is eo)
 
-        pub cluster-put : (chip₁ ct₁ fst₁ : List ℕ) (sg : ℕ)
+        pub cluster-put : (chip₁ ct₁ fst₁ stamps₁ : List ℕ) (sg : ℕ)
             → chip₁ ≡ putPart (p .alpha * (p .s + 16)) to (hostFrame (p .s) (p .alpha) off (q .count) (q .bytes) (sectorsOf (p .s) (p .alpha) kept fr (b .chip)) c′) (b .chip)
-            → sg ≡ segmentOf p v f → ct₁ ≡ set (b .ct) c′ sg → fst₁ ≡ set (b .fst) r′ sg → ClusterPut p b q v f chip₁ ct₁ fst₁
-        cluster-put chip₁ ct₁ fst₁ sg e s x y =
+            → sg ≡ segmentOf p v f → ct₁ ≡ set (b .ct) c′ sg → fst₁ ≡ set (b .fst) r′ sg → stamps₁ ≡ set (b .stamps) r′ (stampAt (b .stamps) r′ + 1)
+            → ClusterPut p b q v f chip₁ ct₁ fst₁ stamps₁
+        cluster-put chip₁ ct₁ fst₁ stamps₁ sg e s x y w =
             record {
               chip = unfold frameBytes pageBytes in (e ∙ rw (ec, frame-is kept fr found off eo, to-is));
               ct = x ∙ rw (ec, s);
               fst = y ∙ rw (region-is, s);
+              stamps = w ∙ unfold nextStamp in rw region-is;
             }

@@ -9,13 +9,15 @@ use read_work::Found;
 use rules::Params;
 use rules::VBlock;
 
-// The new cluster goes to frame f of virtual block v, its old sectors read where the old one now stands; CT and FST name its segment.
+// The new cluster goes to frame f of virtual block v, its old sectors read where the old one now stands; CT and FST name its segment, and its region
+// takes the next stamp.
 pub fn put_cluster(
     p: Params,
     chip: &mut [u8],
     ct: &mut [u16],
     bt: &[u16],
     fst: &mut [u16],
+    stamps: &mut [u32],
     lba: usize,
     count: usize,
     bytes: &[u8],
@@ -23,10 +25,10 @@ pub fn put_cluster(
     v: VBlock,
     f: usize,
 )
-    requires { ⌜ Standing p (boardOf (now chip) (now ct) (now bt) (now fst) [] [] []) (requestOf lba count (now bytes)) (v .0) f ⌝ }
+    requires { ⌜ Standing p (boardOf (now chip) (now ct) (now bt) (now fst) [] [] [] (now stamps)) (requestOf lba count (now bytes)) (v .0) f ⌝ }
     requires { ⌜ Stands p (now chip) (now ct) (now bt) (clusterOf p lba) (old .kept) (old .frame) ⌝ }
-    ensures { λ _. ⌜ ClusterPut p (boardOf (now (chip .entry)) (now (ct .entry)) (now (bt .entry)) (now (fst .entry)) [] [] []) (requestOf lba count (now (bytes .entry)))
-        (v .0) f (now (chip .exit)) (now (ct .exit)) (now (fst .exit)) ⌝ }
+    ensures { λ _. ⌜ ClusterPut p (boardOf (now (chip .entry)) (now (ct .entry)) (now (bt .entry)) (now (fst .entry)) [] [] [] (now (stamps .entry))) (requestOf lba count (now (bytes .entry)))
+        (v .0) f (now (chip .exit)) (now (ct .exit)) (now (fst .exit)) (now (stamps .exit)) ⌝ }
 {
     let c = rules::cluster_of(p, lba);
     let r = rules::region_of(p, c);
@@ -47,4 +49,5 @@ pub fn put_cluster(
     let sg = rules::segment_of(p, v, f);
     chip_tables::set_ct(ct, c, sg);
     chip_tables::set_fst(fst, r, sg);
+    chip_tables::take_stamp(stamps, r);
 }

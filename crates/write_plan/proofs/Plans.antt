@@ -157,6 +157,6 @@ module _ (p : Params) (chip bt fst : List ℕ) (r : ℕ) (a : PlanAsked p chip b
       reclaims-is e u k = rw (no-room, ← lowest-is, eq-eqb v none e, k)
 
     -- the virtual block with fewest marks is the one with fewest valid frames
-    pub victim-is : (marks : List ℕ) → marks ≡ marksOf p (boardOf chip ct bt fst [] [] []) → (v : ℕ) → ((m : Marks) → marks ≡ tableOf p m → v ≡ leastMarked m r (p .gamma)) → v ≡ victim p vw
+    pub victim-is : (marks : List ℕ) → marks ≡ marksOf p (boardOf chip ct bt fst [] [] [] []) → (v : ℕ) → ((m : Marks) → marks ≡ tableOf p m → v ≡ leastMarked m r (p .gamma)) → v ≡ victim p vw
     unfolding marksIn
-    victim-is marks e v h = h (marksOn p (boardOf chip ct bt fst [] [] [])) e ∙ sym (victim-counted p (a .fine) vw)
+    victim-is marks e v h = h (marksOn p (boardOf chip ct bt fst [] [] [] [])) e ∙ sym (victim-counted p (a .fine) vw)

@@ -37,7 +37,7 @@ fn next_frame(p: Params, chip: &[u8], bt: &[u16], fst: &[u16], r: usize) -> usiz
 pub fn plan_of(p: Params, chip: &[u8], bt: &[u16], fst: &[u16], marks: &[u64], r: usize) -> Planned
     requires { ⌜ PlanAsked p (now chip) (now bt) (now fst) r ⌝ }
     requires { ⌜ length (now marks) ≡ marksLength p ⌝ }
-    ensures { λ pl. ⌜ ((ct : List ℕ) → now (marks .entry) ≡ marksOf p (boardOf (now (chip .entry)) ct (now (bt .entry)) (now (fst .entry)) [] [] [])
+    ensures { λ pl. ⌜ ((ct : List ℕ) → now (marks .entry) ≡ marksOf p (boardOf (now (chip .entry)) ct (now (bt .entry)) (now (fst .entry)) [] [] [] [])
         → planIs pl ≡ planOf p (viewOf p (now (chip .entry)) ct (now (bt .entry)) (now (fst .entry)) r)) ⌝ }
 {
     let f = next_frame(p, chip, bt, fst, r);

@@ -42,9 +42,9 @@ module _ (p : Params) (bt bst wear : List ℕ) (r v : ℕ) (a : OpenAsked p bt b
 
 module _ (p : Params) (chip ct bt bst wear marks : List ℕ) (r v : ℕ) (a : ReclaimReady p chip ct bt bst wear marks r v) where
   -- the marked frames are the ones that the plan copies
-  copies-are : (fst : List ℕ) → markedFrames p (block p chip (btAt p bt r v)) (marksOn p (boardOf chip ct bt fst bst wear marks) r v) ≡ copies p (viewOf p chip ct bt fst r) (reclaims v)
+  copies-are : (fst stamps : List ℕ) → markedFrames p (block p chip (btAt p bt r v)) (marksOn p (boardOf chip ct bt fst bst wear marks stamps) r v) ≡ copies p (viewOf p chip ct bt fst r) (reclaims v)
   unfolding copies validFrames marksIn
-  copies-are fst =
+  copies-are fst stamps =
       rw (body fst)
       (ap (map (frame p (block p chip (btAt p bt r v)))) (keep-cong (frames p) _ _ (λ f h. marked-valid p (viewOf p chip ct bt fst r) v f h)))
     where
@@ -65,9 +65,9 @@ module _ (p : Params) (chip ct bt bst wear marks : List ℕ) (r v : ℕ) (a : Re
 
 -- ---- by the plan
 
-module _ (p : Params) (chip ct bt fst bst wear marks : List ℕ) (r : ℕ) where
+module _ (p : Params) (chip ct bt fst bst wear marks stamps : List ℕ) (r : ℕ) where
   abbrev b : Board
-  b = boardOf chip ct bt fst bst wear marks
+  b = boardOf chip ct bt fst bst wear marks stamps
 
   pub made-continues : (v f : ℕ) → RoomMade p b r (continues v f) v f 0 0 chip ct bt bst wear
   unfolding planVBlock planFrame copies eraseOps erasesIn roomOps framesOps replayChip followCt planBlock planBst replayWear
@@ -109,10 +109,10 @@ module _ (p : Params) (chip ct bt fst bst wear marks : List ℕ) (r : ℕ) where
       }
 
 -- the copies of a reclaim are the marked frames, where each mark equals the validity rule
-pub made-by-marks : (p : Params) (chip ct bt bst wear marks : List ℕ) (r v : ℕ) → ReclaimReady p chip ct bt bst wear marks r v → (fst : List ℕ)
-    → marks ≡ marksOf p (boardOf chip ct bt fst bst wear marks)
+pub made-by-marks : (p : Params) (chip ct bt bst wear marks : List ℕ) (r v : ℕ) → ReclaimReady p chip ct bt bst wear marks r v → (fst stamps : List ℕ)
+    → marks ≡ marksOf p (boardOf chip ct bt fst bst wear marks stamps)
     → (chip′ ct′ bt′ bst′ wear′ : List ℕ) (k : ℕ)
     → ((m : Marks) → marks ≡ tableOf p m → BlockReclaimed p chip ct bt bst wear r v (markedFrames p (block p chip (btAt p bt r v)) (m r v)) chip′ ct′ bt′ bst′ wear′ k)
-    → RoomMade p (boardOf chip ct bt fst bst wear marks) r (reclaims v) v k k 1 chip′ ct′ bt′ bst′ wear′
-made-by-marks p chip ct bt bst wear marks r v a fst e chip′ ct′ bt′ bst′ wear′ k d =
-    made-reclaims p chip ct bt fst bst wear marks r v chip′ ct′ bt′ bst′ wear′ k (rw (copies-are p chip ct bt bst wear marks r v a fst) at (d (marksOn p (boardOf chip ct bt fst bst wear marks)) e))
+    → RoomMade p (boardOf chip ct bt fst bst wear marks stamps) r (reclaims v) v k k 1 chip′ ct′ bt′ bst′ wear′
+made-by-marks p chip ct bt bst wear marks r v a fst stamps e chip′ ct′ bt′ bst′ wear′ k d =
+    made-reclaims p chip ct bt fst bst wear marks stamps r v chip′ ct′ bt′ bst′ wear′ k (rw (copies-are p chip ct bt bst wear marks r v a fst stamps) at (d (marksOn p (boardOf chip ct bt fst bst wear marks stamps)) e))

@@ -70,8 +70,8 @@ pub fn make_room(
     pl: Planned,
 ) -> Room
     requires { ⌜ RoomAsked p (now chip) (now ct) (now bt) (now bst) (now wear) (now marks) r (planIs pl) ⌝ }
-    ensures { λ m. ⌜ ((fst : List ℕ) → now (marks .entry) ≡ marksOf p (boardOf (now (chip .entry)) (now (ct .entry)) (now (bt .entry)) fst (now (bst .entry)) (now (wear .entry)) (now (marks .entry)))
-        → RoomMade p (boardOf (now (chip .entry)) (now (ct .entry)) (now (bt .entry)) fst (now (bst .entry)) (now (wear .entry)) (now (marks .entry))) r (planIs pl)
+    ensures { λ m. ⌜ ((fst stamps : List ℕ) → now (marks .entry) ≡ marksOf p (boardOf (now (chip .entry)) (now (ct .entry)) (now (bt .entry)) fst (now (bst .entry)) (now (wear .entry)) (now (marks .entry)) stamps)
+        → RoomMade p (boardOf (now (chip .entry)) (now (ct .entry)) (now (bt .entry)) fst (now (bst .entry)) (now (wear .entry)) (now (marks .entry)) stamps) r (planIs pl)
         (m .vblock .0) (m .frame) (m .copied) (m .erases) (now (chip .exit)) (now (ct .exit)) (now (bt .exit)) (now (bst .exit)) (now (wear .exit))) ⌝ }
 {
     match pl {

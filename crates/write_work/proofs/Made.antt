@@ -12,8 +12,8 @@ use lib.Seq.{getD-set-same, getD-set-other}
 use Rattle.write_cluster.specs.Clusters.{Standing, ClusterPut}
 use Rattle.rules.specs.declared.Params.{Params}
 use Rattle.rules.specs.Parameters.{frames, frameBytes, blockBytes}
-use Rattle.rules.specs.Write.{Plan, continues, opens, reclaims, planVBlock, planFrame, planBlock, planBst, planOps, roomOps, copies, followCt, newFrame, newPage, newSector, writtenBy}
-use Rattle.rules.specs.Tables.{Board, boardOf, none, ctAt, btAt, fstAt, btEntry}
+use Rattle.rules.specs.Write.{Plan, continues, opens, reclaims, planVBlock, planFrame, planBlock, planBst, planOps, roomOps, copies, followCt, newFrame, newPage, newSector, writtenBy, nextStamp}
+use Rattle.rules.specs.Tables.{Board, boardOf, none, ctAt, btAt, fstAt, btEntry, stampAt}
 use Rattle.rules.specs.Regions.{View, view, viewOf}
 use Rattle.lists.specs.Parts.{putPart}
 use Rattle.rules.specs.Traces.{replayChip, replayWear}
@@ -35,7 +35,7 @@ room-last p vw (continues v f) = refl
 room-last p vw (opens v) = refl
 room-last p vw (reclaims v) = refl
 
-module _ (p : Params) (b : Board) (q : Request) (acc : Admitted p b q) (pl : Plan) (makes : Makes p b (requestRegion p q) pl) where
+module _ (p : Params) (b : Board) (q : Request) (acc : Admitted p b q) (left : stampAt (b .stamps) (requestRegion p q) < 4294967295) (pl : Plan) (makes : Makes p b (requestRegion p q) pl) where
   abbrev r : ℕ
   r = requestRegion p q
 
@@ -53,7 +53,7 @@ module _ (p : Params) (b : Board) (q : Request) (acc : Admitted p b q) (pl : Pla
 
   -- the board with room, but for BST, wear and marks
   abbrev pub ready : Board
-  ready = boardOf (replayChip p (b .chip) (roomOps p b r pl)) (followCt p v 0 (copies p vw pl) (b .ct)) (set (b .bt) (r * p .gamma + v) n) (b .fst) [] [] []
+  ready = boardOf (replayChip p (b .chip) (roomOps p b r pl)) (followCt p v 0 (copies p vw pl) (b .ct)) (set (b .bt) (r * p .gamma + v) n) (b .fst) [] [] [] (b .stamps)
 
   region-in : r < p .mu
   region-in = mod-lt (requestCluster p q) (acc .sized .regions)
@@ -108,6 +108,8 @@ module _ (p : Params) (b : Board) (q : Request) (acc : Admitted p b q) (pl : Pla
         ctLength = makes .room .ctLength;
         btLength = length-set (b .bt) (r * p .gamma + v) n ∙ acc .tables .btLength;
         fstLength = acc .tables .fstLength;
+        stampsLength = acc .tables .stampsLength;
+        left = left;
         names = names;
         taken = λ e. makes .room .taken (sym block-is ∙ e);
         base = rw view-is (makes .base);
@@ -135,10 +137,10 @@ module _ (p : Params) (b : Board) (q : Request) (acc : Admitted p b q) (pl : Pla
   wear-is = wear-append (b .wear) (roomOps p b r pl) _ ∙ frame-wear p n f (newFrame p vw q) _ (p .alpha)
 
   -- the board after the write
-  pub done : (chip ct fst bst wear marks : List ℕ) → ClusterPut p ready q v f chip ct fst → bst ≡ planBst p b r pl → wear ≡ replayWear (b .wear) (roomOps p b r pl)
-      → marks ≡ (writtenBy p b r q pl) .marks → boardOf chip ct (ready .bt) fst bst wear marks ≡ writtenBy p b r q pl
-  unfolding writtenBy
-  done chip ct fst bst wear marks h eb ew em =
+  pub done : (chip ct fst stamps bst wear marks : List ℕ) → ClusterPut p ready q v f chip ct fst stamps → bst ≡ planBst p b r pl → wear ≡ replayWear (b .wear) (roomOps p b r pl)
+      → marks ≡ (writtenBy p b r q pl) .marks → boardOf chip ct (ready .bt) fst bst wear marks stamps ≡ writtenBy p b r q pl
+  unfolding writtenBy nextStamp
+  done chip ct fst stamps bst wear marks h eb ew em =
       let ec : chip ≡ (writtenBy p b r q pl) .chip = h .chip ∙ rw (block-is, frame-same) (sym chip-is) in
       let et : wear ≡ (writtenBy p b r q pl) .wear = ew ∙ sym wear-is in
-      rw (em, ec, et, h .ct, h .fst, eb)
+      rw (em, ec, et, h .ct, h .fst, h .stamps, eb)

@@ -18,7 +18,7 @@ use Rattle.rules.specs.declared.Answer.{Answer}
 use Rattle.rules.specs.declared.Reply.the-variants.{Accepted}
 use Rattle.rules.specs.Parameters.{frames}
 use Rattle.rules.specs.Numbers.{placeOf, regionOf, segmentOf, vblockOf}
-use Rattle.rules.specs.Tables.{Board, boardOf, none, btAt, ctAt, fstAt, marksLength}
+use Rattle.rules.specs.Tables.{Board, boardOf, none, btAt, ctAt, fstAt, marksLength, stampAt}
 use Rattle.rules.specs.Pages.{block, filled, frame, programmed}
 use Rattle.rules.specs.Regions.{View, view, viewOf, assigned, looksAt}
 use Rattle.rules.specs.Traces.{programsIn, erasesIn}
@@ -40,7 +40,7 @@ use Rattle.rules.proofs.Writes.{write-marks}
 use Rattle.rules.proofs.Outcomes.{write-accepted}
 use Rattle.marks.proofs.WrittenMarks.{written-marks}
 use Rattle.chip_marks.specs.Asked.{MarkAsked}
-use Rattle.rules.proofs.Admitted.{Admitted, Checks, admitted, write-checks}
+use Rattle.rules.proofs.Admitted.{Admitted, Checks, admitted, write-checks, write-left}
 use Rattle.rules.proofs.Continues.{Makes}
 use Rattle.rules.proofs.Opens.{free-fresh, fresh-frame}
 use Rattle.rules.proofs.Victims.{good-at}
@@ -57,6 +57,7 @@ use Rattle.write_cluster.specs.Clusters.{Standing, ClusterPut}
 use Rattle.outcomes.specs.Claims.{outcome}
 use Rattle.write_marks.specs.Keeping.{UnmarkAsked, keptMarks, acceptedAnswer}
 use Rattle.write_marks.proofs.Keeping.{old-is, room-is, unmark-asked}
+use Rattle.write_plan.proofs.Asked.{plan-asked as plan-for}
 use Rattle.write_work.proofs.Made as made
 use Rattle.write_work.proofs.Stays.{chip-same, ct-same, entry-same, stands-same, within-same}
 use Rattle.write_cluster.proofs.Put.{lookup}
@@ -86,6 +87,9 @@ module _ (p : Params) (b : Board) (q : Request) (e : replyOf p b (write q) ≡ A
 
   acc : Admitted p b q
   acc = admitted p b q checks
+
+  left : stampAt (b .stamps) (requestRegion p q) < 4294967295
+  left = write-left p b q e
 
   z : Sizes p
   z = acc .sized
@@ -117,60 +121,8 @@ module _ (p : Params) (b : Board) (q : Request) (e : replyOf p b (write q) ≡ A
   all-make : Makes p b r (planOf p vw)
   all-make = makes p z b (acc .tables) r region-in nt
 
-  -- ---- what the plan asks
-
-  last-is : vw .lastSeg ≡ fstAt (b .fst) r
-  unfolding viewOf
-  last-is = refl
-
-  opened : (fstAt (b .fst) r ≡ none → ⊥) → (vblockOf p (fstAt (b .fst) r) < p .gamma) × (btAt p (b .bt) r (vblockOf p (fstAt (b .fst) r)) ≡ none → ⊥)
-  opened ne = rw (← last-is) (go (nt .opened))
-    where
-      go : (((v : ℕ) → v < p .gamma → assigned vw v ≡ false) × (vw .lastSeg ≡ none)) ⊎ (((v : ℕ) × (v < p .gamma) × (assigned vw v ≡ true)) × Open p vw)
-          → (vblockOf p (vw .lastSeg) < p .gamma) × (btAt p (b .bt) r (vblockOf p (vw .lastSeg)) ≡ none → ⊥)
-      go (inl w) = absurd (ne (sym last-is ∙ w .1))
-      go (inr w) =
-          let h : vblockOf p (vw .lastSeg) < p .gamma = div-lt-iff-lt-mul (z .segments) .1 (w .1 .low) in
-          (h, has-block p z b (acc .tables) r _ region-in h (w .1 .has))
-
-  -- the open block's programmed frames, and where the segment of the last begins
-  open-frames : (o : ℕ) → o ≡ vblockOf p (vw .lastSeg) → o < p .gamma → assigned vw o ≡ true → vw .lastSeg ≡ segmentOf p o (filled p (vw .body o) - 1) → OpenFrames p (vw .body o) (vw .lastSeg)
-  open-frames o eo low has last =
-      let w = nt .blocks o low has in
-      let n : filled p (vw .body o) - 1 < frames p = omega (arith, w .0, filled-le p (vw .body o)) in
-      let at : placeOf p (vw .lastSeg) ≡ (filled p (vw .body o) - 1) / p .beta = rw last (seg-place p z o (filled p (vw .body o) - 1) n) in
-      record {
-        front = record { most = filled-le p (vw .body o); are = λ f h. first-test f h (decLt f (filled p (vw .body o))) };
-        from = rw at (omega (arith, w .0, div-mul-le-self (filled p (vw .body o) - 1) (p .beta)));
-      }
-    where
-      first-test : (f : ℕ) → f < frames p → Dec (f < filled p (vw .body o)) → programmed p (frame p (vw .body o) f) ≡ ltb f (filled p (vw .body o))
-      first-test f h (yes a) =
-          rw (lt-ltb f (filled p (vw .body o)) a) (((nt .blocks o low has) .1 .front f a h) .on)
-      first-test f h (no a) = rw (le-ltb f (filled p (vw .body o)) (omega arith)) (erased-not p (frame p (vw .body o) f) ((nt .blocks o low has) .1 .rest f (omega arith) h))
-
-  first-frames : (fstAt (b .fst) r ≡ none → ⊥) → OpenFrames p (block p (b .chip) (btAt p (b .bt) r (vblockOf p (fstAt (b .fst) r)))) (fstAt (b .fst) r)
-  first-frames ne = rw (← last-is) (go (nt .opened))
-    where
-      go : (((v : ℕ) → v < p .gamma → assigned vw v ≡ false) × (vw .lastSeg ≡ none)) ⊎ (((v : ℕ) × (v < p .gamma) × (assigned vw v ≡ true)) × Open p vw)
-          → OpenFrames p (block p (b .chip) (btAt p (b .bt) r (vblockOf p (vw .lastSeg)))) (vw .lastSeg)
-      go (inl w) = absurd (ne (sym last-is ∙ w .1))
-      go (inr w) =
-          let h : vblockOf p (vw .lastSeg) < p .gamma = div-lt-iff-lt-mul (z .segments) .1 (w .1 .low) in
-          rw (body-some p z b (acc .tables) r _ region-in h (has-block p z b (acc .tables) r _ region-in h (w .1 .has))) at (open-frames _ refl h (w .1 .has) (w .1 .last))
-
   pub plan-asked : (r′ : ℕ) → r′ ≡ r → PlanAsked p (b .chip) (b .bt) (b .fst) r′
-  plan-asked r′ er =
-      record {
-        fine = acc .fine;
-        chipLength = acc .tables .chipLength;
-        btLength = acc .tables .btLength;
-        fstLength = acc .tables .fstLength;
-        low = rw er region-in;
-        names = λ v h. unfold btAt in acc .tables .names (r′ * p .gamma + v) (index-low p r′ v (rw er region-in) h);
-        opened = rw er opened;
-        first = rw er first-frames;
-      }
+  plan-asked r′ er = rw er (plan-for p z (acc .fine) b (acc .tables) r region-in nt)
 
   pool : Pool p (b .bst) (b .wear)
   pool = record { fine = acc .fine; bstLength = acc .tables .bstLength; wearLength = acc .tables .wearLength }
@@ -213,7 +165,7 @@ module _ (p : Params) (b : Board) (q : Request) (e : replyOf p b (write q) ≡ A
 
   -- the plan that was found by the marks, which are the board's
   abbrev Found : ℕ → Plan → Type 0
-  Found r′ pl = (ct : List ℕ) → b .marks ≡ marksOf p (boardOf (b .chip) ct (b .bt) (b .fst) [] [] []) → pl ≡ planOf p (viewOf p (b .chip) ct (b .bt) (b .fst) r′)
+  Found r′ pl = (ct : List ℕ) → b .marks ≡ marksOf p (boardOf (b .chip) ct (b .bt) (b .fst) [] [] [] []) → pl ≡ planOf p (viewOf p (b .chip) ct (b .bt) (b .fst) r′)
 
   plan-is : (r′ : ℕ) → r′ ≡ r → (pl : Plan) → Found r′ pl → pl ≡ planOf p vw
   plan-is r′ er pl found = rw er at (found (b .ct) marks-are)
@@ -234,8 +186,8 @@ module _ (p : Params) (b : Board) (q : Request) (e : replyOf p b (write q) ≡ A
   -- ---- what the write leaves
 
   module _ (r′ : ℕ) (er : r′ ≡ r) (pl : Plan) (found : Found r′ pl) (v f copied erases : ℕ) (chip₁ ct₁ bt₁ bst₁ wear₁ : List ℕ)
-      (m : (fst : List ℕ) → b .marks ≡ marksOf p (boardOf (b .chip) (b .ct) (b .bt) fst (b .bst) (b .wear) (b .marks))
-      → RoomMade p (boardOf (b .chip) (b .ct) (b .bt) fst (b .bst) (b .wear) (b .marks)) r′ pl v f copied erases chip₁ ct₁ bt₁ bst₁ wear₁) where
+      (m : (fst stamps : List ℕ) → b .marks ≡ marksOf p (boardOf (b .chip) (b .ct) (b .bt) fst (b .bst) (b .wear) (b .marks) stamps)
+      → RoomMade p (boardOf (b .chip) (b .ct) (b .bt) fst (b .bst) (b .wear) (b .marks) stamps) r′ pl v f copied erases chip₁ ct₁ bt₁ bst₁ wear₁) where
     ep-r : pl ≡ planOf p vw
     ep-r = plan-is r′ er pl found
 
@@ -246,14 +198,14 @@ module _ (p : Params) (b : Board) (q : Request) (e : replyOf p b (write q) ≡ A
     listed = rw ep-r (plan-exactly p b (record { fine = acc .fine; lengths = checks .lengths; tidy = checks .tidy }) r region-in)
 
     m-r : RoomMade p b r pl v f copied erases chip₁ ct₁ bt₁ bst₁ wear₁
-    m-r = rw er at (m (b .fst) marks-are)
+    m-r = rw er at (m (b .fst) (b .stamps) marks-are)
 
-    pub standing : Standing p (boardOf chip₁ ct₁ bt₁ (b .fst) [] [] []) q v f
-    standing = rw (m-r .chipIs, m-r .ctIs, m-r .btIs, m-r .vblock, m-r .frame) (made.standing p b q acc pl mk)
+    pub standing : Standing p (boardOf chip₁ ct₁ bt₁ (b .fst) [] [] [] (b .stamps)) q v f
+    standing = rw (m-r .chipIs, m-r .ctIs, m-r .btIs, m-r .vblock, m-r .frame) (made.standing p b q acc left pl mk)
 
     -- the old cluster is looked up on the board with room
     pub lookup-made : (c : ℕ) → c ≡ requestCluster p q → Lookup p chip₁ ct₁ bt₁ c
-    lookup-made c ec = rw ec (lookup p (boardOf chip₁ ct₁ bt₁ (b .fst) [] [] []) q v f standing)
+    lookup-made c ec = rw ec (lookup p (boardOf chip₁ ct₁ bt₁ (b .fst) [] [] [] (b .stamps)) q v f standing)
 
     -- where nothing is erased, it stands where it was found at entry
     module _ (c : ℕ) (ec : c ≡ requestCluster p q) (still : erases ≡ 0) (kept : Bool) where
@@ -281,11 +233,11 @@ module _ (p : Params) (b : Board) (q : Request) (e : replyOf p b (write q) ≡ A
     pub copied-few : copied < 256
     copied-few = rw (m-r .count) (omega (arith, copies-few p vw pl, mk .base .ready .low, z .short))
 
-    board-is : (chip ct fst marks : List ℕ) → ClusterPut p (boardOf chip₁ ct₁ bt₁ (b .fst) [] [] []) q v f chip ct fst → marks ≡ (written p b q) .marks
-        → boardOf chip ct bt₁ fst bst₁ wear₁ marks ≡ written p b q
+    board-is : (chip ct fst stamps marks : List ℕ) → ClusterPut p (boardOf chip₁ ct₁ bt₁ (b .fst) [] [] [] (b .stamps)) q v f chip ct fst stamps → marks ≡ (written p b q) .marks
+        → boardOf chip ct bt₁ fst bst₁ wear₁ marks stamps ≡ written p b q
     unfolding written
-    board-is chip ct fst marks x em =
-        let y = made.done p b q acc pl mk chip ct fst bst₁ wear₁ marks (rw (m-r .chipIs, m-r .ctIs, m-r .btIs, m-r .vblock, m-r .frame) at x) (m-r .bstIs) (m-r .wearIs)
+    board-is chip ct fst stamps marks x em =
+        let y = made.done p b q acc left pl mk chip ct fst stamps bst₁ wear₁ marks (rw (m-r .chipIs, m-r .ctIs, m-r .btIs, m-r .vblock, m-r .frame) at x) (m-r .bstIs) (m-r .wearIs)
         (em ∙ sym (ap (λ (l : Plan). (writtenBy p b r q l) .marks) ep-r)) in
         rw (m-r .btIs) (y ∙ ap (writtenBy p b r q) ep-r)
 
@@ -310,7 +262,7 @@ module _ (p : Params) (b : Board) (q : Request) (e : replyOf p b (write q) ≡ A
 
       -- the view with room is the one that the lookup went by
       view-made : viewOf p chip₁ ct₁ bt₁ (b .fst) r ≡ withRoom p vw pl
-      view-made = rw (m-r .chipIs, m-r .ctIs, m-r .btIs) (made.view-is p b q acc pl mk)
+      view-made = rw (m-r .chipIs, m-r .ctIs, m-r .btIs) (made.view-is p b q acc left pl mk)
 
       kept-are : (m : Marks) → keptMarks m r′ v f copied erases kept u g ≡ writtenMarks p b q m
       unfolding writtenMarks
@@ -327,10 +279,10 @@ module _ (p : Params) (b : Board) (q : Request) (e : replyOf p b (write q) ≡ A
           ∙ sym (written-marks p b q e)
           ∙ unfold written in sym (write-marks p b r q (planOf p vw))
 
-      pub gives : (looks : ℕ) → Looked p (b .chip) (b .ct) (b .bt) c looks → (chip ct fst marks : List ℕ) (a : Answer) → ClusterPut p (boardOf chip₁ ct₁ bt₁ (b .fst) [] [] []) q v f chip ct fst
+      pub gives : (looks : ℕ) → Looked p (b .chip) (b .ct) (b .bt) c looks → (chip ct fst stamps marks : List ℕ) (a : Answer) → ClusterPut p (boardOf chip₁ ct₁ bt₁ (b .fst) [] [] [] (b .stamps)) q v f chip ct fst stamps
           → ((m : Marks) → b .marks ≡ tableOf p m → marks ≡ tableOf p (keptMarks m r′ v f copied erases kept u g)) → a ≡ acceptedAnswer p copied erases looks
-          → outcome a (q .bytes) [] (boardOf chip ct bt₁ fst bst₁ wear₁ marks) ≡ outcomeOf p b (write q)
-      gives looks k chip ct fst marks a x h y =
+          → outcome a (q .bytes) [] (boardOf chip ct bt₁ fst bst₁ wear₁ marks stamps) ≡ outcomeOf p b (write q)
+      gives looks k chip ct fst stamps marks a x h y =
           let el : looks ≡ looksAt p b (requestCluster p q) = unfold looksAt in
           (rw ec at (k .is (b .fst))) in
-          ap₂ {C = Outcome} (λ (i : Answer) (j : Board). outcome i (q .bytes) [] j) (y ∙ answer-is looks el) (board-is chip ct fst marks x (marks-kept marks h)) ∙ sym (write-accepted p b q e)
+          ap₂ {C = Outcome} (λ (i : Answer) (j : Board). outcome i (q .bytes) [] j) (y ∙ answer-is looks el) (board-is chip ct fst stamps marks x (marks-kept marks h)) ∙ sym (write-accepted p b q e)

@@ -23,12 +23,13 @@ pub fn write_orderly(
     bst: &mut [u8],
     wear: &mut [u32],
     marks: &mut [u64],
+    stamps: &mut [u32],
     lba: usize,
     count: usize,
     bytes: &[u8],
 ) -> Answer
-    requires { ⌜ replyOf p (boardOf (now chip) (now ct) (now bt) (now fst) (now bst) (now wear) (now marks)) (write (requestOf lba count (now bytes))) ≡ Reply.Accepted ⌝ }
-    ensures { λ a. ⌜ outcome a (now (bytes .entry)) [] (exitBoard chip ct bt fst bst wear marks) ≡ outcomeOf p (entryBoard chip ct bt fst bst wear marks)
+    requires { ⌜ replyOf p (boardOf (now chip) (now ct) (now bt) (now fst) (now bst) (now wear) (now marks) (now stamps)) (write (requestOf lba count (now bytes))) ≡ Reply.Accepted ⌝ }
+    ensures { λ a. ⌜ outcome a (now (bytes .entry)) [] (exitBoard chip ct bt fst bst wear marks stamps) ≡ outcomeOf p (entryBoard chip ct bt fst bst wear marks stamps)
         (write (requestOf lba count (now (bytes .entry)))) ⌝ }
 {
     let c = rules::cluster_of(p, lba);
@@ -43,6 +44,7 @@ pub fn write_orderly(
         ct,
         bt,
         fst,
+        stamps,
         lba,
         count,
         bytes,

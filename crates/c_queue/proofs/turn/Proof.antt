@@ -1,5 +1,6 @@
 -- `c_queue::turn`: one item, its answer packed into its place.
 -- Assumes nothing.
+use native.Mathlib.Omega.{arith}
 use borrow.Author.Needs.{needs}
 use Rattle.rules.specs.Tables.{Board, boardOf}
 use Rattle.c_queue.proofs.Taking.{few-item, turn-done}
@@ -7,7 +8,7 @@ use Rattle.c_queue.proofs.turn.Statement.{statement}
 use Rattle.c_queue.proofs.turn.Tie as tie
 
 abbrev board : tie.Start → Board
-board a = boardOf (a .args .chip .now) (a .args .ct .now) (a .args .bt .now) (a .args .fst .now) (a .args .bst .now) (a .args .wear .now) (a .args .marks .now)
+board a = boardOf (a .args .chip .now) (a .args .ct .now) (a .args .bt .now) (a .args .fst .now) (a .args .bst .now) (a .args .wear .now) (a .args .marks .now) (a .args .stamps .now)
 
 mul-item : tie.Need-mul-item
 mul-item c = search needs
@@ -31,13 +32,19 @@ shared-slice-read-item-2 : tie.Need-shared-slice-read-item-2
 shared-slice-read-item-2 c = search needs
 
 mul-item-5 : tie.Need-mul-item-5
-mul-item-5 c = search needs
+mul-item-5 c =
+    let start = c .before .before .before .before .before .before .before .before .before .before .before .before .before .before .before .before .before .before .before .before .before in
+    omega (arith, start .pre .1 .asked)
 
 add-item-2 : tie.Need-add-item-2
-add-item-2 c = search needs
+add-item-2 c =
+    let start = c .before .before .before .before .before .before .before .before .before .before .before .before .before .before .before .before .before .before .before .before .before in
+    omega (arith, start .pre .1 .asked)
 
 mul-item-6 : tie.Need-mul-item-6
-mul-item-6 c = search needs
+mul-item-6 c =
+    let start = c .before .before .before .before .before .before .before .before .before .before .before .before .before .before .before .before .before .before .before .before .before in
+    omega (arith, start .pre .1 .asked)
 
 shared-slice-read-item-3 : tie.Need-shared-slice-read-item-3
 shared-slice-read-item-3 c = search needs
@@ -47,8 +54,8 @@ item-requires c κs = search needs
 
 put-requires : tie.Need-put-requires
 put-requires c κs =
-    let at-item = c .before .before .before .before .before .before .before .before .before .before .before .before .before .before .before in
-    let start = at-item .before .before .before .before .before .before .before .before .before .before .before .before .before .before .before .before .before .before .before .before .before in
+    let at-item = c .before .before .before .before .before .before .before .before .before .before .before .before .before .before .before .before .before in
+    let start = at-item .before .before .before .before .before .before .before .before .before .before .before .before .before .before .before .before .before .before .before .before .before .before .before in
     (few-item _ _ (board start) _ _ _ _ (at-item .item .ensures), start .pre .1 .place)
 
 same-length : tie.Need-same-length
@@ -75,35 +82,15 @@ same-length-7 c = search needs
 same-length-8 : tie.Need-same-length-8
 same-length-8 c = search needs
 
+same-length-9 : tie.Need-same-length-9
+same-length-9 c = search needs
+
 returns : tie.Need-returns
 returns c =
-    let at-item = c .before .before .before .before .before .before .before .before .before .before .before .before .before .before .before .before .before .before in
-    let start = at-item .before .before .before .before .before .before .before .before .before .before .before .before .before .before .before .before .before .before .before .before .before in
+    let at-item = c .before .before .before .before .before .before .before .before .before .before .before .before .before .before .before .before .before .before .before .before in
+    let start = at-item .before .before .before .before .before .before .before .before .before .before .before .before .before .before .before .before .before .before .before .before .before .before .before in
     turn-done _ _ (board start) _ _ _ _ _ _ (at-item .item .ensures) _ (c .before .before .put .ensures)
 
 pub turn-spec : {M : Type 1} → statement M
 turn-spec =
-    tie.close
-    (tie.spec
-    mul-item
-    mul-item-2
-    shared-slice-read-item
-    mul-item-3
-    add-item
-    mul-item-4
-    shared-slice-read-item-2
-    mul-item-5
-    add-item-2
-    mul-item-6
-    shared-slice-read-item-3
-    item-requires
-    put-requires
-    same-length
-    same-length-2
-    same-length-3
-    same-length-4
-    same-length-5
-    same-length-6
-    same-length-7
-    same-length-8
-    returns)
+    tie.close (tie.spec mul-item mul-item-2 shared-slice-read-item mul-item-3 add-item mul-item-4 shared-slice-read-item-2 mul-item-5 add-item-2 mul-item-6 shared-slice-read-item-3 item-requires put-requires same-length same-length-2 same-length-3 same-length-4 same-length-5 same-length-6 same-length-7 same-length-8 same-length-9 returns)

@@ -62,5 +62,12 @@ returns-3 : tie.Need-returns-3
 unfolding forecastNumbers
 returns-3 c = rw (c .before .before .fc3 .given .1)
 
+enum-told : tie.Need-enum-told
+enum-told c = search needs
+
+returns-4 : tie.Need-returns-4
+unfolding forecastNumbers
+returns-4 c = rw (c .enum-told .given .1)
+
 pub forecast-numbers-spec : {M : Type 1} → statement M
-forecast-numbers-spec = tie.close (tie.spec enum-known-fc cast-t8 cast-t9 enum-known-fc-2 cast-t10 enum-known-fc-3 cast-t11 cast-t12 cast-t13 returns returns-2 returns-3)
+forecast-numbers-spec = tie.close (tie.spec enum-known-fc cast-t8 cast-t9 enum-known-fc-2 cast-t10 enum-known-fc-3 cast-t11 cast-t12 cast-t13 enum-told returns returns-2 returns-3 returns-4)

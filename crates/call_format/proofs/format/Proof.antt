@@ -1,4 +1,4 @@
--- `call_format::format`: refused by the reply's number, or every block formatted, every entry cleared and every mark gone.
+-- `call_format::format`: refused by the reply's number, or every block formatted, every entry cleared, every mark gone and every last stamp 0.
 -- Assumes nothing.
 use borrow.Author.Needs.{needs}
 use Rattle.rules.specs.Tables.{Board, boardOf}
@@ -9,7 +9,7 @@ use Rattle.call_format.proofs.format.Statement.{statement}
 use Rattle.call_format.proofs.format.Tie as tie
 
 abbrev board : tie.Start → Board
-board a = boardOf (a .args .chip .now) (a .args .ct .now) (a .args .bt .now) (a .args .fst .now) (a .args .bst .now) (a .args .wear .now) (a .args .marks .now)
+board a = boardOf (a .args .chip .now) (a .args .ct .now) (a .args .bt .now) (a .args .fst .now) (a .args .bst .now) (a .args .wear .now) (a .args .marks .now) (a .args .stamps .now)
 
 format-reply-requires : tie.Need-format-reply-requires
 format-reply-requires c κs = search needs
@@ -41,11 +41,14 @@ same-length-6 c = search needs
 same-length-7 : tie.Need-same-length-7
 same-length-7 c = search needs
 
+same-length-8 : tie.Need-same-length-8
+same-length-8 c = search needs
+
 returns : tie.Need-returns
 unfolding lent lentAnswers
 returns c =
     let at-format-reply = c .before .before .before in
-    let a = at-format-reply .before .before .before .before .before .before .before .before .before .before .before .before .before .before .before in
+    let a = at-format-reply .before .before .before .before .before .before .before .before .before .before .before .before .before .before .before .before .before in
     refused-by _ (board a) format _ (at-format-reply .format-reply .ensures) _ (c .before .before .number .ensures) (c .before .if1 .taken) _ (c .idle .ensures)
 
 clear-requires : tie.Need-clear-requires
@@ -60,29 +63,29 @@ clear-requires-3 c κs = search needs
 clear-all-requires : tie.Need-clear-all-requires
 clear-all-requires c κs = search needs
 
+clear-stamps-requires : tie.Need-clear-stamps-requires
+clear-stamps-requires c κs = search needs
+
 format-blocks-requires : tie.Need-format-blocks-requires
 format-blocks-requires c κs =
-    let at-if1 = c .before .before .before .before .before .before .before .before .before .before .before .before .before .before .before .before .before .before .before in
+    let at-if1 = c .before .before .before .before .before .before .before .before .before .before .before .before .before .before .before .before .before .before .before .before .before .before .before in
     let at-number = at-if1 .before in
     let at-format-reply = at-number .before in
-    let a = at-format-reply .before .before .before .before .before .before .before .before .before .before .before .before .before .before .before in
+    let a = at-format-reply .before .before .before .before .before .before .before .before .before .before .before .before .before .before .before .before .before in
     blocks-asked _ (board a)
     (reply-zero _ (board a) format _ (at-format-reply .format-reply .ensures) _ (at-number .number .ensures) (at-if1 .if1 .left))
 
-cast-t25 : tie.Need-cast-t25
-cast-t25 c =
+cast-t28 : tie.Need-cast-t28
+cast-t28 c =
     let at-format-blocks = c .before .before .before .before .before .before in
-    let at-if1 = at-format-blocks .before .before .before .before .before .before .before .before .before .before .before .before .before .before .before .before .before .before .before .before in
+    let at-if1 = at-format-blocks .before .before .before .before .before .before .before .before .before .before .before .before .before .before .before .before .before .before .before .before .before .before .before .before in
     let at-number = at-if1 .before in
     let at-format-reply = at-number .before in
-    let a = at-format-reply .before .before .before .before .before .before .before .before .before .before .before .before .before .before .before in
+    let a = at-format-reply .before .before .before .before .before .before .before .before .before .before .before .before .before .before .before .before .before in
     record {
       fits = few _ (board a) (reply-zero _ (board a) format _ (at-format-reply .format-reply .ensures) _ (at-number .number .ensures) (at-if1 .if1 .left)) _
           (at-format-blocks .format-blocks .ensures .few);
     }
-
-same-length-8 : tie.Need-same-length-8
-same-length-8 c = search needs
 
 same-length-9 : tie.Need-same-length-9
 same-length-9 c = search needs
@@ -102,27 +105,32 @@ same-length-13 c = search needs
 same-length-14 : tie.Need-same-length-14
 same-length-14 c = search needs
 
+same-length-15 : tie.Need-same-length-15
+same-length-15 c = search needs
+
+same-length-16 : tie.Need-same-length-16
+same-length-16 c = search needs
+
 returns-2 : tie.Need-returns-2
 returns-2 c =
     let at-format-blocks = c .before .before .before .before .before .before in
-    let at-clear-all = at-format-blocks .before .before .before .before .before .before in
+    let at-clear-all = at-format-blocks .before .before .before .before .before .before .before .before .before .before in
     let at-clear3 = at-clear-all .before .before .before .before in
     let at-clear2 = at-clear3 .before .before .before .before in
     let at-clear = at-clear2 .before .before .before .before in
     let at-if1 = at-clear .before .before in
     let at-number = at-if1 .before in
     let at-format-reply = at-number .before in
-    let a = at-format-reply .before .before .before .before .before .before .before .before .before .before .before .before .before .before .before in
+    let a = at-format-reply .before .before .before .before .before .before .before .before .before .before .before .before .before .before .before .before .before in
     format-done _ (board a)
     (reply-zero _ (board a) format _ (at-format-reply .format-reply .ensures) _ (at-number .number .ensures) (at-if1 .if1 .left))
-    _ (at-format-reply .format-reply .ensures) _ _ _ _ _ _ _ _
+    _ (at-format-reply .format-reply .ensures) _ _ _ _ _ _ _ _ _
     (at-clear .clear .ensures)
     (at-clear2 .clear2 .ensures)
     (at-clear3 .clear3 .ensures)
     (at-clear-all .clear-all .ensures)
+    (at-format-blocks .before .before .before .before .before .before .clear-stamps .ensures)
     (at-format-blocks .format-blocks .ensures)
 
 pub format-spec : {M : Type 1} → statement M
-format-spec = tie.close (tie.spec format-reply-requires number-requires idle-requires same-length same-length-2 same-length-3 same-length-4 same-length-5 same-length-6
-    same-length-7 returns clear-requires clear-requires-2 clear-requires-3 clear-all-requires format-blocks-requires cast-t25 same-length-8 same-length-9 same-length-10
-    same-length-11 same-length-12 same-length-13 same-length-14 returns-2)
+format-spec = tie.close (tie.spec format-reply-requires number-requires idle-requires same-length same-length-2 same-length-3 same-length-4 same-length-5 same-length-6 same-length-7 same-length-8 returns clear-requires clear-requires-2 clear-requires-3 clear-all-requires clear-stamps-requires format-blocks-requires cast-t28 same-length-9 same-length-10 same-length-11 same-length-12 same-length-13 same-length-14 same-length-15 same-length-16 returns-2)

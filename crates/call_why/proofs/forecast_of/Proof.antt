@@ -1,61 +1,30 @@
--- `call_why::forecast_of`: the plan's numbers, and where it reclaims the count of the victim's marks.
+-- `call_why::forecast_of`: refused where the region has no stamp left, else the plan.
 -- Assumes nothing.
-use mathlib.Core.List.{[]}
-use borrow.Author.Needs.{needs}
-use Rattle.rules.specs.Tables.{boardOf}
-use Rattle.call_why.specs.Why.{forecastNumbers, planNumbers}
-use Rattle.call_why.proofs.Forecasts.{counted, marks-long, plan-is, victim-words}
+use native.Mathlib.Omega.{arith}
+use borrow.Author.Tests.{le-leb, lt-leb}
+use Rattle.call_why.specs.Why.{forecastIn, forecastNumbers}
 use Rattle.call_why.proofs.forecast_of.Statement.{statement}
 use Rattle.call_why.proofs.forecast_of.Tie as tie
 
-plan-of-requires : tie.Need-plan-of-requires
-plan-of-requires c κs =
-    let a = c .before .before .before .before in (a .pre .plan, marks-long _ (a .args .chip .now) (a .args .bt .now) (a .args .fst .now) (a .args .marks .now) _ (a .pre))
-
-enum-known-v : tie.Need-enum-known-v
-enum-known-v c = search needs
-
-enum-known-v-2 : tie.Need-enum-known-v-2
-enum-known-v-2 c = search needs
-
-enum-known-v-3 : tie.Need-enum-known-v-3
-enum-known-v-3 c = search needs
-
-count-marks-requires : tie.Need-count-marks-requires
-count-marks-requires c κs =
-    let at-plan-of = c .before .before .before in
-    let a = at-plan-of .before .before .before .before .before in
-    victim-words _ (a .args .chip .now) (a .args .bt .now) (a .args .fst .now) (a .args .marks .now) _ (a .pre) _ (λ ct right. rw (c .before .v3 .given .1) at (at-plan-of .plan-of .ensures ct right))
+stamp-at-requires : tie.Need-stamp-at-requires
+stamp-at-requires c κs =
+    let start = c .before .before .before .before .before in
+    start .pre .1
 
 returns : tie.Need-returns
-unfolding forecastNumbers planNumbers
-returns c ct right =
-    let at-plan-of = c .before .before .before in
-    plan-is _ _ _ (rw (c .before .v .given .1) at (at-plan-of .plan-of .ensures ct right))
+unfolding forecastNumbers forecastIn
+returns c ct right = rw (← (c .before .stamp-at .ensures), le-leb 4294967295 (c .before .stamp-at .result) (omega (arith, c .if1 .taken)))
+
+planned-requires : tie.Need-planned-requires
+planned-requires c κs =
+    let start = c .before .before .before .before .before .before .before in
+    start .pre .0
 
 returns-2 : tie.Need-returns-2
-unfolding forecastNumbers planNumbers
+unfolding forecastIn
 returns-2 c ct right =
-    let at-plan-of = c .before .before .before in
-    plan-is _ _ _ (rw (c .before .v2 .given .1) at (at-plan-of .plan-of .ensures ct right))
-
-returns-3 : tie.Need-returns-3
-unfolding forecastNumbers planNumbers
-returns-3 c ct right =
-    let at-plan-of = c .before .before .before .before in
-    let a = at-plan-of .before .before .before .before .before in
-    let e = rw (c .before .before .v3 .given .1) at (at-plan-of .plan-of .ensures ct right) in
-    rw (counted _ (a .pre .plan .fine) (boardOf (a .args .chip .now) ct (a .args .bt .now) (a .args .fst .now) [] [] (a .args .marks .now)) right _ _ _ (c .count-marks .ensures)) (plan-is _ _ _ e)
+    let at-stamp-at = c .before .before in
+    rw (← (at-stamp-at .stamp-at .ensures), lt-leb 4294967295 (at-stamp-at .stamp-at .result) (omega (arith, c .before .if1 .left))) (c .planned .ensures ct right)
 
 pub forecast-of-spec : {M : Type 1} → statement M
-forecast-of-spec =
-    tie.close
-    (tie.spec
-    plan-of-requires
-    enum-known-v
-    enum-known-v-2
-    enum-known-v-3
-    count-marks-requires
-    returns
-    returns-2
-    returns-3)
+forecast-of-spec = tie.close (tie.spec stamp-at-requires returns planned-requires returns-2)

@@ -22,10 +22,10 @@ bt-at-requires c κs =
 
 returns : tie.Need-returns
 unfolding placeNumbers
-returns c chip fst bst wear marks k w =
+returns c chip fst bst wear marks stamps k w =
     let at-region-of = c .before .before .before in
     let a = at-region-of .before .before .before in
-    rw (c .bt-at .ensures .0, c .before .ct-at .ensures .0, at-region-of .region-of .ensures) (holder-is _ (boardOf chip (a .args .ct .now) (a .args .bt .now) fst bst wear marks) _ _ _ _ k w)
+    rw (c .bt-at .ensures .0, c .before .ct-at .ensures .0, at-region-of .region-of .ensures) (holder-is _ (boardOf chip (a .args .ct .now) (a .args .bt .now) fst bst wear marks stamps) _ _ _ _ k w)
 
 pub place-at-spec : {M : Type 1} → statement M
 place-at-spec = tie.close (tie.spec region-of-requires ct-at-requires bt-at-requires returns)

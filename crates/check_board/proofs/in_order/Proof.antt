@@ -18,9 +18,9 @@ returns : tie.Need-returns
 unfolding orderOk wordAt
 returns c =
     let start = c .before .before .before .before .before .before .before .before in
-    λ wear. rw (← (c .before .tables-ok .ensures), not-true (c .before .tables-ok .result) (c .if1 .taken)) at
+    λ wear stamps. rw (← (c .before .tables-ok .ensures), not-true (c .before .tables-ok .result) (c .if1 .taken)) at
     (order-agrees (start .args .p) (start .args .chip .now) (start .args .ct .now) (start .args .bt .now) (start .args .fst .now) (start .args .bst .now)
-    (start .args .marks .now) (start .pre .0) (start .pre .1) (λ i h. omega (arith, c .before .before .shared-slice-known6 .given i)) wear)
+    (start .args .marks .now) (start .pre .0) (start .pre .1) (λ i h. omega (arith, c .before .before .shared-slice-known6 .given i)) wear stamps)
 
 frees-ok-requires : tie.Need-frees-ok-requires
 frees-ok-requires c κs = search needs
@@ -31,7 +31,7 @@ returns-2 c =
     let at-tables-ok = c .before .before .before in
     let at-shared-slice-known6 = at-tables-ok .before in
     let start = at-shared-slice-known6 .before .before .before .before .before .before in
-    λ wear. rw (
+    λ wear stamps. rw (
       ← (at-tables-ok .tables-ok .ensures),
       not-false (at-tables-ok .tables-ok .result) (c .before .before .if1 .left),
       ← (c .before .frees-ok .ensures),
@@ -39,7 +39,7 @@ returns-2 c =
           (c .before .frees-ok .result) (c .if2 .taken),
     ) at
     (order-agrees (start .args .p) (start .args .chip .now) (start .args .ct .now) (start .args .bt .now) (start .args .fst .now) (start .args .bst .now)
-    (start .args .marks .now) (start .pre .0) (start .pre .1) (λ i h. omega (arith, at-shared-slice-known6 .shared-slice-known6 .given i)) wear)
+    (start .args .marks .now) (start .pre .0) (start .pre .1) (λ i h. omega (arith, at-shared-slice-known6 .shared-slice-known6 .given i)) wear stamps)
 
 regions-ok-requires : tie.Need-regions-ok-requires
 regions-ok-requires c κs =
@@ -63,7 +63,7 @@ returns-3 c =
     let at-tables-ok = at-if1 .before in
     let at-shared-slice-known6 = at-tables-ok .before in
     let start = at-shared-slice-known6 .before .before .before .before .before .before in
-    λ wear. rw (
+    λ wear stamps. rw (
       ← (at-tables-ok .tables-ok .ensures),
       not-false (at-tables-ok .tables-ok .result) (at-if1 .if1 .left),
       ← (at-frees-ok .frees-ok .ensures),
@@ -73,7 +73,7 @@ returns-3 c =
       not-true (c .before .regions-ok .result) (c .if3 .taken),
     ) at
     (order-agrees (start .args .p) (start .args .chip .now) (start .args .ct .now) (start .args .bt .now) (start .args .fst .now) (start .args .bst .now)
-    (start .args .marks .now) (start .pre .0) (start .pre .1) (λ i h. omega (arith, at-shared-slice-known6 .shared-slice-known6 .given i)) wear)
+    (start .args .marks .now) (start .pre .0) (start .pre .1) (λ i h. omega (arith, at-shared-slice-known6 .shared-slice-known6 .given i)) wear stamps)
 
 counts-ok-requires : tie.Need-counts-ok-requires
 counts-ok-requires c κs =
@@ -89,7 +89,7 @@ returns-4 c =
     let at-tables-ok = at-if1 .before in
     let at-shared-slice-known6 = at-tables-ok .before in
     let start = at-shared-slice-known6 .before .before .before .before .before .before in
-    λ wear. rw (
+    λ wear stamps. rw (
       ← (at-tables-ok .tables-ok .ensures),
       not-false (at-tables-ok .tables-ok .result) (at-if1 .if1 .left),
       ← (at-frees-ok .frees-ok .ensures),
@@ -101,7 +101,7 @@ returns-4 c =
       ← (c .counts-ok .ensures),
     ) at
     (order-agrees (start .args .p) (start .args .chip .now) (start .args .ct .now) (start .args .bt .now) (start .args .fst .now) (start .args .bst .now)
-    (start .args .marks .now) (start .pre .0) (start .pre .1) (λ i h. omega (arith, at-shared-slice-known6 .shared-slice-known6 .given i)) wear)
+    (start .args .marks .now) (start .pre .0) (start .pre .1) (λ i h. omega (arith, at-shared-slice-known6 .shared-slice-known6 .given i)) wear stamps)
 
 pub in-order-spec : {M : Type 1} → statement M
 in-order-spec = tie.close (tie.spec tables-ok-requires returns frees-ok-requires returns-2 regions-ok-requires returns-3 counts-ok-requires returns-4)

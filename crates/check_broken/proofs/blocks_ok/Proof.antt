@@ -46,14 +46,4 @@ returns-2 c = sym (all-end _ _ _ (omega arith) (c .before .loop .inv .1))
 
 pub blocks-ok-spec : {M : Type 1} → statement M
 blocks-ok-spec =
-    tie.close
-    (tie.spec
-    Inv-loop
-    μ-loop
-    loop-holds
-    region-blocks-ok-requires
-    returns
-    add-r
-    loop-less
-    loop-again
-    returns-2)
+    tie.close (tie.spec Inv-loop μ-loop loop-holds region-blocks-ok-requires returns add-r loop-less loop-again returns-2)

@@ -19,8 +19,8 @@ use Rattle.check_broken.proofs.First.{end, here, skip}
 use Rattle.check_broken.proofs.broken_rule.Statement.{statement}
 use Rattle.check_broken.proofs.broken_rule.Tie as tie
 
-abbrev board : tie.Start → List ℕ → List ℕ → Board
-board a wear marks = boardOf (a .args .chip .now) (a .args .ct .now) (a .args .bt .now) (a .args .fst .now) (a .args .bst .now) wear marks
+abbrev board : tie.Start → List ℕ → List ℕ → List ℕ → Board
+board a wear marks stamps = boardOf (a .args .chip .now) (a .args .ct .now) (a .args .bt .now) (a .args .fst .now) (a .args .bst .now) wear marks stamps
 
 -- BT has passed its test
 lent : (a : tie.Start) (ok : Bool) → ok ≡ btRule (a .args .p) (a .args .bt .now) → not ok ≡ false → Lent (a .args .p) (a .args .chip .now) (a .args .bt .now)
@@ -29,21 +29,21 @@ lent a ok e k = record { fine = a .pre .fine; chipLength = a .pre .chipLength; b
 -- then the used blocks' test is their rule
 used-blocks : (a : tie.Start) (bt ok : Bool) → bt ≡ btRule (a .args .p) (a .args .bt .now) → not bt ≡ false
     → ok ≡ allBelow (a .args .p .mu) (regionBlocksOk (a .args .p) (a .args .chip .now) (a .args .bt .now))
-    → (wear marks : List ℕ) → ok ≡ blocksRule (a .args .p) (board a wear marks)
-used-blocks a bt ok e k h wear marks = h ∙ blocks-same (a .args .p) (board a wear marks) (lent a bt e k)
+    → (wear marks stamps : List ℕ) → ok ≡ blocksRule (a .args .p) (board a wear marks stamps)
+used-blocks a bt ok e k h wear marks stamps = h ∙ blocks-same (a .args .p) (board a wear marks stamps) (lent a bt e k)
 
 -- and where it passes, FST's test is its rule
 fst-entries : (a : tie.Start) (bt used ok : Bool) → bt ≡ btRule (a .args .p) (a .args .bt .now) → not bt ≡ false
     → used ≡ allBelow (a .args .p .mu) (regionBlocksOk (a .args .p) (a .args .chip .now) (a .args .bt .now)) → not used ≡ false
     → ok ≡ allBelow (a .args .p .mu) (fstOk (a .args .p) (a .args .chip .now) (a .args .bt .now) (a .args .fst .now))
-    → (wear marks : List ℕ) → ok ≡ fstRule (a .args .p) (board a wear marks)
-fst-entries a bt used ok e k u l h wear marks = h ∙ fsts-same (a .args .p) (board a wear marks) (lent a bt e k) (sym u ∙ not-false used l)
+    → (wear marks stamps : List ℕ) → ok ≡ fstRule (a .args .p) (board a wear marks stamps)
+fst-entries a bt used ok e k u l h wear marks stamps = h ∙ fsts-same (a .args .p) (board a wear marks stamps) (lent a bt e k) (sym u ∙ not-false used l)
 
 -- CT's test is its rule
 ct-entries : (a : tie.Start) (bt ok : Bool) → bt ≡ btRule (a .args .p) (a .args .bt .now) → not bt ≡ false
     → ok ≡ allBelow (a .args .p .C) (λ (c : ℕ). clusterOk (a .args .p) (a .args .chip .now) (a .args .ct .now) (a .args .bt .now) (regionOf (a .args .p) c) c)
-    → (wear marks : List ℕ) → ok ≡ ctRule (a .args .p) (board a wear marks)
-ct-entries a bt ok e k h wear marks = h ∙ cts-same (a .args .p) (board a wear marks) (lent a bt e k)
+    → (wear marks stamps : List ℕ) → ok ≡ ctRule (a .args .p) (board a wear marks stamps)
+ct-entries a bt ok e k h wear marks stamps = h ∙ cts-same (a .args .p) (board a wear marks stamps) (lent a bt e k)
 
 bst-ok-requires : tie.Need-bst-ok-requires
 bst-ok-requires c κs = search needs
@@ -52,8 +52,8 @@ returns : tie.Need-returns
 unfolding brokenRule rulesOf ruleNames
 returns c =
     let a = c .before .before .before .before .before .before .before in
-    λ wear marks.
-    let told : BstValues ≡ brokenRule (a .args .p) (board a wear marks) =
+    λ wear marks stamps.
+    let told : BstValues ≡ brokenRule (a .args .p) (board a wear marks stamps) =
     here _ _ _ _ _ (c .before .bst-ok .ensures) (c .if1 .taken) in
     told
 
@@ -65,8 +65,8 @@ unfolding brokenRule rulesOf ruleNames
 returns-2 c =
     let at-bst-ok = c .before .before .before in
     let a = at-bst-ok .before .before .before .before .before .before in
-    λ wear marks.
-    let told : BtRange ≡ brokenRule (a .args .p) (board a wear marks) =
+    λ wear marks stamps.
+    let told : BtRange ≡ brokenRule (a .args .p) (board a wear marks stamps) =
     skip _ _ _ _ _ _ (at-bst-ok .bst-ok .ensures) (c .before .before .if1 .left)
     (here _ _ _ _ _ (c .before .bt-ok .ensures) (c .if2 .taken)) in
     told
@@ -81,8 +81,8 @@ returns-3 c =
     let at-if1 = at-bt-ok .before in
     let at-bst-ok = at-if1 .before in
     let a = at-bst-ok .before .before .before .before .before .before in
-    λ wear marks.
-    let told : NamedTwice ≡ brokenRule (a .args .p) (board a wear marks) =
+    λ wear marks stamps.
+    let told : NamedTwice ≡ brokenRule (a .args .p) (board a wear marks stamps) =
     skip _ _ _ _ _ _ (at-bst-ok .bst-ok .ensures) (at-if1 .if1 .left)
     (skip _ _ _ _ _ _ (at-bt-ok .bt-ok .ensures) (c .before .before .if2 .left)
     (here _ _ _ _ _ (c .before .once-ok .ensures) (c .if3 .taken))) in
@@ -100,8 +100,8 @@ returns-4 c =
     let at-if1 = at-bt-ok .before in
     let at-bst-ok = at-if1 .before in
     let a = at-bst-ok .before .before .before .before .before .before in
-    λ wear marks.
-    let told : UsedIfNamed ≡ brokenRule (a .args .p) (board a wear marks) =
+    λ wear marks stamps.
+    let told : UsedIfNamed ≡ brokenRule (a .args .p) (board a wear marks stamps) =
     skip _ _ _ _ _ _ (at-bst-ok .bst-ok .ensures) (at-if1 .if1 .left)
     (skip _ _ _ _ _ _ (at-bt-ok .bt-ok .ensures) (at-if2 .if2 .left)
     (skip _ _ _ _ _ _ (at-once-ok .once-ok .ensures) (c .before .before .if3 .left)
@@ -122,8 +122,8 @@ returns-5 c =
     let at-if1 = at-bt-ok .before in
     let at-bst-ok = at-if1 .before in
     let a = at-bst-ok .before .before .before .before .before .before in
-    λ wear marks.
-    let told : TooFewLeft ≡ brokenRule (a .args .p) (board a wear marks) =
+    λ wear marks stamps.
+    let told : TooFewLeft ≡ brokenRule (a .args .p) (board a wear marks stamps) =
     skip _ _ _ _ _ _ (at-bst-ok .bst-ok .ensures) (at-if1 .if1 .left)
     (skip _ _ _ _ _ _ (at-bt-ok .bt-ok .ensures) (at-if2 .if2 .left)
     (skip _ _ _ _ _ _ (at-once-ok .once-ok .ensures) (at-if3 .if3 .left)
@@ -147,8 +147,8 @@ returns-6 c =
     let at-if1 = at-bt-ok .before in
     let at-bst-ok = at-if1 .before in
     let a = at-bst-ok .before .before .before .before .before .before in
-    λ wear marks.
-    let told : FreeErased ≡ brokenRule (a .args .p) (board a wear marks) =
+    λ wear marks stamps.
+    let told : FreeErased ≡ brokenRule (a .args .p) (board a wear marks stamps) =
     skip _ _ _ _ _ _ (at-bst-ok .bst-ok .ensures) (at-if1 .if1 .left)
     (skip _ _ _ _ _ _ (at-bt-ok .bt-ok .ensures) (at-if2 .if2 .left)
     (skip _ _ _ _ _ _ (at-once-ok .once-ok .ensures) (at-if3 .if3 .left)
@@ -179,15 +179,15 @@ returns-7 c =
     let at-if1 = at-bt-ok .before in
     let at-bst-ok = at-if1 .before in
     let a = at-bst-ok .before .before .before .before .before .before in
-    λ wear marks.
-    let told : UsedBlock ≡ brokenRule (a .args .p) (board a wear marks) =
+    λ wear marks stamps.
+    let told : UsedBlock ≡ brokenRule (a .args .p) (board a wear marks stamps) =
     skip _ _ _ _ _ _ (at-bst-ok .bst-ok .ensures) (at-if1 .if1 .left)
     (skip _ _ _ _ _ _ (at-bt-ok .bt-ok .ensures) (at-if2 .if2 .left)
     (skip _ _ _ _ _ _ (at-once-ok .once-ok .ensures) (at-if3 .if3 .left)
     (skip _ _ _ _ _ _ (at-used-ok .used-ok .ensures) (at-if4 .if4 .left)
     (skip _ _ _ _ _ _ (at-room-ok .room-ok .ensures) (at-if5 .if5 .left)
     (skip _ _ _ _ _ _ (at-frees-ok .frees-ok .ensures) (c .before .before .if6 .left)
-    (here _ _ _ _ _ (used-blocks a _ _ (at-bt-ok .bt-ok .ensures) (at-if2 .if2 .left) (c .before .blocks-ok .ensures) wear marks) (c .if7 .taken))))))) in
+    (here _ _ _ _ _ (used-blocks a _ _ (at-bt-ok .bt-ok .ensures) (at-if2 .if2 .left) (c .before .blocks-ok .ensures) wear marks stamps) (c .if7 .taken))))))) in
     told
 
 fsts-ok-requires : tie.Need-fsts-ok-requires
@@ -214,17 +214,17 @@ returns-8 c =
     let at-if1 = at-bt-ok .before in
     let at-bst-ok = at-if1 .before in
     let a = at-bst-ok .before .before .before .before .before .before in
-    λ wear marks.
-    let told : Fst ≡ brokenRule (a .args .p) (board a wear marks) =
+    λ wear marks stamps.
+    let told : Fst ≡ brokenRule (a .args .p) (board a wear marks stamps) =
     skip _ _ _ _ _ _ (at-bst-ok .bst-ok .ensures) (at-if1 .if1 .left)
     (skip _ _ _ _ _ _ (at-bt-ok .bt-ok .ensures) (at-if2 .if2 .left)
     (skip _ _ _ _ _ _ (at-once-ok .once-ok .ensures) (at-if3 .if3 .left)
     (skip _ _ _ _ _ _ (at-used-ok .used-ok .ensures) (at-if4 .if4 .left)
     (skip _ _ _ _ _ _ (at-room-ok .room-ok .ensures) (at-if5 .if5 .left)
     (skip _ _ _ _ _ _ (at-frees-ok .frees-ok .ensures) (at-if6 .if6 .left)
-    (skip _ _ _ _ _ _ (used-blocks a _ _ (at-bt-ok .bt-ok .ensures) (at-if2 .if2 .left) (at-blocks-ok .blocks-ok .ensures) wear marks) (c .before .before .if7 .left)
+    (skip _ _ _ _ _ _ (used-blocks a _ _ (at-bt-ok .bt-ok .ensures) (at-if2 .if2 .left) (at-blocks-ok .blocks-ok .ensures) wear marks stamps) (c .before .before .if7 .left)
     (here _ _ _ _ _ (fst-entries a _ _ _ (at-bt-ok .bt-ok .ensures) (at-if2 .if2 .left) (at-blocks-ok .blocks-ok .ensures) (c .before .before .if7 .left)
-    (c .before .fsts-ok .ensures) wear marks) (c .if8 .taken)))))))) in
+    (c .before .fsts-ok .ensures) wear marks stamps) (c .if8 .taken)))))))) in
     told
 
 cts-ok-requires : tie.Need-cts-ok-requires
@@ -253,18 +253,18 @@ returns-9 c =
     let at-if1 = at-bt-ok .before in
     let at-bst-ok = at-if1 .before in
     let a = at-bst-ok .before .before .before .before .before .before in
-    λ wear marks.
-    let told : Ct ≡ brokenRule (a .args .p) (board a wear marks) =
+    λ wear marks stamps.
+    let told : Ct ≡ brokenRule (a .args .p) (board a wear marks stamps) =
     skip _ _ _ _ _ _ (at-bst-ok .bst-ok .ensures) (at-if1 .if1 .left)
     (skip _ _ _ _ _ _ (at-bt-ok .bt-ok .ensures) (at-if2 .if2 .left)
     (skip _ _ _ _ _ _ (at-once-ok .once-ok .ensures) (at-if3 .if3 .left)
     (skip _ _ _ _ _ _ (at-used-ok .used-ok .ensures) (at-if4 .if4 .left)
     (skip _ _ _ _ _ _ (at-room-ok .room-ok .ensures) (at-if5 .if5 .left)
     (skip _ _ _ _ _ _ (at-frees-ok .frees-ok .ensures) (at-if6 .if6 .left)
-    (skip _ _ _ _ _ _ (used-blocks a _ _ (at-bt-ok .bt-ok .ensures) (at-if2 .if2 .left) (at-blocks-ok .blocks-ok .ensures) wear marks) (at-if7 .if7 .left)
+    (skip _ _ _ _ _ _ (used-blocks a _ _ (at-bt-ok .bt-ok .ensures) (at-if2 .if2 .left) (at-blocks-ok .blocks-ok .ensures) wear marks stamps) (at-if7 .if7 .left)
     (skip _ _ _ _ _ _ (fst-entries a _ _ _ (at-bt-ok .bt-ok .ensures) (at-if2 .if2 .left) (at-blocks-ok .blocks-ok .ensures) (at-if7 .if7 .left) (at-fsts-ok .fsts-ok .ensures)
-    wear marks) (c .before .before .if8 .left)
-    (here _ _ _ _ _ (ct-entries a _ _ (at-bt-ok .bt-ok .ensures) (at-if2 .if2 .left) (c .before .cts-ok .ensures) wear marks) (c .if9 .taken))))))))) in
+    wear marks stamps) (c .before .before .if8 .left)
+    (here _ _ _ _ _ (ct-entries a _ _ (at-bt-ok .bt-ok .ensures) (at-if2 .if2 .left) (c .before .cts-ok .ensures) wear marks stamps) (c .if9 .taken))))))))) in
     told
 
 returns-10 : tie.Need-returns-10
@@ -286,40 +286,20 @@ returns-10 c =
     let at-if1 = at-bt-ok .before in
     let at-bst-ok = at-if1 .before in
     let a = at-bst-ok .before .before .before .before .before .before in
-    λ wear marks.
-    let told : Marks ≡ brokenRule (a .args .p) (board a wear marks) =
+    λ wear marks stamps.
+    let told : Marks ≡ brokenRule (a .args .p) (board a wear marks stamps) =
     skip _ _ _ _ _ _ (at-bst-ok .bst-ok .ensures) (at-if1 .if1 .left)
     (skip _ _ _ _ _ _ (at-bt-ok .bt-ok .ensures) (at-if2 .if2 .left)
     (skip _ _ _ _ _ _ (at-once-ok .once-ok .ensures) (at-if3 .if3 .left)
     (skip _ _ _ _ _ _ (at-used-ok .used-ok .ensures) (at-if4 .if4 .left)
     (skip _ _ _ _ _ _ (at-room-ok .room-ok .ensures) (at-if5 .if5 .left)
     (skip _ _ _ _ _ _ (at-frees-ok .frees-ok .ensures) (at-if6 .if6 .left)
-    (skip _ _ _ _ _ _ (used-blocks a _ _ (at-bt-ok .bt-ok .ensures) (at-if2 .if2 .left) (at-blocks-ok .blocks-ok .ensures) wear marks) (at-if7 .if7 .left)
+    (skip _ _ _ _ _ _ (used-blocks a _ _ (at-bt-ok .bt-ok .ensures) (at-if2 .if2 .left) (at-blocks-ok .blocks-ok .ensures) wear marks stamps) (at-if7 .if7 .left)
     (skip _ _ _ _ _ _ (fst-entries a _ _ _ (at-bt-ok .bt-ok .ensures) (at-if2 .if2 .left) (at-blocks-ok .blocks-ok .ensures) (at-if7 .if7 .left) (at-fsts-ok .fsts-ok .ensures)
-    wear marks) (c .before .before .if8 .left)
-    (skip _ _ _ _ _ _ (ct-entries a _ _ (at-bt-ok .bt-ok .ensures) (at-if2 .if2 .left) (c .before .cts-ok .ensures) wear marks) (c .if9 .left) (end _))))))))) in
+    wear marks stamps) (c .before .before .if8 .left)
+    (skip _ _ _ _ _ _ (ct-entries a _ _ (at-bt-ok .bt-ok .ensures) (at-if2 .if2 .left) (c .before .cts-ok .ensures) wear marks stamps) (c .if9 .left) (end _))))))))) in
     told
 
 pub broken-rule-spec : {M : Type 1} → statement M
 broken-rule-spec =
-    tie.close
-    (tie.spec
-    bst-ok-requires
-    returns
-    bt-ok-requires
-    returns-2
-    once-ok-requires
-    returns-3
-    used-ok-requires
-    returns-4
-    room-ok-requires
-    returns-5
-    frees-ok-requires
-    returns-6
-    blocks-ok-requires
-    returns-7
-    fsts-ok-requires
-    returns-8
-    cts-ok-requires
-    returns-9
-    returns-10)
+    tie.close (tie.spec bst-ok-requires returns bt-ok-requires returns-2 once-ok-requires returns-3 used-ok-requires returns-4 room-ok-requires returns-5 frees-ok-requires returns-6 blocks-ok-requires returns-7 fsts-ok-requires returns-8 cts-ok-requires returns-9 returns-10)

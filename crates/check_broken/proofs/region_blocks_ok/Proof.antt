@@ -48,14 +48,4 @@ returns-2 c = sym (all-end _ _ _ (omega arith) (c .before .loop .inv .1))
 
 pub region-blocks-ok-spec : {M : Type 1} → statement M
 region-blocks-ok-spec =
-    tie.close
-    (tie.spec
-    Inv-loop
-    μ-loop
-    loop-holds
-    block-ok-requires
-    returns
-    add-v
-    loop-less
-    loop-again
-    returns-2)
+    tie.close (tie.spec Inv-loop μ-loop loop-holds block-ok-requires returns add-v loop-less loop-again returns-2)

@@ -29,9 +29,9 @@ mul-result c =
 returns : tie.Need-returns
 unfolding lengthsFit allTrue
 returns c =
-    let at-block-bytes = c .before .before .before .before .before .before in
+    let at-block-bytes = c .before .before .before .before .before .before .before in
     let a = at-block-bytes .before in
-    λ b h t n l k w m. rw (h, t, n, l, k, w, m, at-block-bytes .block-bytes .ensures, chip-size (a .args .p)) (simp (and-assoc, and-true))
+    λ b h t n l k w m s. rw (h, t, n, l, k, w, m, s, at-block-bytes .block-bytes .ensures, chip-size (a .args .p)) (simp (and-assoc, and-true))
 
 pub lengths-fit-spec : {M : Type 1} → statement M
 lengths-fit-spec = tie.close (tie.spec block-bytes-requires mul-all mul-named mul-result returns)

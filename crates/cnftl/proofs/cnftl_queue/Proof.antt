@@ -9,7 +9,7 @@ use Rattle.cnftl.proofs.cnftl_queue.Statement.{statement}
 use Rattle.cnftl.proofs.cnftl_queue.Tie as tie
 
 abbrev board : tie.Start → Board
-board a = boardOf (a .args .chip .now) (a .args .ct .now) (a .args .bt .now) (a .args .fst .now) (a .args .bst .now) (a .args .wear .now) (a .args .marks .now)
+board a = boardOf (a .args .chip .now) (a .args .ct .now) (a .args .bt .now) (a .args .fst .now) (a .args .bst .now) (a .args .wear .now) (a .args .marks .now) (a .args .stamps .now)
 
 params-requires : tie.Need-params-requires
 params-requires c κs = search needs
@@ -41,25 +41,16 @@ same-length-7 c = search needs
 same-length-8 : tie.Need-same-length-8
 same-length-8 c = search needs
 
+same-length-9 : tie.Need-same-length-9
+same-length-9 c = search needs
+
 returns : tie.Need-returns
 returns c =
-    let at-queue = c .before .before .before .before .before .before .before .before .before .before .before .before .before .before .before .before in
-    let at-params = at-queue .before .before .before .before .before .before .before .before .before in
-    let a = at-params .before .before .before .before .before .before .before .before .before .before .before in
+    let at-queue = c .before .before .before .before .before .before .before .before .before .before .before .before .before .before .before .before .before .before in
+    let at-params = at-queue .before .before .before .before .before .before .before .before .before .before in
+    let a = at-params .before .before .before .before .before .before .before .before .before .before .before .before in
     at-queue .queue .ensures ∙ ap (λ (p : Params). flatCall p (board a) (a .args .requests .now) (a .args .bytes .now) (a .args .answers .now)) (at-params .params .ensures)
 
 pub cnftl-queue-spec : {M : Type 1} → statement M
 cnftl-queue-spec =
-    tie.close
-    (tie.spec
-    params-requires
-    queue-requires
-    same-length
-    same-length-2
-    same-length-3
-    same-length-4
-    same-length-5
-    same-length-6
-    same-length-7
-    same-length-8
-    returns)
+    tie.close (tie.spec params-requires queue-requires same-length same-length-2 same-length-3 same-length-4 same-length-5 same-length-6 same-length-7 same-length-8 same-length-9 returns)

@@ -44,14 +44,14 @@ same-length-6 c = search needs
 same-length-7 : tie.Need-same-length-7
 same-length-7 c = search needs
 
-returns : tie.Need-returns
-returns c =
-    let at-write = c .before .before .before .before .before .before .before .before .before .before .before .before .before .before in
-    let at-line = at-write .before .before .before .before .before .before .before .before .before in
-    rw (at-line .line .given .1) (at-write .write .ensures)
-
 same-length-8 : tie.Need-same-length-8
 same-length-8 c = search needs
+
+returns : tie.Need-returns
+returns c =
+    let at-write = c .before .before .before .before .before .before .before .before .before .before .before .before .before .before .before .before in
+    let at-line = at-write .before .before .before .before .before .before .before .before .before .before in
+    rw (at-line .line .given .1) (at-write .write .ensures)
 
 same-length-9 : tie.Need-same-length-9
 same-length-9 c = search needs
@@ -71,9 +71,15 @@ same-length-13 c = search needs
 same-length-14 : tie.Need-same-length-14
 same-length-14 c = search needs
 
+same-length-15 : tie.Need-same-length-15
+same-length-15 c = search needs
+
+same-length-16 : tie.Need-same-length-16
+same-length-16 c = search needs
+
 returns-2 : tie.Need-returns-2
 returns-2 c =
-    let at-line2 = c .before .before .before .before .before .before .before .before .before in
+    let at-line2 = c .before .before .before .before .before .before .before .before .before .before in
     rw (at-line2 .line2 .given .1) (read-turned _ _ _)
 
 returns-3 : tie.Need-returns-3
@@ -81,28 +87,4 @@ returns-3 c = rw (c .before .enum-told .given .1) (other-turned _)
 
 pub answer-spec : {M : Type 1} → statement M
 answer-spec =
-    tie.close
-    (tie.spec
-    enum-known-line
-    write-requires
-    enum-known-line-2
-    read-requires
-    enum-told
-    say-unknown-requires
-    same-length
-    same-length-2
-    same-length-3
-    same-length-4
-    same-length-5
-    same-length-6
-    same-length-7
-    returns
-    same-length-8
-    same-length-9
-    same-length-10
-    same-length-11
-    same-length-12
-    same-length-13
-    same-length-14
-    returns-2
-    returns-3)
+    tie.close (tie.spec enum-known-line write-requires enum-known-line-2 read-requires enum-told say-unknown-requires same-length same-length-2 same-length-3 same-length-4 same-length-5 same-length-6 same-length-7 same-length-8 returns same-length-9 same-length-10 same-length-11 same-length-12 same-length-13 same-length-14 same-length-15 same-length-16 returns-2 returns-3)

@@ -30,11 +30,4 @@ returns c = search needs
 
 pub read-spec : {M : Type 1} → statement M
 read-spec =
-    tie.close
-    (tie.spec
-    filled-requires
-    lent-requires
-    array-borrow-prefix-bytes
-    slice-aggregate-read-into
-    read-into-requires
-    returns)
+    tie.close (tie.spec filled-requires lent-requires array-borrow-prefix-bytes slice-aggregate-read-into read-into-requires returns)

@@ -35,24 +35,15 @@ same-length-6 c = search needs
 same-length-7 : tie.Need-same-length-7
 same-length-7 c = search needs
 
+same-length-8 : tie.Need-same-length-8
+same-length-8 c = search needs
+
 returns : tie.Need-returns
 returns c =
-    let at-format = c .before .before .before .before .before .before .before .before .before .before .before .before .before .before .before in
-    let at-board = at-format .before .before .before .before .before .before .before .before in
+    let at-format = c .before .before .before .before .before .before .before .before .before .before .before .before .before .before .before .before .before in
+    let at-board = at-format .before .before .before .before .before .before .before .before .before in
     started _ _ (rw (at-board .board .ensures) at (at-format .format .ensures))
 
 pub start-spec : {M : Type 1} → statement M
 start-spec =
-    tie.close
-    (tie.spec
-    board-requires
-    format-requires
-    say-format-requires
-    same-length
-    same-length-2
-    same-length-3
-    same-length-4
-    same-length-5
-    same-length-6
-    same-length-7
-    returns)
+    tie.close (tie.spec board-requires format-requires say-format-requires same-length same-length-2 same-length-3 same-length-4 same-length-5 same-length-6 same-length-7 same-length-8 returns)

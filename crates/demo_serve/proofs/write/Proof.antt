@@ -24,7 +24,7 @@ array-share-prefix-bytes c = search needs
 
 slice-aggregate-write : tie.Need-slice-aggregate-write
 slice-aggregate-write c =
-    let at-lent = c .before .before .before .before .before .before .before .before .before in
+    let at-lent = c .before .before .before .before .before .before .before .before .before .before in
     let at-filled = at-lent .before in
     sym (length-take-le _ _ (rw (at-filled .filled .ensures, at-lent .lent .ensures, length-replicate) (omega arith)))
 
@@ -55,11 +55,14 @@ same-length-6 c = search needs
 same-length-7 : tie.Need-same-length-7
 same-length-7 c = search needs
 
+same-length-8 : tie.Need-same-length-8
+same-length-8 c = search needs
+
 returns : tie.Need-returns
 unfolding requested
 returns c =
-    let at-write = c .before .before .before .before .before .before .before .before .before .before .before .before .before .before .before in
-    let at-board = at-write .before .before .before .before .before .before .before .before .before in
+    let at-write = c .before .before .before .before .before .before .before .before .before .before .before .before .before .before .before .before .before in
+    let at-board = at-write .before .before .before .before .before .before .before .before .before .before in
     let at-lent = at-board .before in
     let at-filled = at-lent .before in
     write-turned _ _ _ _ _
@@ -67,20 +70,4 @@ returns c =
 
 pub write-spec : {M : Type 1} → statement M
 write-spec =
-    tie.close
-    (tie.spec
-    filled-requires
-    lent-requires
-    board-requires
-    array-share-prefix-bytes
-    slice-aggregate-write
-    write-requires
-    say-write-requires
-    same-length
-    same-length-2
-    same-length-3
-    same-length-4
-    same-length-5
-    same-length-6
-    same-length-7
-    returns)
+    tie.close (tie.spec filled-requires lent-requires board-requires array-share-prefix-bytes slice-aggregate-write write-requires say-write-requires same-length same-length-2 same-length-3 same-length-4 same-length-5 same-length-6 same-length-7 same-length-8 returns)

@@ -1,5 +1,5 @@
 -- `queue`, walked by hand: a loop over a `&[Item]` and a `&mut [Answer]`, which no covered form has. The walk follows the MIR, statement by statement.
---     before the loop      the seven tables are lent shared to `head_of`, come back as they were, and its result h stays in local 12
+--     before the loop      the eight tables are lent shared to `head_of`, come back as they were, and its result h stays in local 13
 --     a turn               item i is read, the tables are lent to `item`, its answer is written to answers[i], and i grows
 --     after it             `idle` makes the answer of h's reply
 -- The loop's invariant says that serving the items from i on, from the tables and answers as they are, gives what serving all of them from those at entry
@@ -215,8 +215,11 @@ stayed = (
               (
                 stay-slice (6 ∷ []) tt (plain (λ _. u64)),
                 (
-                  stay-none-slice (7 ∷ []) tt (plain (λ _. It.the-row)) yes,
-                  (stay-none-slice (8 ∷ []) tt (plain (λ _. u8)) yes, (stay-slice (9 ∷ []) tt (plain (λ _. Ans.the-row)), tt)),
+                  stay-slice (7 ∷ []) tt (plain (λ _. u32)),
+                  (
+                    stay-none-slice (8 ∷ []) tt (plain (λ _. It.the-row)) yes,
+                    (stay-none-slice (9 ∷ []) tt (plain (λ _. u8)) yes, (stay-slice (10 ∷ []) tt (plain (λ _. Ans.the-row)), tt)),
+                  ),
                 ),
               ),
             ),
@@ -280,7 +283,7 @@ no-answer = answerOf Accepted [] 0
 module _ {M : Type 1} (𝓤 : URA M) (H : Heap 𝓤) (A : Atoms 𝓤) (W : Given 𝓤 H A) (mem : Memory → SProp 𝓤) (rn : Routine → Fun 𝓤) (p : Params)
     (κ₁ : Lft) (q₁ : Share) (x₁ : RefT (List ℕ)) (κ₂ : Lft) (q₂ : Share) (x₂ : RefT (List ℕ)) (κ₃ : Lft) (q₃ : Share) (x₃ : RefT (List ℕ)) (κ₄ : Lft)
     (q₄ : Share) (x₄ : RefT (List ℕ)) (κ₅ : Lft) (q₅ : Share) (x₅ : RefT (List ℕ)) (κ₆ : Lft) (q₆ : Share) (x₆ : RefT (List ℕ)) (κ₇ : Lft)
-    (q₇ : Share) (x₇ : RefT (List ℕ))
+    (q₇ : Share) (x₇ : RefT (List ℕ)) (κ₈ : Lft) (q₈ : Share) (x₈ : RefT (List ℕ))
     (κr : Lft) (qr : Share) (xr : RefT (List Item)) (κb : Lft) (qb : Share) (xb : RefT (List ℕ)) (κo : Lft) (qo : Share) (x₀ : RefT (List Answer)) where
   abbrev ys : List Item
   ys = xr .now
@@ -306,7 +309,7 @@ module _ {M : Type 1} (𝓤 : URA M) (H : Heap 𝓤) (A : Atoms 𝓤) (W : Given
   abbrev no : ℕ
   no = length (x₀ .now)
 
-  -- the seven tables: chip, ct, bt, fst, bst, wear, marks
+  -- the eight tables: chip, ct, bt, fst, bst, wear, marks, stamps
 
   abbrev d₁ : Slice
   d₁ = record { R = u8; κ = κ₁; q = q₁; γ = x₁ .name; b = x₁ .ptr .0; o = x₁ .ptr .1; n = length (x₁ .now) }
@@ -329,14 +332,18 @@ module _ {M : Type 1} (𝓤 : URA M) (H : Heap 𝓤) (A : Atoms 𝓤) (W : Given
   abbrev d₇ : Slice
   d₇ = record { R = u64; κ = κ₇; q = q₇; γ = x₇ .name; b = x₇ .ptr .0; o = x₇ .ptr .1; n = length (x₇ .now) }
 
+  abbrev d₈ : Slice
+  d₈ = record { R = u32; κ = κ₈; q = q₈; γ = x₈ .name; b = x₈ .ptr .0; o = x₈ .ptr .1; n = length (x₈ .now) }
+
   abbrev ds : List Slice
-  ds = d₁ ∷ d₂ ∷ d₃ ∷ d₄ ∷ d₅ ∷ d₆ ∷ d₇ ∷ []
+  ds = d₁ ∷ d₂ ∷ d₃ ∷ d₄ ∷ d₅ ∷ d₆ ∷ d₇ ∷ d₈ ∷ []
 
   abbrev ls₀ : Lists ds
-  ls₀ = (x₁ .now, (x₂ .now, (x₃ .now, (x₄ .now, (x₅ .now, (x₆ .now, (x₇ .now, tt)))))))
+  ls₀ = (x₁ .now, (x₂ .now, (x₃ .now, (x₄ .now, (x₅ .now, (x₆ .now, (x₇ .now, (x₈ .now, tt))))))))
 
   abbrev S : Lists ds → Board
   S ls = boardOf (ls .0) (ls .1 .0) (ls .1 .1 .0) (ls .1 .1 .1 .0) (ls .1 .1 .1 .1 .0) (ls .1 .1 .1 .1 .1 .0) (ls .1 .1 .1 .1 .1 .1 .0)
+      (ls .1 .1 .1 .1 .1 .1 .1 .0)
 
   abbrev xo : List Answer → RefT (List Answer)
   xo l = record { ptr = (bo, oo); name = x₀ .name; now = l }
@@ -355,18 +362,18 @@ module _ {M : Type 1} (𝓤 : URA M) (H : Heap 𝓤) (A : Atoms 𝓤) (W : Given
   so = sliceVal (bo, oo) no
 
   abbrev a : Params × (RefT (List ℕ) × (RefT (List ℕ) × (RefT (List ℕ) ×
-      (RefT (List ℕ) × (RefT (List ℕ) × (RefT (List ℕ) × (RefT (List ℕ) × (RefT (List Item) × (RefT (List ℕ) × (RefT (List Answer) × Unit {0}))))))))))
-  a = (p, (x₁, (x₂, (x₃, (x₄, (x₅, (x₆, (x₇, (xr, (xb, (x₀, tt)))))))))))
+      (RefT (List ℕ) × (RefT (List ℕ) × (RefT (List ℕ) × (RefT (List ℕ) × (RefT (List ℕ) × (RefT (List Item) × (RefT (List ℕ) × (RefT (List Answer) × Unit {0})))))))))))
+  a = (p, (x₁, (x₂, (x₃, (x₄, (x₅, (x₆, (x₇, (x₈, (xr, (xb, (x₀, tt))))))))))))
 
   abbrev vals : List Val × (List Val × (List Val × (List Val × (List Val ×
-      (List Val × (List Val × (List Val × (List Val × (List Val × (List Val × (Unit {0})))))))))))
-  vals = (vp ∷ [], (val d₁ ∷ [], (val d₂ ∷ [], (val d₃ ∷ [], (val d₄ ∷ [], (val d₅ ∷ [], (val d₆ ∷ [], (val d₇ ∷ [], (sr ∷ [], (sb ∷ [], (so ∷ [], tt)))))))))))
+      (List Val × (List Val × (List Val × (List Val × (List Val × (List Val × (List Val × (Unit {0}))))))))))))
+  vals = (vp ∷ [], (val d₁ ∷ [], (val d₂ ∷ [], (val d₃ ∷ [], (val d₄ ∷ [], (val d₅ ∷ [], (val d₆ ∷ [], (val d₇ ∷ [], (val d₈ ∷ [], (sr ∷ [], (sb ∷ [], (so ∷ [], tt))))))))))))
 
-  abbrev κs : Lfts 10
-  κs = (κ₁, (κ₂, (κ₃, (κ₄, (κ₅, (κ₆, (κ₇, (κr, (κb, (κo, tt))))))))))
+  abbrev κs : Lfts 11
+  κs = (κ₁, (κ₂, (κ₃, (κ₄, (κ₅, (κ₆, (κ₇, (κ₈, (κr, (κb, (κo, tt)))))))))))
 
-  abbrev qs : Shares 10
-  qs = (q₁, (q₂, (q₃, (q₄, (q₅, (q₆, (q₇, (qr, (qb, (qo, tt))))))))))
+  abbrev qs : Shares 11
+  qs = (q₁, (q₂, (q₃, (q₄, (q₅, (q₆, (q₇, (q₈, (qr, (qb, (qo, tt)))))))))))
 
   -- what the contract binds, and what is to be had at exit
   abbrev bound : walkOf 𝓤 H A queue.ended stayed (queue.clauses 𝓤 H A mem rn) .Ghost
@@ -394,7 +401,7 @@ module _ {M : Type 1} (𝓤 : URA M) (H : Heap 𝓤) (A : Atoms 𝓤) (W : Given
   abbrev Fact : Fml
   Fact = at-slice It.the-row xr (sr ∷ [])
 
-  -- the tokens and what is owned, behind the seven tables
+  -- the tokens and what is owned, behind the eight tables
   abbrev RestToks : Fml
   RestToks = fsep (flft κr qr) (fsep (flft κb qb) (fsep (flft κo qo) ftrue))
 
@@ -413,8 +420,8 @@ module _ {M : Type 1} (𝓤 : URA M) (H : Heap 𝓤) (A : Atoms 𝓤) (W : Given
       qed W (‵ (Bundle ds ls) ∷ ‵ (Own os) ∷ ‵ (flft κo qo) ∷ ‵ Shr ∷ ‵ (flft κr qr) ∷ ‵ Bytes ∷ ‵ (flft κb qb) ∷ ‵ (Ans.the-row .own r (v ∷ [])) ∷
       ‵ Res ∷ ‵ Fact ∷ []) ∵
       suffices ! _ (ends-at 𝓤 H A queue.ended stayed (queue.clauses 𝓤 H A mem rn) W bound v r
-      (tt, (ls .0, (ls .1 .0, (ls .1 .1 .0, (ls .1 .1 .1 .0, (ls .1 .1 .1 .1 .0, (ls .1 .1 .1 .1 .1 .0, (ls .1 .1 .1 .1 .1 .1 .0, (tt, (tt, (os, tt)))))))))))
-      (tt, (l .0, (l .1 .0, (l .1 .1 .0, (l .1 .1 .1 .0, (l .1 .1 .1 .1 .0, (l .1 .1 .1 .1 .1 .0, (l .1 .1 .1 .1 .1 .1 .0, (tt, (tt, (lo, tt)))))))))))) $
+      (tt, (ls .0, (ls .1 .0, (ls .1 .1 .0, (ls .1 .1 .1 .0, (ls .1 .1 .1 .1 .0, (ls .1 .1 .1 .1 .1 .0, (ls .1 .1 .1 .1 .1 .1 .0, (ls .1 .1 .1 .1 .1 .1 .1 .0, (tt, (tt, (os, tt))))))))))))
+      (tt, (l .0, (l .1 .0, (l .1 .1 .0, (l .1 .1 .1 .0, (l .1 .1 .1 .1 .0, (l .1 .1 .1 .1 .1 .0, (l .1 .1 .1 .1 .1 .1 .0, (l .1 .1 .1 .1 .1 .1 .1 .0, (tt, (tt, (lo, tt))))))))))))) $
       says ! e $
       nothing ! $ move ! (3 ∷ 0 ∷ []) $ fjoin ! $ move ! (6 ∷ 0 ∷ []) $ fjoin ! $ move ! (4 ∷ 0 ∷ []) $ fjoin ! $ nothing ! $ move ! (3 ∷ 0 ∷ []) $
       fjoin ! $ move ! (4 ∷ 0 ∷ []) $ fjoin ! $ move ! (5 ∷ 3 ∷ []) $ fjoin ! $ move ! (5 ∷ 0 ∷ []) $ fjoin ! $ fjoin ! $
@@ -443,13 +450,13 @@ module _ {M : Type 1} (𝓤 : URA M) (H : Heap 𝓤) (A : Atoms 𝓤) (W : Given
               p′ .1 .1 .1 .1 .1 .1 .0 ∷ [],
               (
                 p′ .1 .1 .1 .1 .1 .1 .1 .1 .0 ∷ [],
-                (p′ .1 .1 .1 .1 .1 .1 .1 .1 .1 .1 .0 ∷ [], (p′ .1 .1 .1 .1 .1 .1 .1 .1 .1 .1 .1 .1 .0 ∷ [], tt)),
+                (p′ .1 .1 .1 .1 .1 .1 .1 .1 .1 .1 .0 ∷ [], (p′ .1 .1 .1 .1 .1 .1 .1 .1 .1 .1 .1 .1 .0 ∷ [], (p′ .1 .1 .1 .1 .1 .1 .1 .1 .1 .1 .1 .1 .1 .1 .0 ∷ [], tt))),
               ),
             ),
           ),
         ),
       ),
-      (fullShare, (fullShare, (fullShare, (fullShare, (fullShare, (fullShare, (fullShare, tt))))))),
+      (fullShare, (fullShare, (fullShare, (fullShare, (fullShare, (fullShare, (fullShare, (fullShare, tt)))))))),
       tt,
       (
         p,
@@ -465,7 +472,10 @@ module _ {M : Type 1} (𝓤 : URA M) (H : Heap 𝓤) (A : Atoms 𝓤) (W : Given
                   at-name d₅ (p′ .1 .1 .1 .1 .1 .1 .1 .1 .1 .0) (ls₀ .1 .1 .1 .1 .0),
                   (
                     at-name d₆ (p′ .1 .1 .1 .1 .1 .1 .1 .1 .1 .1 .1 .0) (ls₀ .1 .1 .1 .1 .1 .0),
-                    (at-name d₇ (p′ .1 .1 .1 .1 .1 .1 .1 .1 .1 .1 .1 .1 .1 .0) (ls₀ .1 .1 .1 .1 .1 .1 .0), (n, (no, tt))),
+                    (
+                      at-name d₇ (p′ .1 .1 .1 .1 .1 .1 .1 .1 .1 .1 .1 .1 .1 .0) (ls₀ .1 .1 .1 .1 .1 .1 .0),
+                      (at-name d₈ (p′ .1 .1 .1 .1 .1 .1 .1 .1 .1 .1 .1 .1 .1 .1 .1 .0) (ls₀ .1 .1 .1 .1 .1 .1 .1 .0), (n, (no, tt))),
+                    ),
                   ),
                 ),
               ),
@@ -473,7 +483,7 @@ module _ {M : Type 1} (𝓤 : URA M) (H : Heap 𝓤) (A : Atoms 𝓤) (W : Given
           ),
         ),
       ),
-      (vp ∷ [], (val d₁ ∷ [], (val d₂ ∷ [], (val d₃ ∷ [], (val d₄ ∷ [], (val d₅ ∷ [], (val d₆ ∷ [], (val d₇ ∷ [], (vint w64 n ∷ [], (vint w64 no ∷ [], tt)))))))))),
+      (vp ∷ [], (val d₁ ∷ [], (val d₂ ∷ [], (val d₃ ∷ [], (val d₄ ∷ [], (val d₅ ∷ [], (val d₆ ∷ [], (val d₇ ∷ [], (val d₈ ∷ [], (vint w64 n ∷ [], (vint w64 no ∷ [], tt))))))))))),
     ),
     tt,
   )
@@ -485,10 +495,10 @@ module _ {M : Type 1} (𝓤 : URA M) (H : Heap 𝓤) (A : Atoms 𝓤) (W : Given
 
   -- what is bound, and what is said, of parameters that are passed shared or by value: nothing
   abbrev HeadLasts : Type 0
-  HeadLasts = Unit {0} × (Unit {0} × (Unit {0} × (Unit {0} × (Unit {0} × (Unit {0} × (Unit {0} × (Unit {0} × (Unit {0} × (Unit {0} × (Unit {0}))))))))))
+  HeadLasts = Unit {0} × (Unit {0} × (Unit {0} × (Unit {0} × (Unit {0} × (Unit {0} × (Unit {0} × (Unit {0} × (Unit {0} × (Unit {0} × (Unit {0} × (Unit {0})))))))))))
 
   abbrev HeadNil : Fml
-  HeadNil = fsep ftrue (fsep ftrue (fsep ftrue (fsep ftrue (fsep ftrue (fsep ftrue (fsep ftrue (fsep ftrue (fsep ftrue (fsep ftrue ftrue)))))))))
+  HeadNil = fsep ftrue (fsep ftrue (fsep ftrue (fsep ftrue (fsep ftrue (fsep ftrue (fsep ftrue (fsep ftrue (fsep ftrue (fsep ftrue (fsep ftrue ftrue))))))))))
 
   -- ---- the call of `item`, with the head's flag t
   abbrev Numbers : Bool → ℕ → Fml
@@ -509,13 +519,13 @@ module _ {M : Type 1} (𝓤 : URA M) (H : Heap 𝓤) (A : Atoms 𝓤) (W : Given
               p′ .1 .1 .1 .1 .1 .1 .0 ∷ [],
               (
                 p′ .1 .1 .1 .1 .1 .1 .1 .1 .0 ∷ [],
-                (p′ .1 .1 .1 .1 .1 .1 .1 .1 .1 .1 .0 ∷ [], (p′ .1 .1 .1 .1 .1 .1 .1 .1 .1 .1 .1 .1 .0 ∷ [], (κb, tt))),
+                (p′ .1 .1 .1 .1 .1 .1 .1 .1 .1 .1 .0 ∷ [], (p′ .1 .1 .1 .1 .1 .1 .1 .1 .1 .1 .1 .1 .0 ∷ [], (p′ .1 .1 .1 .1 .1 .1 .1 .1 .1 .1 .1 .1 .1 .1 .0 ∷ [], (κb, tt)))),
               ),
             ),
           ),
         ),
       ),
-      (fullShare, (fullShare, (fullShare, (fullShare, (fullShare, (fullShare, (fullShare, (qb, tt)))))))),
+      (fullShare, (fullShare, (fullShare, (fullShare, (fullShare, (fullShare, (fullShare, (fullShare, (qb, tt))))))))),
       tt,
       (
         p,
@@ -531,7 +541,10 @@ module _ {M : Type 1} (𝓤 : URA M) (H : Heap 𝓤) (A : Atoms 𝓤) (W : Given
                   at-name d₅ (p′ .1 .1 .1 .1 .1 .1 .1 .1 .1 .0) (ls .1 .1 .1 .1 .0),
                   (
                     at-name d₆ (p′ .1 .1 .1 .1 .1 .1 .1 .1 .1 .1 .1 .0) (ls .1 .1 .1 .1 .1 .0),
-                    (at-name d₇ (p′ .1 .1 .1 .1 .1 .1 .1 .1 .1 .1 .1 .1 .1 .0) (ls .1 .1 .1 .1 .1 .1 .0), (t, (elem i .lba, (elem i .count, (elem i .first, (xb, tt)))))),
+                    (
+                      at-name d₇ (p′ .1 .1 .1 .1 .1 .1 .1 .1 .1 .1 .1 .1 .1 .0) (ls .1 .1 .1 .1 .1 .1 .0),
+                      (at-name d₈ (p′ .1 .1 .1 .1 .1 .1 .1 .1 .1 .1 .1 .1 .1 .1 .1 .0) (ls .1 .1 .1 .1 .1 .1 .1 .0), (t, (elem i .lba, (elem i .count, (elem i .first, (xb, tt)))))),
+                    ),
                   ),
                 ),
               ),
@@ -556,8 +569,11 @@ module _ {M : Type 1} (𝓤 : URA M) (H : Heap 𝓤) (A : Atoms 𝓤) (W : Given
                     (
                       val d₇ ∷ [],
                       (
-                        vbool t ∷ [],
-                        (vint w32 (elem i .lba) ∷ [], (vint w32 (elem i .count) ∷ [], (vint w32 (elem i .first) ∷ [], (sb ∷ [], tt)))),
+                        val d₈ ∷ [],
+                        (
+                          vbool t ∷ [],
+                          (vint w32 (elem i .lba) ∷ [], (vint w32 (elem i .count) ∷ [], (vint w32 (elem i .first) ∷ [], (sb ∷ [], tt)))),
+                        ),
                       ),
                     ),
                   ),
@@ -579,10 +595,10 @@ module _ {M : Type 1} (𝓤 : URA M) (H : Heap 𝓤) (A : Atoms 𝓤) (W : Given
   -- what is bound of its parameters: the tables' last lists
   abbrev ItemLasts : Type 0
   ItemLasts = Unit {0} × (List ℕ × (List ℕ × (List ℕ × (List ℕ × (List ℕ ×
-      (List ℕ × (List ℕ × (Unit {0} × (Unit {0} × (Unit {0} × (Unit {0} × (Unit {0} × (Unit {0})))))))))))))
+      (List ℕ × (List ℕ × (List ℕ × (Unit {0} × (Unit {0} × (Unit {0} × (Unit {0} × (Unit {0} × (Unit {0}))))))))))))))
 
   abbrev lists : ItemLasts → Lists ds
-  lists zs = (zs .1 .0, (zs .1 .1 .0, (zs .1 .1 .1 .0, (zs .1 .1 .1 .1 .0, (zs .1 .1 .1 .1 .1 .0, (zs .1 .1 .1 .1 .1 .1 .0, (zs .1 .1 .1 .1 .1 .1 .1 .0, tt)))))))
+  lists zs = (zs .1 .0, (zs .1 .1 .0, (zs .1 .1 .1 .0, (zs .1 .1 .1 .1 .0, (zs .1 .1 .1 .1 .1 .0, (zs .1 .1 .1 .1 .1 .1 .0, (zs .1 .1 .1 .1 .1 .1 .1 .0, (zs .1 .1 .1 .1 .1 .1 .1 .1 .0, tt))))))))
 
   abbrev ItemNil : Fml
   ItemNil = fsep ftrue (fsep ftrue (fsep ftrue (fsep ftrue (fsep ftrue ftrue))))
@@ -618,13 +634,13 @@ module _ {M : Type 1} (𝓤 : URA M) (H : Heap 𝓤) (A : Atoms 𝓤) (W : Given
     own-ty k w = sliceTy (tyRef (named k) mut (tyInt w))
 
     abbrev items-ty : Ty
-    items-ty = sliceTy (tyRef (named 7) imm (pointee (It.the-row .written)))
+    items-ty = sliceTy (tyRef (named 8) imm (pointee (It.the-row .written)))
 
     abbrev bytes-ty : Ty
-    bytes-ty = sliceTy (tyRef (named 8) imm (tyInt w8))
+    bytes-ty = sliceTy (tyRef (named 9) imm (tyInt w8))
 
     abbrev out-ty : Ty
-    out-ty = sliceTy (tyRef (named 9) mut (pointee (Ans.the-row .written)))
+    out-ty = sliceTy (tyRef (named 10) mut (pointee (Ans.the-row .written)))
 
     abbrev shown-ty : Width → Ty
     shown-ty w = tyRef erased imm (tyInt w)
@@ -656,7 +672,7 @@ module _ {M : Type 1} (𝓤 : URA M) (H : Heap 𝓤) (A : Atoms 𝓤) (W : Given
         i = 0;
         ls = ls₀;
         os = x₀ .now;
-        long = (refl, (refl, (refl, (refl, (refl, (refl, (refl, tt)))))));
+        long = (refl, (refl, (refl, (refl, (refl, (refl, (refl, (refl, tt))))))));
         long-o = refl;
         ready = head .ready;
         same = refl;
@@ -677,51 +693,56 @@ module _ {M : Type 1} (𝓤 : URA M) (H : Heap 𝓤) (A : Atoms 𝓤) (W : Given
       }
 
       module _ (l₀ l₁ l₂ l₃ l₄ l₅ l₆ l₇ l₈ l₉ l₁₀ l₁₁ l₁₂ l₁₃ l₁₄ l₁₅ l₁₆ l₁₇ l₁₈ l₁₉ l₂₀ l₂₁ l₂₂ l₂₃ l₂₄ l₂₅ l₂₆ l₂₇ l₂₈ l₂₉ l₃₀ l₃₁ l₃₂ l₃₃ l₃₄ l₃₅
-          l₃₆ l₃₇ l₃₈ l₃₉ l₄₀ l₄₁ l₄₂ l₄₃ l₄₄ l₄₅ l₄₆ l₄₇ l₄₈ l₄₉ l₅₀ : ℕ) where
+          l₃₆ l₃₇ l₃₈ l₃₉ l₄₀ l₄₁ l₄₂ l₄₃ l₄₄ l₄₅ l₄₆ l₄₇ l₄₈ l₄₉ l₅₀ l₅₁ l₅₂ l₅₃ l₅₄ l₅₅ : ℕ) where
         abbrev E : Env 𝓤 H
         E = (Ans′.mir, l₀) ∷ (Par′.mir, l₁) ∷ ((own-ty 0 w8), l₂) ∷ ((own-ty 1 w16), l₃) ∷ ((own-ty 2 w16), l₄) ∷ ((own-ty 3 w16), l₅) ∷
-            ((own-ty 4 w8), l₆) ∷ ((own-ty 5 w32), l₇) ∷ ((own-ty 6 w64), l₈) ∷ (items-ty, l₉) ∷ (bytes-ty, l₁₀) ∷ (out-ty, l₁₁) ∷ (Hd′.mir, l₁₂) ∷
-            (word, l₁₃) ∷ (It′.mir, l₁₄) ∷ (Ans′.mir, l₁₅) ∷ ((shown-ty w8), l₁₆) ∷ ((sliceTy (shown-ty w8)), l₁₇) ∷ ((shown-ty w16), l₁₈) ∷
-            ((sliceTy (shown-ty w16)), l₁₉) ∷ ((shown-ty w16), l₂₀) ∷ ((sliceTy (shown-ty w16)), l₂₁) ∷ ((shown-ty w16), l₂₂) ∷
-            ((sliceTy (shown-ty w16)), l₂₃) ∷ ((shown-ty w8), l₂₄) ∷ ((sliceTy (shown-ty w8)), l₂₅) ∷ ((shown-ty w32), l₂₆) ∷
-            ((sliceTy (shown-ty w32)), l₂₇) ∷ ((shown-ty w64), l₂₈) ∷ ((sliceTy (shown-ty w64)), l₂₉) ∷ (word, l₃₀) ∷ (word, l₃₁) ∷ (tyBool, l₃₂) ∷
-            (word, l₃₃) ∷ (tyPtr, l₃₄) ∷ (It′.mir, l₃₅) ∷ ((lent-ty w8), l₃₆) ∷ ((sliceTy (lent-ty w8)), l₃₇) ∷ ((lent-ty w16), l₃₈) ∷
-            ((sliceTy (lent-ty w16)), l₃₉) ∷ ((lent-ty w16), l₄₀) ∷ ((sliceTy (lent-ty w16)), l₄₁) ∷ ((lent-ty w16), l₄₂) ∷
-            ((sliceTy (lent-ty w16)), l₄₃) ∷ ((lent-ty w8), l₄₄) ∷ ((sliceTy (lent-ty w8)), l₄₅) ∷ ((lent-ty w32), l₄₆) ∷
-            ((sliceTy (lent-ty w32)), l₄₇) ∷ ((lent-ty w64), l₄₈) ∷ ((sliceTy (lent-ty w64)), l₄₉) ∷ (tyPtr, l₅₀) ∷ []
+            ((own-ty 4 w8), l₆) ∷ ((own-ty 5 w32), l₇) ∷ ((own-ty 6 w64), l₈) ∷ ((own-ty 7 w32), l₉) ∷ (items-ty, l₁₀) ∷ (bytes-ty, l₁₁) ∷
+            (out-ty, l₁₂) ∷ (Hd′.mir, l₁₃) ∷ (word, l₁₄) ∷ (It′.mir, l₁₅) ∷ (Ans′.mir, l₁₆) ∷ ((shown-ty w8), l₁₇) ∷ ((sliceTy (shown-ty w8)), l₁₈) ∷
+            ((shown-ty w16), l₁₉) ∷ ((sliceTy (shown-ty w16)), l₂₀) ∷ ((shown-ty w16), l₂₁) ∷ ((sliceTy (shown-ty w16)), l₂₂) ∷
+            ((shown-ty w16), l₂₃) ∷ ((sliceTy (shown-ty w16)), l₂₄) ∷ ((shown-ty w8), l₂₅) ∷ ((sliceTy (shown-ty w8)), l₂₆) ∷ ((shown-ty w32), l₂₇) ∷
+            ((sliceTy (shown-ty w32)), l₂₈) ∷ ((shown-ty w64), l₂₉) ∷ ((sliceTy (shown-ty w64)), l₃₀) ∷ ((shown-ty w32), l₃₁) ∷
+            ((sliceTy (shown-ty w32)), l₃₂) ∷ (word, l₃₃) ∷ (word, l₃₄) ∷ (tyBool, l₃₅) ∷ (word, l₃₆) ∷ (tyPtr, l₃₇) ∷ (It′.mir, l₃₈) ∷
+            ((lent-ty w8), l₃₉) ∷ ((sliceTy (lent-ty w8)), l₄₀) ∷ ((lent-ty w16), l₄₁) ∷ ((sliceTy (lent-ty w16)), l₄₂) ∷ ((lent-ty w16), l₄₃) ∷
+            ((sliceTy (lent-ty w16)), l₄₄) ∷ ((lent-ty w16), l₄₅) ∷ ((sliceTy (lent-ty w16)), l₄₆) ∷ ((lent-ty w8), l₄₇) ∷
+            ((sliceTy (lent-ty w8)), l₄₈) ∷ ((lent-ty w32), l₄₉) ∷ ((sliceTy (lent-ty w32)), l₅₀) ∷ ((lent-ty w64), l₅₁) ∷
+            ((sliceTy (lent-ty w64)), l₅₂) ∷ ((lent-ty w32), l₅₃) ∷ ((sliceTy (lent-ty w32)), l₅₄) ∷ (tyPtr, l₅₅) ∷ []
 
         -- that each local dies, the last first
         abbrev Dies : List (Entry 𝓤)
-        Dies = ‵ (fdies tyPtr l₅₀) ∷ ‵ (fdies (sliceTy (lent-ty w64)) l₄₉) ∷ ‵ (fdies (lent-ty w64) l₄₈) ∷ ‵ (fdies (sliceTy (lent-ty w32)) l₄₇) ∷
-            ‵ (fdies (lent-ty w32) l₄₆) ∷ ‵ (fdies (sliceTy (lent-ty w8)) l₄₅) ∷ ‵ (fdies (lent-ty w8) l₄₄) ∷ ‵ (fdies (sliceTy (lent-ty w16)) l₄₃) ∷
-            ‵ (fdies (lent-ty w16) l₄₂) ∷ ‵ (fdies (sliceTy (lent-ty w16)) l₄₁) ∷ ‵ (fdies (lent-ty w16) l₄₀) ∷ ‵ (fdies (sliceTy (lent-ty w16)) l₃₉) ∷
-            ‵ (fdies (lent-ty w16) l₃₈) ∷ ‵ (fdies (sliceTy (lent-ty w8)) l₃₇) ∷ ‵ (fdies (lent-ty w8) l₃₆) ∷ ‵ (fdies It′.mir l₃₅) ∷
-            ‵ (fdies tyPtr l₃₄) ∷ ‵ (fdies word l₃₃) ∷ ‵ (fdies tyBool l₃₂) ∷ ‵ (fdies word l₃₁) ∷ ‵ (fdies word l₃₀) ∷
-            ‵ (fdies (sliceTy (shown-ty w64)) l₂₉) ∷ ‵ (fdies (shown-ty w64) l₂₈) ∷ ‵ (fdies (sliceTy (shown-ty w32)) l₂₇) ∷
-            ‵ (fdies (shown-ty w32) l₂₆) ∷ ‵ (fdies (sliceTy (shown-ty w8)) l₂₅) ∷ ‵ (fdies (shown-ty w8) l₂₄) ∷
-            ‵ (fdies (sliceTy (shown-ty w16)) l₂₃) ∷ ‵ (fdies (shown-ty w16) l₂₂) ∷ ‵ (fdies (sliceTy (shown-ty w16)) l₂₁) ∷
-            ‵ (fdies (shown-ty w16) l₂₀) ∷ ‵ (fdies (sliceTy (shown-ty w16)) l₁₉) ∷ ‵ (fdies (shown-ty w16) l₁₈) ∷
-            ‵ (fdies (sliceTy (shown-ty w8)) l₁₇) ∷ ‵ (fdies (shown-ty w8) l₁₆) ∷ ‵ (fdies Ans′.mir l₁₅) ∷ ‵ (fdies It′.mir l₁₄) ∷ ‵ (fdies word l₁₃) ∷
-            ‵ (fdies Hd′.mir l₁₂) ∷ ‵ (fdies out-ty l₁₁) ∷ ‵ (fdies bytes-ty l₁₀) ∷ ‵ (fdies items-ty l₉) ∷ ‵ (fdies (own-ty 6 w64) l₈) ∷
-            ‵ (fdies (own-ty 5 w32) l₇) ∷ ‵ (fdies (own-ty 4 w8) l₆) ∷ ‵ (fdies (own-ty 3 w16) l₅) ∷ ‵ (fdies (own-ty 2 w16) l₄) ∷
-            ‵ (fdies (own-ty 1 w16) l₃) ∷ ‵ (fdies (own-ty 0 w8) l₂) ∷ ‵ (fdies Par′.mir l₁) ∷ ‵ (fdies Ans′.mir l₀) ∷ ‵ Res ∷ ‵ Fact ∷ []
+        Dies = ‵ (fdies tyPtr l₅₅) ∷ ‵ (fdies (sliceTy (lent-ty w32)) l₅₄) ∷ ‵ (fdies (lent-ty w32) l₅₃) ∷ ‵ (fdies (sliceTy (lent-ty w64)) l₅₂) ∷
+            ‵ (fdies (lent-ty w64) l₅₁) ∷ ‵ (fdies (sliceTy (lent-ty w32)) l₅₀) ∷ ‵ (fdies (lent-ty w32) l₄₉) ∷ ‵ (fdies (sliceTy (lent-ty w8)) l₄₈) ∷
+            ‵ (fdies (lent-ty w8) l₄₇) ∷ ‵ (fdies (sliceTy (lent-ty w16)) l₄₆) ∷ ‵ (fdies (lent-ty w16) l₄₅) ∷ ‵ (fdies (sliceTy (lent-ty w16)) l₄₄) ∷
+            ‵ (fdies (lent-ty w16) l₄₃) ∷ ‵ (fdies (sliceTy (lent-ty w16)) l₄₂) ∷ ‵ (fdies (lent-ty w16) l₄₁) ∷ ‵ (fdies (sliceTy (lent-ty w8)) l₄₀) ∷
+            ‵ (fdies (lent-ty w8) l₃₉) ∷ ‵ (fdies It′.mir l₃₈) ∷ ‵ (fdies tyPtr l₃₇) ∷ ‵ (fdies word l₃₆) ∷ ‵ (fdies tyBool l₃₅) ∷
+            ‵ (fdies word l₃₄) ∷ ‵ (fdies word l₃₃) ∷ ‵ (fdies (sliceTy (shown-ty w32)) l₃₂) ∷ ‵ (fdies (shown-ty w32) l₃₁) ∷
+            ‵ (fdies (sliceTy (shown-ty w64)) l₃₀) ∷ ‵ (fdies (shown-ty w64) l₂₉) ∷ ‵ (fdies (sliceTy (shown-ty w32)) l₂₈) ∷
+            ‵ (fdies (shown-ty w32) l₂₇) ∷ ‵ (fdies (sliceTy (shown-ty w8)) l₂₆) ∷ ‵ (fdies (shown-ty w8) l₂₅) ∷
+            ‵ (fdies (sliceTy (shown-ty w16)) l₂₄) ∷ ‵ (fdies (shown-ty w16) l₂₃) ∷ ‵ (fdies (sliceTy (shown-ty w16)) l₂₂) ∷
+            ‵ (fdies (shown-ty w16) l₂₁) ∷ ‵ (fdies (sliceTy (shown-ty w16)) l₂₀) ∷ ‵ (fdies (shown-ty w16) l₁₉) ∷
+            ‵ (fdies (sliceTy (shown-ty w8)) l₁₈) ∷ ‵ (fdies (shown-ty w8) l₁₇) ∷ ‵ (fdies Ans′.mir l₁₆) ∷ ‵ (fdies It′.mir l₁₅) ∷
+            ‵ (fdies word l₁₄) ∷ ‵ (fdies Hd′.mir l₁₃) ∷ ‵ (fdies out-ty l₁₂) ∷ ‵ (fdies bytes-ty l₁₁) ∷ ‵ (fdies items-ty l₁₀) ∷
+            ‵ (fdies (own-ty 7 w32) l₉) ∷ ‵ (fdies (own-ty 6 w64) l₈) ∷ ‵ (fdies (own-ty 5 w32) l₇) ∷ ‵ (fdies (own-ty 4 w8) l₆) ∷
+            ‵ (fdies (own-ty 3 w16) l₅) ∷ ‵ (fdies (own-ty 2 w16) l₄) ∷ ‵ (fdies (own-ty 1 w16) l₃) ∷ ‵ (fdies (own-ty 0 w8) l₂) ∷
+            ‵ (fdies Par′.mir l₁) ∷ ‵ (fdies Ans′.mir l₀) ∷ ‵ Res ∷ ‵ Fact ∷ []
 
-        -- the loop's invariant: [0 the seven tables; 1 answers; 2 its token; 3 requests; 4 its token; 5 bytes; 6 its token; 7 _50; …; 57 _0; 58.. that they die; ..]
+        -- the loop's invariant: [0 the eight tables; 1 answers; 2 its token; 3 requests; 4 its token; 5 bytes; 6 its token; 7 _55; …; 62 _0; 63.. that they die; ..]
         abbrev Inv : State → List (Entry 𝓤)
-        Inv s = ‵ (Bundle ds (s .ls)) ∷ ‵ (Own (s .os)) ∷ ‵ (flft κo qo) ∷ ‵ Shr ∷ ‵ (flft κr qr) ∷ ‵ Bytes ∷ ‵ (flft κb qb) ∷ ‵ (froom tyPtr l₅₀ 0) ∷
-            ‵ (froom (sliceTy (lent-ty w64)) l₄₉ 0) ∷ ‵ (froom (lent-ty w64) l₄₈ 0) ∷ ‵ (froom (sliceTy (lent-ty w32)) l₄₇ 0) ∷
-            ‵ (froom (lent-ty w32) l₄₆ 0) ∷ ‵ (froom (sliceTy (lent-ty w8)) l₄₅ 0) ∷ ‵ (froom (lent-ty w8) l₄₄ 0) ∷
-            ‵ (froom (sliceTy (lent-ty w16)) l₄₃ 0) ∷ ‵ (froom (lent-ty w16) l₄₂ 0) ∷ ‵ (froom (sliceTy (lent-ty w16)) l₄₁ 0) ∷
-            ‵ (froom (lent-ty w16) l₄₀ 0) ∷ ‵ (froom (sliceTy (lent-ty w16)) l₃₉ 0) ∷ ‵ (froom (lent-ty w16) l₃₈ 0) ∷
-            ‵ (froom (sliceTy (lent-ty w8)) l₃₇ 0) ∷ ‵ (froom (lent-ty w8) l₃₆ 0) ∷ ‵ (froom It′.mir l₃₅ 0) ∷ ‵ (froom tyPtr l₃₄ 0) ∷
-            ‵ (froom word l₃₃ 0) ∷ ‵ (froom tyBool l₃₂ 0) ∷ ‵ (froom word l₃₁ 0) ∷ ‵ (froom word l₃₀ 0) ∷ ‵ (froom (sliceTy (shown-ty w64)) l₂₉ 0) ∷
-            ‵ (froom (shown-ty w64) l₂₈ 0) ∷ ‵ (froom (sliceTy (shown-ty w32)) l₂₇ 0) ∷ ‵ (froom (shown-ty w32) l₂₆ 0) ∷
-            ‵ (froom (sliceTy (shown-ty w8)) l₂₅ 0) ∷ ‵ (froom (shown-ty w8) l₂₄ 0) ∷ ‵ (froom (sliceTy (shown-ty w16)) l₂₃ 0) ∷
-            ‵ (froom (shown-ty w16) l₂₂ 0) ∷ ‵ (froom (sliceTy (shown-ty w16)) l₂₁ 0) ∷ ‵ (froom (shown-ty w16) l₂₀ 0) ∷
-            ‵ (froom (sliceTy (shown-ty w16)) l₁₉ 0) ∷ ‵ (froom (shown-ty w16) l₁₈ 0) ∷ ‵ (froom (sliceTy (shown-ty w8)) l₁₇ 0) ∷
-            ‵ (froom (shown-ty w8) l₁₆ 0) ∷ ‵ (froom Ans′.mir l₁₅ 0) ∷ ‵ (froom It′.mir l₁₄ 0) ∷ ‵ (fat fullShare word l₁₃ 0 (vint w64 (s .i))) ∷
-            ‵ (fat fullShare Hd′.mir l₁₂ 0 (LL.val Hd.the-type Hd′.the-laws h)) ∷ ‵ (fat fullShare out-ty l₁₁ 0 so) ∷
-            ‵ (fat fullShare bytes-ty l₁₀ 0 sb) ∷ ‵ (fat fullShare items-ty l₉ 0 sr) ∷ ‵ (fat fullShare (own-ty 6 w64) l₈ 0 (val d₇)) ∷
+        Inv s = ‵ (Bundle ds (s .ls)) ∷ ‵ (Own (s .os)) ∷ ‵ (flft κo qo) ∷ ‵ Shr ∷ ‵ (flft κr qr) ∷ ‵ Bytes ∷ ‵ (flft κb qb) ∷ ‵ (froom tyPtr l₅₅ 0) ∷
+            ‵ (froom (sliceTy (lent-ty w32)) l₅₄ 0) ∷ ‵ (froom (lent-ty w32) l₅₃ 0) ∷ ‵ (froom (sliceTy (lent-ty w64)) l₅₂ 0) ∷
+            ‵ (froom (lent-ty w64) l₅₁ 0) ∷ ‵ (froom (sliceTy (lent-ty w32)) l₅₀ 0) ∷ ‵ (froom (lent-ty w32) l₄₉ 0) ∷
+            ‵ (froom (sliceTy (lent-ty w8)) l₄₈ 0) ∷ ‵ (froom (lent-ty w8) l₄₇ 0) ∷ ‵ (froom (sliceTy (lent-ty w16)) l₄₆ 0) ∷
+            ‵ (froom (lent-ty w16) l₄₅ 0) ∷ ‵ (froom (sliceTy (lent-ty w16)) l₄₄ 0) ∷ ‵ (froom (lent-ty w16) l₄₃ 0) ∷
+            ‵ (froom (sliceTy (lent-ty w16)) l₄₂ 0) ∷ ‵ (froom (lent-ty w16) l₄₁ 0) ∷ ‵ (froom (sliceTy (lent-ty w8)) l₄₀ 0) ∷
+            ‵ (froom (lent-ty w8) l₃₉ 0) ∷ ‵ (froom It′.mir l₃₈ 0) ∷ ‵ (froom tyPtr l₃₇ 0) ∷ ‵ (froom word l₃₆ 0) ∷ ‵ (froom tyBool l₃₅ 0) ∷
+            ‵ (froom word l₃₄ 0) ∷ ‵ (froom word l₃₃ 0) ∷ ‵ (froom (sliceTy (shown-ty w32)) l₃₂ 0) ∷ ‵ (froom (shown-ty w32) l₃₁ 0) ∷
+            ‵ (froom (sliceTy (shown-ty w64)) l₃₀ 0) ∷ ‵ (froom (shown-ty w64) l₂₉ 0) ∷ ‵ (froom (sliceTy (shown-ty w32)) l₂₈ 0) ∷
+            ‵ (froom (shown-ty w32) l₂₇ 0) ∷ ‵ (froom (sliceTy (shown-ty w8)) l₂₆ 0) ∷ ‵ (froom (shown-ty w8) l₂₅ 0) ∷
+            ‵ (froom (sliceTy (shown-ty w16)) l₂₄ 0) ∷ ‵ (froom (shown-ty w16) l₂₃ 0) ∷ ‵ (froom (sliceTy (shown-ty w16)) l₂₂ 0) ∷
+            ‵ (froom (shown-ty w16) l₂₁ 0) ∷ ‵ (froom (sliceTy (shown-ty w16)) l₂₀ 0) ∷ ‵ (froom (shown-ty w16) l₁₉ 0) ∷
+            ‵ (froom (sliceTy (shown-ty w8)) l₁₈ 0) ∷ ‵ (froom (shown-ty w8) l₁₇ 0) ∷ ‵ (froom Ans′.mir l₁₆ 0) ∷ ‵ (froom It′.mir l₁₅ 0) ∷
+            ‵ (fat fullShare word l₁₄ 0 (vint w64 (s .i))) ∷ ‵ (fat fullShare Hd′.mir l₁₃ 0 (LL.val Hd.the-type Hd′.the-laws h)) ∷
+            ‵ (fat fullShare out-ty l₁₂ 0 so) ∷ ‵ (fat fullShare bytes-ty l₁₁ 0 sb) ∷ ‵ (fat fullShare items-ty l₁₀ 0 sr) ∷
+            ‵ (fat fullShare (own-ty 7 w32) l₉ 0 (val d₈)) ∷ ‵ (fat fullShare (own-ty 6 w64) l₈ 0 (val d₇)) ∷
             ‵ (fat fullShare (own-ty 5 w32) l₇ 0 (val d₆)) ∷ ‵ (fat fullShare (own-ty 4 w8) l₆ 0 (val d₅)) ∷
             ‵ (fat fullShare (own-ty 3 w16) l₅ 0 (val d₄)) ∷ ‵ (fat fullShare (own-ty 2 w16) l₄ 0 (val d₃)) ∷
             ‵ (fat fullShare (own-ty 1 w16) l₃ 0 (val d₂)) ∷ ‵ (fat fullShare (own-ty 0 w8) l₂ 0 (val d₁)) ∷ ‵ (fat fullShare Par′.mir l₁ 0 vp) ∷
@@ -732,7 +753,7 @@ module _ {M : Type 1} (𝓤 : URA M) (H : Heap 𝓤) (A : Atoms 𝓤) (W : Given
         Fewer s s′ = k - s .i < k - s′ .i
 
         abbrev Left : Out → SProp 𝓤
-        Left = afterBlock 𝓤 H (afterSeq 𝓤 H (Wp 𝓤 H C Λ E mir.t-20 (atReturn 𝓤 H E Post)) (atReturn 𝓤 H E Post))
+        Left = afterBlock 𝓤 H (afterSeq 𝓤 H (Wp 𝓤 H C Λ E mir.t-22 (atReturn 𝓤 H E Post)) (atReturn 𝓤 H E Post))
 
         abbrev Then : State → Out → SProp 𝓤
         Then s = afterTurn 𝓤 H (Below 𝓤 H A Fewer Inv s) Left
@@ -741,19 +762,19 @@ module _ {M : Type 1} (𝓤 : URA M) (H : Heap 𝓤) (A : Atoms 𝓤) (W : Given
         more : (s : State) → s .i < k → Sq W (Inv s) (runs C Λ E mir.turn-1 (anyQ (Then s)))
         unfolding afterTurn
         more s lt =
-            -- _32 = _13 < _12.items
-            assigns ! (bin ! (load ! (from ! (stop !)) (look ! 44 refl)) (load ! (from ! (fld ! refl (stop !))) (look-in ! 45 (sub ! 2 refl (whole !))))
-            tt) (from ! (stop !)) (init ! 25 refl (tt, tt)) $
-            rewrite ! 25 (λ (t : Bool). ‵ (fat fullShare tyBool l₃₂ 0 (vbool t))) (holds (ltb (s .i) k) (lt→ltb (s .i) k lt)) refl $
+            -- _35 = _14 < _13.items
+            assigns ! (bin ! (load ! (from ! (stop !)) (look ! 48 refl)) (load ! (from ! (fld ! refl (stop !))) (look-in ! 49 (sub ! 2 refl (whole !))))
+            tt) (from ! (stop !)) (init ! 27 refl (tt, tt)) $
+            rewrite ! 27 (λ (t : Bool). ‵ (fat fullShare tyBool l₃₅ 0 (vbool t))) (holds (ltb (s .i) k) (lt→ltb (s .i) k lt)) refl $
             -- so the loop goes on
-            stays ! (load ! (from ! (stop !)) (look ! 25 refl)) $
-            -- _33 = _13 * 12: the place of requests[i]
-            assigns ! (bin ! (load ! (from ! (stop !)) (look ! 44 refl)) (lit ! tt) (record { fits = place-fits (s .i) k n lt (head .fits) (gr .1) }))
-            (from ! (stop !)) (init ! 24 refl (tt, record { fits = place-fits (s .i) k n lt (head .fits) (gr .1) })) $
-            -- _34 = _9.0 + _33
-            assigns ! (bin ! (load ! (from ! (fld ! refl (stop !))) (look-in ! 48 (sub ! 0 refl (whole !)))) (load ! (from ! (stop !)) (look ! 24 refl))
-            tt) (from ! (stop !)) (init ! 23 refl (tt, tt)) $
-            rewrite ! 23 (λ (p′ : ℕ). ‵ (fat fullShare tyPtr l₃₄ 0 (vptr b p′))) (sym (place-is 12 o (s .i))) refl $
+            stays ! (load ! (from ! (stop !)) (look ! 27 refl)) $
+            -- _36 = _14 * 12: the place of requests[i]
+            assigns ! (bin ! (load ! (from ! (stop !)) (look ! 48 refl)) (lit ! tt) (record { fits = place-fits (s .i) k n lt (head .fits) (gr .1) }))
+            (from ! (stop !)) (init ! 26 refl (tt, record { fits = place-fits (s .i) k n lt (head .fits) (gr .1) })) $
+            -- _37 = _10.0 + _36
+            assigns ! (bin ! (load ! (from ! (fld ! refl (stop !))) (look-in ! 52 (sub ! 0 refl (whole !)))) (load ! (from ! (stop !)) (look ! 26 refl))
+            tt) (from ! (stop !)) (init ! 25 refl (tt, tt)) $
+            rewrite ! 25 (λ (p′ : ℕ). ‵ (fat fullShare tyPtr l₃₇ 0 (vptr b p′))) (sym (place-is 12 o (s .i))) refl $
             -- requests is looked into, and its element i taken out
             move ! (3 ∷ 4 ∷ []) $
             looks-slice ! tt It.the-row (Is It.the-row) (shows 𝓤 H A It.the-row) (LL.vals It.the-type It′.the-laws) (LL.tells It.the-type It′.the-laws)
@@ -761,64 +782,71 @@ module _ {M : Type 1} (𝓤 : URA M) (H : Heap 𝓤) (A : Atoms 𝓤) (W : Given
             elem-out ! It.the-row (Is It.the-row) (shows 𝓤 H A It.the-row) (LL.vals It.the-type It′.the-laws) (LL.tells It.the-type It′.the-laws) q′ ys
             (s .i) none b o (in-list s lt) (λ g.
             -- [requests[i]; what it owns; the others; what shuts; requests; …]
-            -- _35 = *_34
-            assigns ! (of-opd ! (load ! (from ! (hop ! (look ! 26 refl) (stop !))) (look-raw ! 0 refl))) (from ! (stop !))
-            (init ! 25 refl (LL.lawful It.the-type It′.the-laws 𝓤 H A W .typed (elem (s .i)) _ g .0)) $
-            -- _14 = _35, which is q
-            assigns ! (of-opd ! (load ! (from ! (stop !)) (look ! 25 refl))) (from ! (stop !))
-            (init ! 46 refl (LL.lawful It.the-type It′.the-laws 𝓤 H A W .typed (elem (s .i)) _ g .0)) $
+            -- _38 = *_37
+            assigns ! (of-opd ! (load ! (from ! (hop ! (look ! 28 refl) (stop !))) (look-raw ! 0 refl))) (from ! (stop !))
+            (init ! 27 refl (LL.lawful It.the-type It′.the-laws 𝓤 H A W .typed (elem (s .i)) _ g .0)) $
+            -- _15 = _38, which is q
+            assigns ! (of-opd ! (load ! (from ! (stop !)) (look ! 27 refl))) (from ! (stop !))
+            (init ! 50 refl (LL.lawful It.the-type It′.the-laws 𝓤 H A W .typed (elem (s .i)) _ g .0)) $
             -- the element is put back, and requests shut
             elem-back ! It.the-row q′ ys (s .i) none (It′.lowered (elem (s .i)) ∷ []) b o (in-list s lt) $ shuts-slice ! tt It.the-row q′ ys b o $
-            -- the seven tables, to be lent again
-            -- _36 = &mut *_2.0: chip
-            assigns ! (addr ! (from ! (fld ! refl (hop ! (look-in ! 55 (sub ! 0 refl (whole !))) (stop !))))) (from ! (stop !))
+            -- the eight tables, to be lent again
+            -- _39 = &mut *_2.0: chip
+            assigns ! (addr ! (from ! (fld ! refl (hop ! (look-in ! 60 (sub ! 0 refl (whole !))) (stop !))))) (from ! (stop !))
+            (init ! 23 refl (tt, tt)) $
+            -- _40 = (_39, _2.1)
+            assigns ! (agg ! (and-then ! (load ! (from ! (stop !)) (look ! 23 refl))
+            (and-then ! (load ! (from ! (fld ! refl (stop !))) (look-in ! 60 (sub ! 1 refl (whole !)))) (no-more !)))) (from ! (stop !))
+            (init ! 22 refl (tt, (tt, (record { fits = gs .0 .0 }, tt)))) $
+            -- _41 = &mut *_3.0: ct
+            assigns ! (addr ! (from ! (fld ! refl (hop ! (look-in ! 59 (sub ! 0 refl (whole !))) (stop !))))) (from ! (stop !))
             (init ! 21 refl (tt, tt)) $
-            -- _37 = (_36, _2.1)
+            -- _42 = (_41, _3.1)
             assigns ! (agg ! (and-then ! (load ! (from ! (stop !)) (look ! 21 refl))
-            (and-then ! (load ! (from ! (fld ! refl (stop !))) (look-in ! 55 (sub ! 1 refl (whole !)))) (no-more !)))) (from ! (stop !))
-            (init ! 20 refl (tt, (tt, (record { fits = gs .0 .0 }, tt)))) $
-            -- _38 = &mut *_3.0: ct
-            assigns ! (addr ! (from ! (fld ! refl (hop ! (look-in ! 54 (sub ! 0 refl (whole !))) (stop !))))) (from ! (stop !))
+            (and-then ! (load ! (from ! (fld ! refl (stop !))) (look-in ! 59 (sub ! 1 refl (whole !)))) (no-more !)))) (from ! (stop !))
+            (init ! 20 refl (tt, (tt, (record { fits = gs .1 .0 .0 }, tt)))) $
+            -- _43 = &mut *_4.0: bt
+            assigns ! (addr ! (from ! (fld ! refl (hop ! (look-in ! 58 (sub ! 0 refl (whole !))) (stop !))))) (from ! (stop !))
             (init ! 19 refl (tt, tt)) $
-            -- _39 = (_38, _3.1)
+            -- _44 = (_43, _4.1)
             assigns ! (agg ! (and-then ! (load ! (from ! (stop !)) (look ! 19 refl))
-            (and-then ! (load ! (from ! (fld ! refl (stop !))) (look-in ! 54 (sub ! 1 refl (whole !)))) (no-more !)))) (from ! (stop !))
-            (init ! 18 refl (tt, (tt, (record { fits = gs .1 .0 .0 }, tt)))) $
-            -- _40 = &mut *_4.0: bt
-            assigns ! (addr ! (from ! (fld ! refl (hop ! (look-in ! 53 (sub ! 0 refl (whole !))) (stop !))))) (from ! (stop !))
+            (and-then ! (load ! (from ! (fld ! refl (stop !))) (look-in ! 58 (sub ! 1 refl (whole !)))) (no-more !)))) (from ! (stop !))
+            (init ! 18 refl (tt, (tt, (record { fits = gs .1 .1 .0 .0 }, tt)))) $
+            -- _45 = &mut *_5.0: fst
+            assigns ! (addr ! (from ! (fld ! refl (hop ! (look-in ! 57 (sub ! 0 refl (whole !))) (stop !))))) (from ! (stop !))
             (init ! 17 refl (tt, tt)) $
-            -- _41 = (_40, _4.1)
+            -- _46 = (_45, _5.1)
             assigns ! (agg ! (and-then ! (load ! (from ! (stop !)) (look ! 17 refl))
-            (and-then ! (load ! (from ! (fld ! refl (stop !))) (look-in ! 53 (sub ! 1 refl (whole !)))) (no-more !)))) (from ! (stop !))
-            (init ! 16 refl (tt, (tt, (record { fits = gs .1 .1 .0 .0 }, tt)))) $
-            -- _42 = &mut *_5.0: fst
-            assigns ! (addr ! (from ! (fld ! refl (hop ! (look-in ! 52 (sub ! 0 refl (whole !))) (stop !))))) (from ! (stop !))
+            (and-then ! (load ! (from ! (fld ! refl (stop !))) (look-in ! 57 (sub ! 1 refl (whole !)))) (no-more !)))) (from ! (stop !))
+            (init ! 16 refl (tt, (tt, (record { fits = gs .1 .1 .1 .0 .0 }, tt)))) $
+            -- _47 = &mut *_6.0: bst
+            assigns ! (addr ! (from ! (fld ! refl (hop ! (look-in ! 56 (sub ! 0 refl (whole !))) (stop !))))) (from ! (stop !))
             (init ! 15 refl (tt, tt)) $
-            -- _43 = (_42, _5.1)
+            -- _48 = (_47, _6.1)
             assigns ! (agg ! (and-then ! (load ! (from ! (stop !)) (look ! 15 refl))
-            (and-then ! (load ! (from ! (fld ! refl (stop !))) (look-in ! 52 (sub ! 1 refl (whole !)))) (no-more !)))) (from ! (stop !))
-            (init ! 14 refl (tt, (tt, (record { fits = gs .1 .1 .1 .0 .0 }, tt)))) $
-            -- _44 = &mut *_6.0: bst
-            assigns ! (addr ! (from ! (fld ! refl (hop ! (look-in ! 51 (sub ! 0 refl (whole !))) (stop !))))) (from ! (stop !))
+            (and-then ! (load ! (from ! (fld ! refl (stop !))) (look-in ! 56 (sub ! 1 refl (whole !)))) (no-more !)))) (from ! (stop !))
+            (init ! 14 refl (tt, (tt, (record { fits = gs .1 .1 .1 .1 .0 .0 }, tt)))) $
+            -- _49 = &mut *_7.0: wear
+            assigns ! (addr ! (from ! (fld ! refl (hop ! (look-in ! 55 (sub ! 0 refl (whole !))) (stop !))))) (from ! (stop !))
             (init ! 13 refl (tt, tt)) $
-            -- _45 = (_44, _6.1)
+            -- _50 = (_49, _7.1)
             assigns ! (agg ! (and-then ! (load ! (from ! (stop !)) (look ! 13 refl))
-            (and-then ! (load ! (from ! (fld ! refl (stop !))) (look-in ! 51 (sub ! 1 refl (whole !)))) (no-more !)))) (from ! (stop !))
-            (init ! 12 refl (tt, (tt, (record { fits = gs .1 .1 .1 .1 .0 .0 }, tt)))) $
-            -- _46 = &mut *_7.0: wear
-            assigns ! (addr ! (from ! (fld ! refl (hop ! (look-in ! 50 (sub ! 0 refl (whole !))) (stop !))))) (from ! (stop !))
+            (and-then ! (load ! (from ! (fld ! refl (stop !))) (look-in ! 55 (sub ! 1 refl (whole !)))) (no-more !)))) (from ! (stop !))
+            (init ! 12 refl (tt, (tt, (record { fits = gs .1 .1 .1 .1 .1 .0 .0 }, tt)))) $
+            -- _51 = &mut *_8.0: marks
+            assigns ! (addr ! (from ! (fld ! refl (hop ! (look-in ! 54 (sub ! 0 refl (whole !))) (stop !))))) (from ! (stop !))
             (init ! 11 refl (tt, tt)) $
-            -- _47 = (_46, _7.1)
+            -- _52 = (_51, _8.1)
             assigns ! (agg ! (and-then ! (load ! (from ! (stop !)) (look ! 11 refl))
-            (and-then ! (load ! (from ! (fld ! refl (stop !))) (look-in ! 50 (sub ! 1 refl (whole !)))) (no-more !)))) (from ! (stop !))
-            (init ! 10 refl (tt, (tt, (record { fits = gs .1 .1 .1 .1 .1 .0 .0 }, tt)))) $
-            -- _48 = &mut *_8.0: marks
-            assigns ! (addr ! (from ! (fld ! refl (hop ! (look-in ! 49 (sub ! 0 refl (whole !))) (stop !))))) (from ! (stop !)) (init ! 9 refl (tt, tt))
-            $
-            -- _49 = (_48, _8.1)
+            (and-then ! (load ! (from ! (fld ! refl (stop !))) (look-in ! 54 (sub ! 1 refl (whole !)))) (no-more !)))) (from ! (stop !))
+            (init ! 10 refl (tt, (tt, (record { fits = gs .1 .1 .1 .1 .1 .1 .0 .0 }, tt)))) $
+            -- _53 = &mut *_9.0: stamps
+            assigns ! (addr ! (from ! (fld ! refl (hop ! (look-in ! 53 (sub ! 0 refl (whole !))) (stop !))))) (from ! (stop !))
+            (init ! 9 refl (tt, tt)) $
+            -- _54 = (_53, _9.1)
             assigns ! (agg ! (and-then ! (load ! (from ! (stop !)) (look ! 9 refl))
-            (and-then ! (load ! (from ! (fld ! refl (stop !))) (look-in ! 49 (sub ! 1 refl (whole !)))) (no-more !)))) (from ! (stop !))
-            (init ! 8 refl (tt, (tt, (record { fits = gs .1 .1 .1 .1 .1 .1 .0 .0 }, tt)))) $
+            (and-then ! (load ! (from ! (fld ! refl (stop !))) (look-in ! 53 (sub ! 1 refl (whole !)))) (no-more !)))) (from ! (stop !))
+            (init ! 8 refl (tt, (tt, (record { fits = gs .1 .1 .1 .1 .1 .1 .1 .0 .0 }, tt)))) $
             -- what is passed behind them, and the tokens
             move ! (5 ∷ []) $ use1 W (‵ Bytes ⊛ ‵ Bytes) (shr-slice-copy 𝓤 H A W (named 0) κb u8 .twice xb (sb ∷ [])) $ split ! $ nothing ! $
             move ! (1 ∷ 0 ∷ []) $ fjoin ! $
@@ -834,17 +862,18 @@ module _ {M : Type 1} (𝓤 : URA M) (H : Heap 𝓤) (A : Atoms 𝓤) (W : Given
             move ! (1 ∷ 0 ∷ []) $
             use2 W (raw (OneItem 𝓤 H A mem rn .pre (to-item (h .ordered) p′ (s .i) (s .ls))))
             (goes-item (h .ordered) p′ (s .i) (s .ls) (s .ready (some-left (s .i) k lt))) $
-            -- [what `item` asks; what is kept of the tables; …]: _15 = item(_1, _37, _39, _41, _43, _45, _47, _49, _12.ordered, _14.lba, _14.count, _14.first, _10)
+            -- [what `item` asks; what is kept of the tables; …]: _16 = item(_1, _40, _42, _44, _46, _48, _50, _52, _54, _13.ordered, _15.lba, _15.count, _15.first, _11)
             calls-at ! fm (OneItem 𝓤 H A mem rn) serves (to-item (h .ordered) p′ (s .i) (s .ls))
-            (and-then ! (load ! (from ! (stop !)) (look ! 56 refl)) (and-then ! (load ! (from ! (stop !)) (look ! 20 refl))
-            (and-then ! (load ! (from ! (stop !)) (look ! 18 refl)) (and-then ! (load ! (from ! (stop !)) (look ! 16 refl))
-            (and-then ! (load ! (from ! (stop !)) (look ! 14 refl)) (and-then ! (load ! (from ! (stop !)) (look ! 12 refl))
-            (and-then ! (load ! (from ! (stop !)) (look ! 10 refl)) (and-then ! (load ! (from ! (stop !)) (look ! 8 refl))
-            (and-then ! (load ! (from ! (fld ! refl (stop !))) (look-in ! 45 (sub ! 1 refl (whole !))))
-            (and-then ! (load ! (from ! (fld ! refl (stop !))) (look-in ! 43 (sub ! 0 refl (whole !))))
-            (and-then ! (load ! (from ! (fld ! refl (stop !))) (look-in ! 43 (sub ! 1 refl (whole !))))
-            (and-then ! (load ! (from ! (fld ! refl (stop !))) (look-in ! 43 (sub ! 2 refl (whole !))))
-            (and-then ! (load ! (from ! (stop !)) (look ! 47 refl)) (no-more !)))))))))))))) (λ v.
+            (and-then ! (load ! (from ! (stop !)) (look ! 61 refl)) (and-then ! (load ! (from ! (stop !)) (look ! 22 refl))
+            (and-then ! (load ! (from ! (stop !)) (look ! 20 refl)) (and-then ! (load ! (from ! (stop !)) (look ! 18 refl))
+            (and-then ! (load ! (from ! (stop !)) (look ! 16 refl)) (and-then ! (load ! (from ! (stop !)) (look ! 14 refl))
+            (and-then ! (load ! (from ! (stop !)) (look ! 12 refl)) (and-then ! (load ! (from ! (stop !)) (look ! 10 refl))
+            (and-then ! (load ! (from ! (stop !)) (look ! 8 refl))
+            (and-then ! (load ! (from ! (fld ! refl (stop !))) (look-in ! 49 (sub ! 1 refl (whole !))))
+            (and-then ! (load ! (from ! (fld ! refl (stop !))) (look-in ! 47 (sub ! 0 refl (whole !))))
+            (and-then ! (load ! (from ! (fld ! refl (stop !))) (look-in ! 47 (sub ! 1 refl (whole !))))
+            (and-then ! (load ! (from ! (fld ! refl (stop !))) (look-in ! 47 (sub ! 2 refl (whole !))))
+            (and-then ! (load ! (from ! (stop !)) (look ! 51 refl)) (no-more !))))))))))))))) (λ v.
             use1 W (later (some (λ (r : Answer). (‵ (Tokens ds p′ BytesTok) ⊛ ‵ (Ans.the-row .own r (v ∷ []))) ⊛ raw
             (ensured 𝓤 H A item.ended (item.clauses 𝓤 H A mem rn) (to-item (h .ordered) p′ (s .i) (s .ls) .0 .0)
             (to-item (h .ordered) p′ (s .i) (s .ls) .0 .3) tt r)))) (id⊢ 𝓤 _) $
@@ -857,26 +886,26 @@ module _ {M : Type 1} (𝓤 : URA M) (H : Heap 𝓤) (A : Atoms 𝓤) (W : Given
             move ! (1 ∷ []) $
             peeks ! Ans.the-row (Is Ans.the-row) (shows 𝓤 H A Ans.the-row) r (v ∷ []) (λ is.
             -- [the answer; the tokens; what is said of the last lists; what is kept; …]
-            land ! (from ! (stop !)) (init ! 44 refl (LL.lawful Ans.the-type Ans′.the-laws 𝓤 H A W .typed r _ is .0)) $
+            land ! (from ! (stop !)) (init ! 48 refl (LL.lawful Ans.the-type Ans′.the-laws 𝓤 H A W .typed r _ is .0)) $
             -- the tables come back, each as long as it was
             move ! (1 ∷ 3 ∷ 2 ∷ []) $
             use3 W (later (given (Long ds (lists zs)) (‵ (Bundle ds (lists zs)) ⊛ ‵ BytesTok)))
             (backs-all 𝓤 H A W ds (s .ls) p′ (lists zs) BytesTok ItemNil (s .long) gs) $
             await ! tt $ learn ! (λ es. split ! $ move ! (1 ∷ []) $ fsplit ! $ move ! (1 ∷ []) $ drop ! $
             -- [bytes' token; the tables; the answer; …]
-            -- _33 = _13 * 16: the place of answers[i]
-            assigns ! (bin ! (load ! (from ! (stop !)) (look ! 45 refl)) (lit ! tt) (record { fits = answer-fits (s .i) k n lt (head .fits) (gr .1) }))
-            (from ! (stop !)) (store ! 25 refl (tt, record { fits = answer-fits (s .i) k n lt (head .fits) (gr .1) })) $
-            -- _50 = _11.0 + _33
-            assigns ! (bin ! (load ! (from ! (fld ! refl (stop !))) (look-in ! 47 (sub ! 0 refl (whole !)))) (load ! (from ! (stop !)) (look ! 25 refl))
+            -- _36 = _14 * 16: the place of answers[i]
+            assigns ! (bin ! (load ! (from ! (stop !)) (look ! 49 refl)) (lit ! tt) (record { fits = answer-fits (s .i) k n lt (head .fits) (gr .1) }))
+            (from ! (stop !)) (store ! 27 refl (tt, record { fits = answer-fits (s .i) k n lt (head .fits) (gr .1) })) $
+            -- _55 = _12.0 + _36
+            assigns ! (bin ! (load ! (from ! (fld ! refl (stop !))) (look-in ! 51 (sub ! 0 refl (whole !)))) (load ! (from ! (stop !)) (look ! 27 refl))
             tt) (from ! (stop !)) (init ! 8 refl (tt, tt)) $
-            rewrite ! 8 (λ (p″ : ℕ). ‵ (fat fullShare tyPtr l₅₀ 0 (vptr bo p″))) (sym (place-is 16 oo (s .i))) refl $
+            rewrite ! 8 (λ (p″ : ℕ). ‵ (fat fullShare tyPtr l₅₅ 0 (vptr bo p″))) (sym (place-is 16 oo (s .i))) refl $
             -- answers is opened, and its element i taken out
             move ! (6 ∷ []) $ fsplit ! $ drop ! $ fsplit ! $ move ! (0 ∷ 1 ∷ 8 ∷ []) $ opens-slice ! tt Ans.the-row (s .os) bo oo $
             elem-out ! Ans.the-row (Is Ans.the-row) (shows 𝓤 H A Ans.the-row) (LL.vals Ans.the-type Ans′.the-laws) (LL.tells Ans.the-type Ans′.the-laws)
             fullShare (s .os) (s .i) no-answer bo oo (has-room s lt) (λ _.
-            -- [answers[i]; what it owns; the others; the open borrow; obs; auth; …]: *_50 = _15
-            assigns ! (of-opd ! (load ! (from ! (stop !)) (look ! 47 refl))) (from ! (hop ! (look ! 12 refl) (stop !)))
+            -- [answers[i]; what it owns; the others; the open borrow; obs; auth; …]: *_55 = _16
+            assigns ! (of-opd ! (load ! (from ! (stop !)) (look ! 51 refl))) (from ! (hop ! (look ! 12 refl) (stop !)))
             (store-raw ! 0 refl (LL.lawful Ans.the-type Ans′.the-laws 𝓤 H A W .typed r _ is .0)) $
             -- the answer is put there, and answers closed
             move ! (0 ∷ 8 ∷ 2 ∷ []) $ elem-put ! Ans.the-row fullShare (s .os) (s .i) r (v ∷ []) bo oo (has-room s lt) $ move ! (1 ∷ []) $ drop ! $
@@ -886,13 +915,14 @@ module _ {M : Type 1} (𝓤 : URA M) (H : Heap 𝓤) (A : Atoms 𝓤) (W : Given
             (ap (λ (m : ℕ). sliceVal (bo, oo) m ∷ []) (sym (kept-long s r)), subst (Room Ans.the-row) (sym (kept-long s r)) go) $
             fjoin ! $
             move ! (3 ∷ 0 ∷ 1 ∷ 6 ∷ 5 ∷ 4 ∷ 2 ∷ []) $
-            -- _13 = _13 + 1
-            assigns-last ! (bin ! (load ! (from ! (stop !)) (look ! 44 refl)) (lit ! tt) (record { fits = next-fits (s .i) k lt k-fits }))
-            (from ! (stop !)) (store ! 44 refl (tt, record { fits = next-fits (s .i) k lt k-fits })) $
+            -- _14 = _14 + 1
+            assigns-last ! (bin ! (load ! (from ! (stop !)) (look ! 48 refl)) (lit ! tt) (record { fits = next-fits (s .i) k lt k-fits }))
+            (from ! (stop !)) (store ! 48 refl (tt, record { fits = next-fits (s .i) k lt k-fits })) $
             -- what the turn made is let go
             forget ! 7 refl $ forget ! 8 refl $ forget ! 9 refl $ forget ! 10 refl $ forget ! 11 refl $ forget ! 12 refl $ forget ! 13 refl $
             forget ! 14 refl $ forget ! 15 refl $ forget ! 16 refl $ forget ! 17 refl $ forget ! 18 refl $ forget ! 19 refl $ forget ! 20 refl $
-            forget ! 21 refl $ forget ! 22 refl $ forget ! 23 refl $ forget ! 24 refl $ forget ! 25 refl $ forget ! 42 refl $ forget ! 43 refl $
+            forget ! 21 refl $ forget ! 22 refl $ forget ! 23 refl $ forget ! 24 refl $ forget ! 25 refl $ forget ! 26 refl $ forget ! 27 refl $
+            forget ! 46 refl $ forget ! 47 refl $
             again ! Fewer Inv s (next s lt (lists zs) es r e) (less (s .i) k lt)))))))))))
           where
             in-list : (s : State) → s .i < k → s .i < n
@@ -917,21 +947,21 @@ module _ {M : Type 1} (𝓤 : URA M) (H : Heap 𝓤) (A : Atoms 𝓤) (W : Given
         ends : (s : State) → k ≤ s .i → Sq W (Inv s) (runs C Λ E mir.turn-1 (anyQ (Then s)))
         unfolding afterTurn
         ends s over =
-            -- _32 = _13 < _12.items
-            assigns ! (bin ! (load ! (from ! (stop !)) (look ! 44 refl)) (load ! (from ! (fld ! refl (stop !))) (look-in ! 45 (sub ! 2 refl (whole !))))
-            tt) (from ! (stop !)) (init ! 25 refl (tt, tt)) $
-            rewrite ! 25 (λ (t : Bool). ‵ (fat fullShare tyBool l₃₂ 0 (vbool t)))
+            -- _35 = _14 < _13.items
+            assigns ! (bin ! (load ! (from ! (stop !)) (look ! 48 refl)) (load ! (from ! (fld ! refl (stop !))) (look-in ! 49 (sub ! 2 refl (whole !))))
+            tt) (from ! (stop !)) (init ! 27 refl (tt, tt)) $
+            rewrite ! 27 (λ (t : Bool). ‵ (fat fullShare tyBool l₃₅ 0 (vbool t)))
             (fails (ltb (s .i) k) (λ l. not-both (s .i) k over (ltb→lt (s .i) k l))) refl $
             -- so the loop is left
-            leaves-loop ! (load ! (from ! (stop !)) (look ! 25 refl)) $ exec ! C Λ E mir.t-20 (atRet E Post) $
+            leaves-loop ! (load ! (from ! (stop !)) (look ! 27 refl)) $ exec ! C Λ E mir.t-22 (atRet E Post) $
             -- `idle` is passed the head's reply
             nothing ! $
             owned ! Rep.the-row (Is Rep.the-row) (EL.makes Rep.the-type Rep′.the-plain 𝓤 H A) (h .reply) _ (LL.owed Hd.the-type Hd′.the-laws h _ gh .0)
             $
             fjoin ! $ use1 W (raw (Idle 𝓤 H A mem rn .pre (to-idle h))) (goes-idle h) $
-            -- _0 = idle(_12.reply)
+            -- _0 = idle(_13.reply)
             calls-at ! fm (Idle 𝓤 H A mem rn) idles (to-idle h) (and-then ! (load ! (from ! (fld ! refl (stop !)))
-            (look-in ! 46 (sub ! 0 refl (whole !)))) (no-more !)) (λ v.
+            (look-in ! 50 (sub ! 0 refl (whole !)))) (no-more !)) (λ v.
             use1 W (later (some (λ (r : Answer). (‵ ftrue ⊛ ‵ (Ans.the-row .own r (v ∷ []))) ⊛ raw
             (ensured 𝓤 H A idle.ended (idle.clauses 𝓤 H A mem rn) (to-idle h .0 .0) (to-idle h .0 .3) tt r)))) (id⊢ 𝓤 _) $
             await ! tt $ pick ! (λ r.
@@ -939,28 +969,26 @@ module _ {M : Type 1} (𝓤 : URA M) (H : Heap 𝓤) (A : Atoms 𝓤) (W : Given
             use1 W (some (λ (zs : Unit {0} × Unit {0}). ‵ (fsep ftrue ftrue) ⊛ raw (fact 𝓤 (r ≡ answerOf (h .reply) [] 0)))) (id⊢ 𝓤 _) $ pick ! (λ zs.
             split ! $ move ! (1 ∷ []) $ heard ! (r ≡ answerOf (h .reply) [] 0) (λ e. drop ! $ split ! $ drop ! $
             peeks ! Ans.the-row (Is Ans.the-row) (shows 𝓤 H A Ans.the-row) r (v ∷ []) (λ is.
-            land ! (from ! (stop !)) (init ! 58 refl (LL.lawful Ans.the-type Ans′.the-laws 𝓤 H A W .typed r _ is .0)) $
+            land ! (from ! (stop !)) (init ! 63 refl (LL.lawful Ans.the-type Ans′.the-laws 𝓤 H A W .typed r _ is .0)) $
             -- the locals die
-            returns ! (look ! 58 refl) $
-            forget ! 26 refl $ forget ! 45 refl $ forget ! 46 refl $ forget ! 47 refl $ forget ! 48 refl $ forget ! 49 refl $ forget ! 50 refl $
-            forget ! 51 refl $ forget ! 52 refl $ forget ! 53 refl $ forget ! 54 refl $ forget ! 55 refl $ forget ! 56 refl $ forget ! 57 refl $
-            forget ! 58 refl $
-            move ! (58 ∷ 109 ∷ []) $ free1 ! $ move ! (57 ∷ 107 ∷ []) $ free1 ! $ move ! (56 ∷ 105 ∷ []) $ free1 ! $ move ! (55 ∷ 103 ∷ []) $ free1 ! $
-            move ! (54 ∷ 101 ∷ []) $ free1 ! $ move ! (53 ∷ 99 ∷ []) $ free1 ! $
-            move ! (52 ∷ 97 ∷ []) $ free1 ! $ move ! (51 ∷ 95 ∷ []) $ free1 ! $ move ! (50 ∷ 93 ∷ []) $ free1 ! $ move ! (49 ∷ 91 ∷ []) $ free1 ! $
-            move ! (48 ∷ 89 ∷ []) $ free1 ! $ move ! (47 ∷ 87 ∷ []) $ free1 ! $
+            returns ! (look ! 63 refl) $
+            forget ! 28 refl $ forget ! 49 refl $ forget ! 50 refl $ forget ! 51 refl $ forget ! 52 refl $ forget ! 53 refl $ forget ! 54 refl $
+            forget ! 55 refl $ forget ! 56 refl $ forget ! 57 refl $ forget ! 58 refl $ forget ! 59 refl $ forget ! 60 refl $ forget ! 61 refl $
+            forget ! 62 refl $ forget ! 63 refl $
+            move ! (63 ∷ 119 ∷ []) $ free1 ! $ move ! (62 ∷ 117 ∷ []) $ free1 ! $ move ! (61 ∷ 115 ∷ []) $ free1 ! $
+            move ! (60 ∷ 113 ∷ []) $ free1 ! $ move ! (59 ∷ 111 ∷ []) $ free1 ! $ move ! (58 ∷ 109 ∷ []) $ free1 ! $
+            move ! (57 ∷ 107 ∷ []) $ free1 ! $ move ! (56 ∷ 105 ∷ []) $ free1 ! $ move ! (55 ∷ 103 ∷ []) $ free1 ! $
+            move ! (54 ∷ 101 ∷ []) $ free1 ! $ move ! (53 ∷ 99 ∷ []) $ free1 ! $ move ! (52 ∷ 97 ∷ []) $ free1 ! $ move ! (51 ∷ 95 ∷ []) $ free1 ! $
+            move ! (50 ∷ 93 ∷ []) $ free1 ! $ move ! (49 ∷ 91 ∷ []) $ free1 ! $ move ! (48 ∷ 89 ∷ []) $ free1 ! $ move ! (47 ∷ 87 ∷ []) $ free1 ! $
             move ! (46 ∷ 85 ∷ []) $ free1 ! $ move ! (45 ∷ 83 ∷ []) $ free1 ! $ move ! (44 ∷ 81 ∷ []) $ free1 ! $ move ! (43 ∷ 79 ∷ []) $ free1 ! $
-            move ! (42 ∷ 77 ∷ []) $ free1 ! $ move ! (41 ∷ 75 ∷ []) $ free1 ! $
-            move ! (40 ∷ 73 ∷ []) $ free1 ! $ move ! (39 ∷ 71 ∷ []) $ free1 ! $ move ! (38 ∷ 69 ∷ []) $ free1 ! $ move ! (37 ∷ 67 ∷ []) $ free1 ! $
-            move ! (36 ∷ 65 ∷ []) $ free1 ! $ move ! (35 ∷ 63 ∷ []) $ free1 ! $
+            move ! (42 ∷ 77 ∷ []) $ free1 ! $ move ! (41 ∷ 75 ∷ []) $ free1 ! $ move ! (40 ∷ 73 ∷ []) $ free1 ! $ move ! (39 ∷ 71 ∷ []) $ free1 ! $
+            move ! (38 ∷ 69 ∷ []) $ free1 ! $ move ! (37 ∷ 67 ∷ []) $ free1 ! $ move ! (36 ∷ 65 ∷ []) $ free1 ! $ move ! (35 ∷ 63 ∷ []) $ free1 ! $
             move ! (34 ∷ 61 ∷ []) $ free1 ! $ move ! (33 ∷ 59 ∷ []) $ free1 ! $ move ! (32 ∷ 57 ∷ []) $ free1 ! $ move ! (31 ∷ 55 ∷ []) $ free1 ! $
-            move ! (30 ∷ 53 ∷ []) $ free1 ! $ move ! (29 ∷ 51 ∷ []) $ free1 ! $
-            move ! (28 ∷ 49 ∷ []) $ free1 ! $ move ! (27 ∷ 47 ∷ []) $ free1 ! $ move ! (26 ∷ 45 ∷ []) $ free1 ! $ move ! (25 ∷ 43 ∷ []) $ free1 ! $
-            move ! (24 ∷ 41 ∷ []) $ free1 ! $ move ! (23 ∷ 39 ∷ []) $ free1 ! $
+            move ! (30 ∷ 53 ∷ []) $ free1 ! $ move ! (29 ∷ 51 ∷ []) $ free1 ! $ move ! (28 ∷ 49 ∷ []) $ free1 ! $ move ! (27 ∷ 47 ∷ []) $ free1 ! $
+            move ! (26 ∷ 45 ∷ []) $ free1 ! $ move ! (25 ∷ 43 ∷ []) $ free1 ! $ move ! (24 ∷ 41 ∷ []) $ free1 ! $ move ! (23 ∷ 39 ∷ []) $ free1 ! $
             move ! (22 ∷ 37 ∷ []) $ free1 ! $ move ! (21 ∷ 35 ∷ []) $ free1 ! $ move ! (20 ∷ 33 ∷ []) $ free1 ! $ move ! (19 ∷ 31 ∷ []) $ free1 ! $
-            move ! (18 ∷ 29 ∷ []) $ free1 ! $ move ! (17 ∷ 27 ∷ []) $ free1 ! $
-            move ! (16 ∷ 25 ∷ []) $ free1 ! $ move ! (15 ∷ 23 ∷ []) $ free1 ! $ move ! (14 ∷ 21 ∷ []) $ free1 ! $ move ! (13 ∷ 19 ∷ []) $ free1 ! $
-            move ! (12 ∷ 17 ∷ []) $ free1 ! $ move ! (11 ∷ 15 ∷ []) $ free1 ! $
+            move ! (18 ∷ 29 ∷ []) $ free1 ! $ move ! (17 ∷ 27 ∷ []) $ free1 ! $ move ! (16 ∷ 25 ∷ []) $ free1 ! $ move ! (15 ∷ 23 ∷ []) $ free1 ! $
+            move ! (14 ∷ 21 ∷ []) $ free1 ! $ move ! (13 ∷ 19 ∷ []) $ free1 ! $ move ! (12 ∷ 17 ∷ []) $ free1 ! $ move ! (11 ∷ 15 ∷ []) $ free1 ! $
             move ! (10 ∷ 13 ∷ []) $ free1 ! $ move ! (9 ∷ 11 ∷ []) $ free1 ! $ move ! (8 ∷ 9 ∷ []) $ free1 ! $ free0 ! $
             move ! (1 ∷ 2 ∷ 3 ∷ 4 ∷ 5 ∷ 6 ∷ 7 ∷ 0 ∷ 8 ∷ 9 ∷ []) $
             by ! (exits gp (s .ls) (s .os) (s .long) (s .long-o) r v (fold-is p bs (S ls₀) ys (x₀ .now) h head r e (S (s .ls)) (s .os)
@@ -970,7 +998,7 @@ module _ {M : Type 1} (𝓤 : URA M) (H : Heap 𝓤) (A : Atoms 𝓤) (W : Given
         turn-by s true e = more s (ltb→lt (s .i) k (subst Holds (sym e) tt))
         turn-by s false e = ends s (not-less (s .i) k (λ l. subst Holds e (lt→ltb (s .i) k l)))
 
-        looped : (s : State) → Sq W (Inv s) (runs C Λ E mir.t-19 (atRet E Post))
+        looped : (s : State) → Sq W (Inv s) (runs C Λ E mir.t-21 (atRet E Post))
         looped s = first ! $ blocks ! $
             loops ! 𝓣 Fewer (InvImage·wf (λ (x : State). k - x .i) (Nat·lt-wfRel .wf)) Inv (λ x. turn-by x (ltb (x .i) k) refl) s
 
@@ -982,81 +1010,89 @@ module _ {M : Type 1} (𝓤 : URA M) (H : Heap 𝓤) (A : Atoms 𝓤) (W : Given
     Has₀ = fsep OwnP (Has ds ls₀ (RestHas (x₀ .now)))
 
     abbrev passed : List Val
-    passed = vp ∷ val d₁ ∷ val d₂ ∷ val d₃ ∷ val d₄ ∷ val d₅ ∷ val d₆ ∷ val d₇ ∷ sr ∷ sb ∷ so ∷ []
+    passed = vp ∷ val d₁ ∷ val d₂ ∷ val d₃ ∷ val d₄ ∷ val d₅ ∷ val d₆ ∷ val d₇ ∷ val d₈ ∷ sr ∷ sb ∷ so ∷ []
 
     walk : ent 𝓤 (onEntry 𝓤 H A queue.signature κs qs a vals) (WpFn 𝓤 H C Λ code.function passed Post)
     walk =
         qed W (‵ Toks₀ ∷ ‵ Has₀ ∷ []) ∵ enter ! C Λ code.function passed _ $
-        alloc1 ! (λ l₀. alloc1 ! (λ l₁. alloc1 ! (λ l₂. alloc1 ! (λ l₃. alloc1 ! (λ l₄. alloc1 ! (λ l₅. alloc1 ! (λ l₆. alloc1 ! (λ l₇. alloc1 ! (λ l₈.
-        alloc1 ! (λ l₉. alloc1 ! (λ l₁₀. alloc1 ! (λ l₁₁. alloc1 ! (λ l₁₂. alloc1 ! (λ l₁₃. alloc1 ! (λ l₁₄. alloc1 ! (λ l₁₅. alloc1 ! (λ l₁₆.
-        alloc1 ! (λ l₁₇. alloc1 ! (λ l₁₈. alloc1 ! (λ l₁₉. alloc1 ! (λ l₂₀. alloc1 ! (λ l₂₁. alloc1 ! (λ l₂₂. alloc1 ! (λ l₂₃. alloc1 ! (λ l₂₄.
-        alloc1 ! (λ l₂₅. alloc1 ! (λ l₂₆. alloc1 ! (λ l₂₇. alloc1 ! (λ l₂₈. alloc1 ! (λ l₂₉. alloc1 ! (λ l₃₀. alloc1 ! (λ l₃₁. alloc1 ! (λ l₃₂.
-        alloc1 ! (λ l₃₃. alloc1 ! (λ l₃₄. alloc1 ! (λ l₃₅. alloc1 ! (λ l₃₆. alloc1 ! (λ l₃₇. alloc1 ! (λ l₃₈. alloc1 ! (λ l₃₉. alloc1 ! (λ l₄₀.
-        alloc1 ! (λ l₄₁. alloc1 ! (λ l₄₂. alloc1 ! (λ l₄₃. alloc1 ! (λ l₄₄. alloc1 ! (λ l₄₅. alloc1 ! (λ l₄₆. alloc1 ! (λ l₄₇. alloc1 ! (λ l₄₈.
-        alloc1 ! (λ l₄₉. alloc1 ! (λ l₅₀. alloc0 ! $ params1 ! $
-        pass1 ! (init ! 98 refl (LL.lawful Par.the-type Par′.the-laws 𝓤 H A W .typed p _ gp .0)) $
-        pass1 ! (init ! 96 refl (tt, (tt, (record { fits = gs .0 .0 }, tt)))) $
-        pass1 ! (init ! 94 refl (tt, (tt, (record { fits = gs .1 .0 .0 }, tt)))) $
-        pass1 ! (init ! 92 refl (tt, (tt, (record { fits = gs .1 .1 .0 .0 }, tt)))) $
-        pass1 ! (init ! 90 refl (tt, (tt, (record { fits = gs .1 .1 .1 .0 .0 }, tt)))) $
-        pass1 ! (init ! 88 refl (tt, (tt, (record { fits = gs .1 .1 .1 .1 .0 .0 }, tt)))) $
-        pass1 ! (init ! 86 refl (tt, (tt, (record { fits = gs .1 .1 .1 .1 .1 .0 .0 }, tt)))) $
-        pass1 ! (init ! 84 refl (tt, (tt, (record { fits = gs .1 .1 .1 .1 .1 .1 .0 .0 }, tt)))) $
-        pass1 ! (init ! 82 refl (tt, (tt, (record { fits = gr .0 }, tt)))) $
-        pass1 ! (init ! 80 refl (tt, (tt, (record { fits = gb .0 }, tt)))) $
-        pass1 ! (init ! 78 refl (tt, (tt, (record { fits = go .0 }, tt)))) $
+        alloc1 ! (λ l₀. alloc1 ! (λ l₁. alloc1 ! (λ l₂. alloc1 ! (λ l₃. alloc1 ! (λ l₄. alloc1 ! (λ l₅. alloc1 ! (λ l₆. alloc1 ! (λ l₇.
+        alloc1 ! (λ l₈. alloc1 ! (λ l₉. alloc1 ! (λ l₁₀. alloc1 ! (λ l₁₁. alloc1 ! (λ l₁₂. alloc1 ! (λ l₁₃. alloc1 ! (λ l₁₄. alloc1 ! (λ l₁₅.
+        alloc1 ! (λ l₁₆. alloc1 ! (λ l₁₇. alloc1 ! (λ l₁₈. alloc1 ! (λ l₁₉. alloc1 ! (λ l₂₀. alloc1 ! (λ l₂₁. alloc1 ! (λ l₂₂. alloc1 ! (λ l₂₃.
+        alloc1 ! (λ l₂₄. alloc1 ! (λ l₂₅. alloc1 ! (λ l₂₆. alloc1 ! (λ l₂₇. alloc1 ! (λ l₂₈. alloc1 ! (λ l₂₉. alloc1 ! (λ l₃₀. alloc1 ! (λ l₃₁.
+        alloc1 ! (λ l₃₂. alloc1 ! (λ l₃₃. alloc1 ! (λ l₃₄. alloc1 ! (λ l₃₅. alloc1 ! (λ l₃₆. alloc1 ! (λ l₃₇. alloc1 ! (λ l₃₈. alloc1 ! (λ l₃₉.
+        alloc1 ! (λ l₄₀. alloc1 ! (λ l₄₁. alloc1 ! (λ l₄₂. alloc1 ! (λ l₄₃. alloc1 ! (λ l₄₄. alloc1 ! (λ l₄₅. alloc1 ! (λ l₄₆. alloc1 ! (λ l₄₇.
+        alloc1 ! (λ l₄₈. alloc1 ! (λ l₄₉. alloc1 ! (λ l₅₀. alloc1 ! (λ l₅₁. alloc1 ! (λ l₅₂. alloc1 ! (λ l₅₃. alloc1 ! (λ l₅₄. alloc1 ! (λ l₅₅.
+        alloc0 ! $ params1 ! $
+        pass1 ! (init ! 108 refl (LL.lawful Par.the-type Par′.the-laws 𝓤 H A W .typed p _ gp .0)) $
+        pass1 ! (init ! 106 refl (tt, (tt, (record { fits = gs .0 .0 }, tt)))) $
+        pass1 ! (init ! 104 refl (tt, (tt, (record { fits = gs .1 .0 .0 }, tt)))) $
+        pass1 ! (init ! 102 refl (tt, (tt, (record { fits = gs .1 .1 .0 .0 }, tt)))) $
+        pass1 ! (init ! 100 refl (tt, (tt, (record { fits = gs .1 .1 .1 .0 .0 }, tt)))) $
+        pass1 ! (init ! 98 refl (tt, (tt, (record { fits = gs .1 .1 .1 .1 .0 .0 }, tt)))) $
+        pass1 ! (init ! 96 refl (tt, (tt, (record { fits = gs .1 .1 .1 .1 .1 .0 .0 }, tt)))) $
+        pass1 ! (init ! 94 refl (tt, (tt, (record { fits = gs .1 .1 .1 .1 .1 .1 .0 .0 }, tt)))) $
+        pass1 ! (init ! 92 refl (tt, (tt, (record { fits = gs .1 .1 .1 .1 .1 .1 .1 .0 .0 }, tt)))) $
+        pass1 ! (init ! 90 refl (tt, (tt, (record { fits = gr .0 }, tt)))) $
+        pass1 ! (init ! 88 refl (tt, (tt, (record { fits = gb .0 }, tt)))) $
+        pass1 ! (init ! 86 refl (tt, (tt, (record { fits = go .0 }, tt)))) $
         pass0 ! $
-        -- the seven tables, to be lent shared
-        -- _16 = &*_2.0: chip
-        assigns ! (addr ! (from ! (fld ! refl (hop ! (look-in ! 96 (sub ! 0 refl (whole !))) (stop !))))) (from ! (stop !)) (init ! 68 refl (tt, tt)) $
-        -- _17 = (_16, _2.1)
+        -- the eight tables, to be lent shared
+        -- _17 = &*_2.0: chip
+        assigns ! (addr ! (from ! (fld ! refl (hop ! (look-in ! 106 (sub ! 0 refl (whole !))) (stop !))))) (from ! (stop !)) (init ! 76 refl (tt, tt)) $
+        -- _18 = (_17, _2.1)
+        assigns ! (agg ! (and-then ! (load ! (from ! (stop !)) (look ! 76 refl))
+        (and-then ! (load ! (from ! (fld ! refl (stop !))) (look-in ! 106 (sub ! 1 refl (whole !)))) (no-more !)))) (from ! (stop !))
+        (init ! 74 refl (tt, (tt, (record { fits = gs .0 .0 }, tt)))) $
+        -- _19 = &*_3.0: ct
+        assigns ! (addr ! (from ! (fld ! refl (hop ! (look-in ! 104 (sub ! 0 refl (whole !))) (stop !))))) (from ! (stop !)) (init ! 72 refl (tt, tt)) $
+        -- _20 = (_19, _3.1)
+        assigns ! (agg ! (and-then ! (load ! (from ! (stop !)) (look ! 72 refl))
+        (and-then ! (load ! (from ! (fld ! refl (stop !))) (look-in ! 104 (sub ! 1 refl (whole !)))) (no-more !)))) (from ! (stop !))
+        (init ! 70 refl (tt, (tt, (record { fits = gs .1 .0 .0 }, tt)))) $
+        -- _21 = &*_4.0: bt
+        assigns ! (addr ! (from ! (fld ! refl (hop ! (look-in ! 102 (sub ! 0 refl (whole !))) (stop !))))) (from ! (stop !)) (init ! 68 refl (tt, tt)) $
+        -- _22 = (_21, _4.1)
         assigns ! (agg ! (and-then ! (load ! (from ! (stop !)) (look ! 68 refl))
-        (and-then ! (load ! (from ! (fld ! refl (stop !))) (look-in ! 96 (sub ! 1 refl (whole !)))) (no-more !)))) (from ! (stop !))
-        (init ! 66 refl (tt, (tt, (record { fits = gs .0 .0 }, tt)))) $
-        -- _18 = &*_3.0: ct
-        assigns ! (addr ! (from ! (fld ! refl (hop ! (look-in ! 94 (sub ! 0 refl (whole !))) (stop !))))) (from ! (stop !)) (init ! 64 refl (tt, tt)) $
-        -- _19 = (_18, _3.1)
+        (and-then ! (load ! (from ! (fld ! refl (stop !))) (look-in ! 102 (sub ! 1 refl (whole !)))) (no-more !)))) (from ! (stop !))
+        (init ! 66 refl (tt, (tt, (record { fits = gs .1 .1 .0 .0 }, tt)))) $
+        -- _23 = &*_5.0: fst
+        assigns ! (addr ! (from ! (fld ! refl (hop ! (look-in ! 100 (sub ! 0 refl (whole !))) (stop !))))) (from ! (stop !)) (init ! 64 refl (tt, tt)) $
+        -- _24 = (_23, _5.1)
         assigns ! (agg ! (and-then ! (load ! (from ! (stop !)) (look ! 64 refl))
-        (and-then ! (load ! (from ! (fld ! refl (stop !))) (look-in ! 94 (sub ! 1 refl (whole !)))) (no-more !)))) (from ! (stop !))
-        (init ! 62 refl (tt, (tt, (record { fits = gs .1 .0 .0 }, tt)))) $
-        -- _20 = &*_4.0: bt
-        assigns ! (addr ! (from ! (fld ! refl (hop ! (look-in ! 92 (sub ! 0 refl (whole !))) (stop !))))) (from ! (stop !)) (init ! 60 refl (tt, tt)) $
-        -- _21 = (_20, _4.1)
+        (and-then ! (load ! (from ! (fld ! refl (stop !))) (look-in ! 100 (sub ! 1 refl (whole !)))) (no-more !)))) (from ! (stop !))
+        (init ! 62 refl (tt, (tt, (record { fits = gs .1 .1 .1 .0 .0 }, tt)))) $
+        -- _25 = &*_6.0: bst
+        assigns ! (addr ! (from ! (fld ! refl (hop ! (look-in ! 98 (sub ! 0 refl (whole !))) (stop !))))) (from ! (stop !)) (init ! 60 refl (tt, tt)) $
+        -- _26 = (_25, _6.1)
         assigns ! (agg ! (and-then ! (load ! (from ! (stop !)) (look ! 60 refl))
-        (and-then ! (load ! (from ! (fld ! refl (stop !))) (look-in ! 92 (sub ! 1 refl (whole !)))) (no-more !)))) (from ! (stop !))
-        (init ! 58 refl (tt, (tt, (record { fits = gs .1 .1 .0 .0 }, tt)))) $
-        -- _22 = &*_5.0: fst
-        assigns ! (addr ! (from ! (fld ! refl (hop ! (look-in ! 90 (sub ! 0 refl (whole !))) (stop !))))) (from ! (stop !)) (init ! 56 refl (tt, tt)) $
-        -- _23 = (_22, _5.1)
+        (and-then ! (load ! (from ! (fld ! refl (stop !))) (look-in ! 98 (sub ! 1 refl (whole !)))) (no-more !)))) (from ! (stop !))
+        (init ! 58 refl (tt, (tt, (record { fits = gs .1 .1 .1 .1 .0 .0 }, tt)))) $
+        -- _27 = &*_7.0: wear
+        assigns ! (addr ! (from ! (fld ! refl (hop ! (look-in ! 96 (sub ! 0 refl (whole !))) (stop !))))) (from ! (stop !)) (init ! 56 refl (tt, tt)) $
+        -- _28 = (_27, _7.1)
         assigns ! (agg ! (and-then ! (load ! (from ! (stop !)) (look ! 56 refl))
-        (and-then ! (load ! (from ! (fld ! refl (stop !))) (look-in ! 90 (sub ! 1 refl (whole !)))) (no-more !)))) (from ! (stop !))
-        (init ! 54 refl (tt, (tt, (record { fits = gs .1 .1 .1 .0 .0 }, tt)))) $
-        -- _24 = &*_6.0: bst
-        assigns ! (addr ! (from ! (fld ! refl (hop ! (look-in ! 88 (sub ! 0 refl (whole !))) (stop !))))) (from ! (stop !)) (init ! 52 refl (tt, tt)) $
-        -- _25 = (_24, _6.1)
+        (and-then ! (load ! (from ! (fld ! refl (stop !))) (look-in ! 96 (sub ! 1 refl (whole !)))) (no-more !)))) (from ! (stop !))
+        (init ! 54 refl (tt, (tt, (record { fits = gs .1 .1 .1 .1 .1 .0 .0 }, tt)))) $
+        -- _29 = &*_8.0: marks
+        assigns ! (addr ! (from ! (fld ! refl (hop ! (look-in ! 94 (sub ! 0 refl (whole !))) (stop !))))) (from ! (stop !)) (init ! 52 refl (tt, tt)) $
+        -- _30 = (_29, _8.1)
         assigns ! (agg ! (and-then ! (load ! (from ! (stop !)) (look ! 52 refl))
-        (and-then ! (load ! (from ! (fld ! refl (stop !))) (look-in ! 88 (sub ! 1 refl (whole !)))) (no-more !)))) (from ! (stop !))
-        (init ! 50 refl (tt, (tt, (record { fits = gs .1 .1 .1 .1 .0 .0 }, tt)))) $
-        -- _26 = &*_7.0: wear
-        assigns ! (addr ! (from ! (fld ! refl (hop ! (look-in ! 86 (sub ! 0 refl (whole !))) (stop !))))) (from ! (stop !)) (init ! 48 refl (tt, tt)) $
-        -- _27 = (_26, _7.1)
+        (and-then ! (load ! (from ! (fld ! refl (stop !))) (look-in ! 94 (sub ! 1 refl (whole !)))) (no-more !)))) (from ! (stop !))
+        (init ! 50 refl (tt, (tt, (record { fits = gs .1 .1 .1 .1 .1 .1 .0 .0 }, tt)))) $
+        -- _31 = &*_9.0: stamps
+        assigns ! (addr ! (from ! (fld ! refl (hop ! (look-in ! 92 (sub ! 0 refl (whole !))) (stop !))))) (from ! (stop !)) (init ! 48 refl (tt, tt)) $
+        -- _32 = (_31, _9.1)
         assigns ! (agg ! (and-then ! (load ! (from ! (stop !)) (look ! 48 refl))
-        (and-then ! (load ! (from ! (fld ! refl (stop !))) (look-in ! 86 (sub ! 1 refl (whole !)))) (no-more !)))) (from ! (stop !))
-        (init ! 46 refl (tt, (tt, (record { fits = gs .1 .1 .1 .1 .1 .0 .0 }, tt)))) $
-        -- _28 = &*_8.0: marks
-        assigns ! (addr ! (from ! (fld ! refl (hop ! (look-in ! 84 (sub ! 0 refl (whole !))) (stop !))))) (from ! (stop !)) (init ! 44 refl (tt, tt)) $
-        -- _29 = (_28, _8.1)
-        assigns ! (agg ! (and-then ! (load ! (from ! (stop !)) (look ! 44 refl))
-        (and-then ! (load ! (from ! (fld ! refl (stop !))) (look-in ! 84 (sub ! 1 refl (whole !)))) (no-more !)))) (from ! (stop !))
-        (init ! 42 refl (tt, (tt, (record { fits = gs .1 .1 .1 .1 .1 .1 .0 .0 }, tt)))) $
-        -- _30 = requests.len()
-        assigns ! (of-opd ! (load ! (from ! (fld ! refl (stop !))) (look-in ! 82 (sub ! 1 refl (whole !))))) (from ! (stop !))
-        (init ! 40 refl (tt, record { fits = gr .0 })) $
-        -- _31 = answers.len()
-        assigns ! (of-opd ! (load ! (from ! (fld ! refl (stop !))) (look-in ! 78 (sub ! 1 refl (whole !))))) (from ! (stop !))
-        (init ! 38 refl (tt, record { fits = go .0 })) $
+        (and-then ! (load ! (from ! (fld ! refl (stop !))) (look-in ! 92 (sub ! 1 refl (whole !)))) (no-more !)))) (from ! (stop !))
+        (init ! 46 refl (tt, (tt, (record { fits = gs .1 .1 .1 .1 .1 .1 .1 .0 .0 }, tt)))) $
+        -- _33 = requests.len()
+        assigns ! (of-opd ! (load ! (from ! (fld ! refl (stop !))) (look-in ! 90 (sub ! 1 refl (whole !))))) (from ! (stop !))
+        (init ! 44 refl (tt, record { fits = gr .0 })) $
+        -- _34 = answers.len()
+        assigns ! (of-opd ! (load ! (from ! (fld ! refl (stop !))) (look-in ! 86 (sub ! 1 refl (whole !))))) (from ! (stop !))
+        (init ! 42 refl (tt, record { fits = go .0 })) $
         -- what is owned at entry, taken apart
-        move ! (103 ∷ []) $ fsplit ! $ drop ! $ move ! (103 ∷ 0 ∷ []) $
+        move ! (113 ∷ []) $ fsplit ! $ drop ! $ move ! (113 ∷ 0 ∷ []) $
         use2 W (‵ (Bundle ds ls₀) ⊛ ‵ RestToks ⊛ ‵ (RestHas (x₀ .now))) (bundles 𝓤 H A W ds ls₀ RestToks (RestHas (x₀ .now))) $ split3 ! $
         move ! (1 ∷ []) $ fsplit ! $ move ! (1 ∷ []) $ fsplit ! $ move ! (1 ∷ []) $ fsplit ! $ move ! (1 ∷ []) $ drop ! $
         move ! (4 ∷ []) $ fsplit ! $ move ! (1 ∷ []) $ fsplit ! $ move ! (1 ∷ []) $ fsplit ! $ move ! (1 ∷ []) $ drop ! $ move ! (2 ∷ []) $ fsplit ! $
@@ -1065,17 +1101,18 @@ module _ {M : Type 1} (𝓤 : URA M) (H : Heap 𝓤) (A : Atoms 𝓤) (W : Given
         nothing ! $ owned ! usize (Is usize) (uint-makes 𝓤 H A W w64) no _ (refl, go .0) $ fjoin ! $
         owned ! usize (Is usize) (uint-makes 𝓤 H A W w64) n _ (refl, gr .0) $ fjoin ! $ nothing ! $ move ! (10 ∷ 0 ∷ 1 ∷ []) $
         use3 W (later (some (λ (p′ : Picks ds). ‵ (Tokens ds p′ ftrue) ⊛ ‵ (Shared ds p′ ls₀ Counts) ⊛ ‵ (Held ds p′ ls₀))))
-        (shows-all 𝓤 H A W ds ls₀ ftrue Counts (refl, (refl, (refl, (refl, (refl, (refl, (refl, tt)))))))) $
+        (shows-all 𝓤 H A W ds ls₀ ftrue Counts (refl, (refl, (refl, (refl, (refl, (refl, (refl, (refl, tt))))))))) $
         await ! tt $ pick ! (λ p′. split3 ! $
         move ! (1 ∷ []) $ owned ! Par.the-row (Is Par.the-row) (LL.makes Par.the-type Par′.the-plain 𝓤 H A) p (vp ∷ []) gp $ fjoin ! $
         move ! (1 ∷ 0 ∷ []) $ use2 W (raw (HeadOf 𝓤 H A mem rn .pre (to-head p′))) (goes-head p′) $
-        -- [what `head_of` asks; what is held of the tables; …]: _12 = head_of(_1, _17, _19, _21, _23, _25, _27, _29, _30, _31)
-        calls-at ! fm (HeadOf 𝓤 H A mem rn) heads (to-head p′) (and-then ! (load ! (from ! (stop !)) (look ! 108 refl))
+        -- [what `head_of` asks; what is held of the tables; …]: _13 = head_of(_1, _18, _20, _22, _24, _26, _28, _30, _32, _33, _34)
+        calls-at ! fm (HeadOf 𝓤 H A mem rn) heads (to-head p′) (and-then ! (load ! (from ! (stop !)) (look ! 118 refl))
+        (and-then ! (load ! (from ! (stop !)) (look ! 84 refl)) (and-then ! (load ! (from ! (stop !)) (look ! 80 refl))
         (and-then ! (load ! (from ! (stop !)) (look ! 76 refl)) (and-then ! (load ! (from ! (stop !)) (look ! 72 refl))
         (and-then ! (load ! (from ! (stop !)) (look ! 68 refl)) (and-then ! (load ! (from ! (stop !)) (look ! 64 refl))
         (and-then ! (load ! (from ! (stop !)) (look ! 60 refl)) (and-then ! (load ! (from ! (stop !)) (look ! 56 refl))
-        (and-then ! (load ! (from ! (stop !)) (look ! 52 refl)) (and-then ! (load ! (from ! (stop !)) (look ! 50 refl))
-        (and-then ! (load ! (from ! (stop !)) (look ! 48 refl)) (no-more !))))))))))) (λ v.
+        (and-then ! (load ! (from ! (stop !)) (look ! 54 refl)) (and-then ! (load ! (from ! (stop !)) (look ! 52 refl))
+        (no-more !)))))))))))) (λ v.
         use1 W (later (some (λ (h : Head). (‵ (Tokens ds p′ ftrue) ⊛ ‵ (Hd.the-row .own h (v ∷ []))) ⊛ raw
         (ensured 𝓤 H A head-of.ended (head-of.clauses 𝓤 H A mem rn) (to-head p′ .0 .0) (to-head p′ .0 .3) tt h)))) (id⊢ 𝓤 _) $
         await ! tt $ pick ! (λ h.
@@ -1084,25 +1121,25 @@ module _ {M : Type 1} (𝓤 : URA M) (H : Heap 𝓤) (A : Atoms 𝓤) (W : Given
         split ! $ move ! (1 ∷ []) $ heard ! (HeadIs p (S ls₀) n no h) (λ head. drop ! $ split ! $ move ! (1 ∷ []) $
         peeks ! Hd.the-row (Is Hd.the-row) (shows 𝓤 H A Hd.the-row) h (v ∷ []) (λ is.
         -- [the head; the tokens; what is held; …]: the head's value is h's
-        land ! (from ! (stop !)) (init ! 87 refl (LL.lawful Hd.the-type Hd′.the-laws 𝓤 H A W .typed h _ is .0)) $
-        drop ! $ rewrite ! 86 (λ (u : Val). ‵ (fat fullShare Hd′.mir l₁₂ 0 u)) (ap only (LL.tells Hd.the-type Hd′.the-laws h (v ∷ []) is)) refl $
+        land ! (from ! (stop !)) (init ! 95 refl (LL.lawful Hd.the-type Hd′.the-laws 𝓤 H A W .typed h _ is .0)) $
+        drop ! $ rewrite ! 94 (λ (u : Val). ‵ (fat fullShare Hd′.mir l₁₃ 0 u)) (ap only (LL.tells Hd.the-type Hd′.the-laws h (v ∷ []) is)) refl $
         -- the tables come back
-        use2 W (later (‵ (Bundle ds ls₀) ⊛ ‵ ftrue)) (hides-all 𝓤 H A W ds ls₀ p′ ftrue (refl, (refl, (refl, (refl, (refl, (refl, (refl, tt))))))) gs) $
+        use2 W (later (‵ (Bundle ds ls₀) ⊛ ‵ ftrue)) (hides-all 𝓤 H A W ds ls₀ p′ ftrue (refl, (refl, (refl, (refl, (refl, (refl, (refl, (refl, tt)))))))) gs) $
         await ! tt $ split ! $ move ! (1 ∷ []) $ drop ! $
-        -- _13 = 0: i
-        assigns ! (of-opd ! (lit ! tt)) (from ! (stop !)) (init ! 83 refl (tt, record { fits = lit< tt })) $
+        -- _14 = 0: i
+        assigns ! (of-opd ! (lit ! tt)) (from ! (stop !)) (init ! 91 refl (tt, record { fits = lit< tt })) $
         -- what was lent is let go, and the invariant stands
-        forget ! 47 refl $ forget ! 49 refl $ forget ! 51 refl $ forget ! 53 refl $ forget ! 55 refl $ forget ! 57 refl $ forget ! 59 refl $
-        forget ! 61 refl $ forget ! 63 refl $ forget ! 65 refl $ forget ! 67 refl $ forget ! 69 refl $ forget ! 71 refl $ forget ! 73 refl $
-        forget ! 75 refl $ forget ! 77 refl $
-        keep ! (0 ∷ 4 ∷ 6 ∷ 2 ∷ 8 ∷ 5 ∷ 7 ∷ 9 ∷ 11 ∷ 13 ∷ 15 ∷ 17 ∷ 19 ∷ 21 ∷ 23 ∷ 25 ∷ 27 ∷ 29 ∷ 31 ∷ 33 ∷ 35 ∷ 37 ∷ 39 ∷ 41 ∷ 43 ∷ 45 ∷ 47 ∷ 49 ∷ 51 ∷
-        53 ∷ 55 ∷ 57 ∷ 59 ∷ 61 ∷ 63 ∷ 65 ∷ 67 ∷ 69 ∷ 71 ∷ 73 ∷ 75 ∷ 77 ∷ 79 ∷ 81 ∷ 83 ∷ 85 ∷ 87 ∷ 89 ∷ 91 ∷ 93 ∷ 95 ∷ 97 ∷ 99 ∷ 101 ∷ 103 ∷ 105 ∷
-        107 ∷ 109 ∷ 10 ∷ 12 ∷ 14 ∷ 16 ∷ 18 ∷ 20 ∷ 22 ∷ 24 ∷ 26 ∷ 28 ∷ 30 ∷ 32 ∷ 34 ∷ 36 ∷ 38 ∷ 40 ∷ 42 ∷ 44 ∷ 46 ∷ 48 ∷ 50 ∷ 52 ∷ 54 ∷ 56 ∷ 58 ∷
-        60 ∷ 62 ∷ 64 ∷ 66 ∷ 68 ∷ 70 ∷ 72 ∷ 74 ∷ 76 ∷ 78 ∷ 80 ∷ 82 ∷ 84 ∷ 86 ∷ 88 ∷ 90 ∷ 92 ∷ 94 ∷ 96 ∷ 98 ∷ 100 ∷ 102 ∷ 104 ∷ 106 ∷ 108 ∷ 110 ∷ 1 ∷
-        3 ∷ []) $
-        looped h (spelled h v is) head l₀ l₁ l₂ l₃ l₄ l₅ l₆ l₇ l₈ l₉ l₁₀ l₁₁ l₁₂ l₁₃ l₁₄ l₁₅ l₁₆ l₁₇ l₁₈ l₁₉ l₂₀ l₂₁ l₂₂ l₂₃ l₂₄ l₂₅ l₂₆ l₂₇ l₂₈ l₂₉ l₃₀
-        l₃₁ l₃₂ l₃₃ l₃₄ l₃₅ l₃₆ l₃₇ l₃₈ l₃₉ l₄₀ l₄₁ l₄₂ l₄₃ l₄₄ l₄₅ l₄₆ l₄₇ l₄₈ l₄₉ l₅₀
-        (start h (spelled h v is) head))))))))))))))))))))))))))))))))))))))))))))))))))))))))))
+        forget ! 51 refl $ forget ! 53 refl $ forget ! 55 refl $ forget ! 57 refl $ forget ! 59 refl $ forget ! 61 refl $ forget ! 63 refl $
+        forget ! 65 refl $ forget ! 67 refl $ forget ! 69 refl $ forget ! 71 refl $ forget ! 73 refl $ forget ! 75 refl $ forget ! 77 refl $
+        forget ! 79 refl $ forget ! 81 refl $ forget ! 83 refl $ forget ! 85 refl $
+        keep ! (0 ∷ 4 ∷ 6 ∷ 2 ∷ 8 ∷ 5 ∷ 7 ∷ 9 ∷ 11 ∷ 13 ∷ 15 ∷ 17 ∷ 19 ∷ 21 ∷ 23 ∷ 25 ∷ 27 ∷ 29 ∷ 31 ∷ 33 ∷ 35 ∷ 37 ∷ 39 ∷ 41 ∷ 43 ∷ 45 ∷ 47 ∷ 49 ∷
+        51 ∷ 53 ∷ 55 ∷ 57 ∷ 59 ∷ 61 ∷ 63 ∷ 65 ∷ 67 ∷ 69 ∷ 71 ∷ 73 ∷ 75 ∷ 77 ∷ 79 ∷ 81 ∷ 83 ∷ 85 ∷ 87 ∷ 89 ∷ 91 ∷ 93 ∷ 95 ∷ 97 ∷ 99 ∷ 101 ∷ 103 ∷ 105 ∷
+        107 ∷ 109 ∷ 111 ∷ 113 ∷ 115 ∷ 117 ∷ 119 ∷ 10 ∷ 12 ∷ 14 ∷ 16 ∷ 18 ∷ 20 ∷ 22 ∷ 24 ∷ 26 ∷ 28 ∷ 30 ∷ 32 ∷ 34 ∷ 36 ∷ 38 ∷ 40 ∷ 42 ∷ 44 ∷ 46 ∷ 48 ∷
+        50 ∷ 52 ∷ 54 ∷ 56 ∷ 58 ∷ 60 ∷ 62 ∷ 64 ∷ 66 ∷ 68 ∷ 70 ∷ 72 ∷ 74 ∷ 76 ∷ 78 ∷ 80 ∷ 82 ∷ 84 ∷ 86 ∷ 88 ∷ 90 ∷ 92 ∷ 94 ∷ 96 ∷ 98 ∷ 100 ∷ 102 ∷ 104 ∷
+        106 ∷ 108 ∷ 110 ∷ 112 ∷ 114 ∷ 116 ∷ 118 ∷ 120 ∷ 1 ∷ 3 ∷ []) $
+        looped h (spelled h v is) head l₀ l₁ l₂ l₃ l₄ l₅ l₆ l₇ l₈ l₉ l₁₀ l₁₁ l₁₂ l₁₃ l₁₄ l₁₅ l₁₆ l₁₇ l₁₈ l₁₉ l₂₀ l₂₁ l₂₂ l₂₃ l₂₄ l₂₅ l₂₆ l₂₇ l₂₈ l₂₉
+        l₃₀ l₃₁ l₃₂ l₃₃ l₃₄ l₃₅ l₃₆ l₃₇ l₃₈ l₃₉ l₄₀ l₄₁ l₄₂ l₄₃ l₄₄ l₄₅ l₄₆ l₄₇ l₄₈ l₄₉ l₅₀ l₅₁ l₅₂ l₅₃ l₅₄ l₅₅
+        (start h (spelled h v is) head)))))))))))))))))))))))))))))))))))))))))))))))))))))))))))))))
       where
         -- what is known of the head's value v, of the value spelled out
         spelled : (h : Head) (v : Val) → Is Hd.the-row h (v ∷ []) → Is Hd.the-row h (LL.vals Hd.the-type Hd′.the-laws h)
@@ -1114,7 +1151,10 @@ module _ {M : Type 1} (𝓤 : URA M) (H : Heap 𝓤) (A : Atoms 𝓤) (W : Given
       Triple 𝓤 (𝓣 .C #reply-rows·idle) (Idle 𝓤 H A mem rn)
       → Walks 𝓤 H A queue.ended stayed (WpFn 𝓤 H (𝓣 .C) (𝓣 .Λ) code.function) (queue.clauses 𝓤 H A mem rn)
   queue-walks 𝓣 heads serves idles = walked 𝓤 H A queue.ended stayed (queue.clauses 𝓤 H A mem rn) (WpFn 𝓤 H (𝓣 .C) (𝓣 .Λ) code.function)
-      (λ κs. (LL.vals Par.the-type Par′.the-laws, (slice-vals, (slice-vals, (slice-vals, (slice-vals, (slice-vals, (slice-vals, (slice-vals, (slice-vals, (slice-vals, (slice-vals, tt))))))))))))
+      (λ κs. (
+        LL.vals Par.the-type Par′.the-laws,
+        (slice-vals, (slice-vals, (slice-vals, (slice-vals, (slice-vals, (slice-vals, (slice-vals, (slice-vals, (slice-vals, (slice-vals, (slice-vals, tt))))))))))),
+      ))
       (λ κs. (
         LL.tells Par.the-type Par′.the-laws,
         (
@@ -1132,8 +1172,11 @@ module _ {M : Type 1} (𝓤 : URA M) (H : Heap 𝓤) (A : Atoms 𝓤) (W : Given
                     (
                       mut-slice-tells (named 6) (κs .1 .1 .1 .1 .1 .1 .0) u64,
                       (
-                        shr-slice-tells (named 7) (κs .1 .1 .1 .1 .1 .1 .1 .0) It.the-row,
-                        (shr-slice-tells (named 8) (κs .1 .1 .1 .1 .1 .1 .1 .1 .0) u8, (mut-slice-tells (named 9) (κs .1 .1 .1 .1 .1 .1 .1 .1 .1 .0) Ans.the-row, tt)),
+                        mut-slice-tells (named 7) (κs .1 .1 .1 .1 .1 .1 .1 .0) u32,
+                        (
+                          shr-slice-tells (named 8) (κs .1 .1 .1 .1 .1 .1 .1 .1 .0) It.the-row,
+                          (shr-slice-tells (named 9) (κs .1 .1 .1 .1 .1 .1 .1 .1 .1 .0) u8, (mut-slice-tells (named 10) (κs .1 .1 .1 .1 .1 .1 .1 .1 .1 .1 .0) Ans.the-row, tt)),
+                        ),
                       ),
                     ),
                   ),
@@ -1149,41 +1192,45 @@ module _ {M : Type 1} (𝓤 : URA M) (H : Heap 𝓤) (A : Atoms 𝓤) (W : Given
       (qs .1 .1 .1 .1 .1 .0) (a .1 .1 .1 .1 .1 .1 .0) (κs .1 .1 .1 .1 .1 .1 .0) (qs .1 .1 .1 .1 .1 .1 .0) (a .1 .1 .1 .1 .1 .1 .1 .0)
       (κs .1 .1 .1 .1 .1 .1 .1 .0) (qs .1 .1 .1 .1 .1 .1 .1 .0) (a .1 .1 .1 .1 .1 .1 .1 .1 .0) (κs .1 .1 .1 .1 .1 .1 .1 .1 .0)
       (qs .1 .1 .1 .1 .1 .1 .1 .1 .0) (a .1 .1 .1 .1 .1 .1 .1 .1 .1 .0) (κs .1 .1 .1 .1 .1 .1 .1 .1 .1 .0) (qs .1 .1 .1 .1 .1 .1 .1 .1 .1 .0)
-      (a .1 .1 .1 .1 .1 .1 .1 .1 .1 .1 .0) 𝓣 (fmOf 𝓤 H (W .laws) 𝓣) heads serves idles (are .0) (
+      (a .1 .1 .1 .1 .1 .1 .1 .1 .1 .1 .0) (κs .1 .1 .1 .1 .1 .1 .1 .1 .1 .1 .0) (qs .1 .1 .1 .1 .1 .1 .1 .1 .1 .1 .0)
+      (a .1 .1 .1 .1 .1 .1 .1 .1 .1 .1 .1 .0) 𝓣 (fmOf 𝓤 H (W .laws) 𝓣) heads serves idles (are .0) (
         are .1 .0 .0 .1,
         (
           are .1 .1 .0 .0 .1,
           (
             are .1 .1 .1 .0 .0 .1,
-            (are .1 .1 .1 .1 .0 .0 .1, (are .1 .1 .1 .1 .1 .0 .0 .1, (are .1 .1 .1 .1 .1 .1 .0 .0 .1, (are .1 .1 .1 .1 .1 .1 .1 .0 .0 .1, tt)))),
+            (are .1 .1 .1 .1 .0 .0 .1, (are .1 .1 .1 .1 .1 .0 .0 .1, (are .1 .1 .1 .1 .1 .1 .0 .0 .1, (are .1 .1 .1 .1 .1 .1 .1 .0 .0 .1, (are .1 .1 .1 .1 .1 .1 .1 .1 .0 .0 .1, tt))))),
           ),
         ),
       )
-      (are .1 .1 .1 .1 .1 .1 .1 .1 .0 .0 .1) (are .1 .1 .1 .1 .1 .1 .1 .1 .1 .0 .0 .1) (are .1 .1 .1 .1 .1 .1 .1 .1 .1 .1 .0 .0 .1)))
+      (are .1 .1 .1 .1 .1 .1 .1 .1 .1 .0 .0 .1) (are .1 .1 .1 .1 .1 .1 .1 .1 .1 .1 .0 .0 .1) (are .1 .1 .1 .1 .1 .1 .1 .1 .1 .1 .1 .0 .0 .1)))
 
 queue-meets : {M : Type 1} (𝓤 : URA M) (H : Heap 𝓤) (A : Atoms 𝓤) → Given 𝓤 H A → (mem : Memory → SProp 𝓤) (rn : Routine → Fun 𝓤) (𝓣 : Tables 𝓤 H) →
     Triple 𝓤 (𝓣 .C #queue-head·head-of) (HeadOf 𝓤 H A mem rn) → Triple 𝓤 (𝓣 .C #queue-item·item) (OneItem 𝓤 H A mem rn) →
     Triple 𝓤 (𝓣 .C #reply-rows·idle) (Idle 𝓤 H A mem rn)
     → Meets 𝓤 H A queue.signature (WpFn 𝓤 H (𝓣 .C) (𝓣 .Λ) code.function) (queue.spec 𝓤 H A mem rn)
 queue-meets 𝓤 H A W mem rn 𝓣 heads serves idles = walk-meets 𝓤 H A queue.ended stayed W (
-  goes-none 𝓤 H A W 10 (λ _. Par.the-row) yes (λ κs x f. refl),
+  goes-none 𝓤 H A W 11 (λ _. Par.the-row) yes (λ κs x f. refl),
   (
-    goes-slice 𝓤 H A W 10 0 tt (plain (λ _. u8)),
+    goes-slice 𝓤 H A W 11 0 tt (plain (λ _. u8)),
     (
-      goes-slice 𝓤 H A W 10 1 tt (plain (λ _. u16)),
+      goes-slice 𝓤 H A W 11 1 tt (plain (λ _. u16)),
       (
-        goes-slice 𝓤 H A W 10 2 tt (plain (λ _. u16)),
+        goes-slice 𝓤 H A W 11 2 tt (plain (λ _. u16)),
         (
-          goes-slice 𝓤 H A W 10 3 tt (plain (λ _. u16)),
+          goes-slice 𝓤 H A W 11 3 tt (plain (λ _. u16)),
           (
-            goes-slice 𝓤 H A W 10 4 tt (plain (λ _. u8)),
+            goes-slice 𝓤 H A W 11 4 tt (plain (λ _. u8)),
             (
-              goes-slice 𝓤 H A W 10 5 tt (plain (λ _. u32)),
+              goes-slice 𝓤 H A W 11 5 tt (plain (λ _. u32)),
               (
-                goes-slice 𝓤 H A W 10 6 tt (plain (λ _. u64)),
+                goes-slice 𝓤 H A W 11 6 tt (plain (λ _. u64)),
                 (
-                  goes-none-slice 𝓤 H A W 10 (7 ∷ []) tt (plain (λ _. It.the-row)) yes,
-                  (goes-none-slice 𝓤 H A W 10 (8 ∷ []) tt (plain (λ _. u8)) yes, (goes-slice 𝓤 H A W 10 9 tt (plain (λ _. Ans.the-row)), tt)),
+                  goes-slice 𝓤 H A W 11 7 tt (plain (λ _. u32)),
+                  (
+                    goes-none-slice 𝓤 H A W 11 (8 ∷ []) tt (plain (λ _. It.the-row)) yes,
+                    (goes-none-slice 𝓤 H A W 11 (9 ∷ []) tt (plain (λ _. u8)) yes, (goes-slice 𝓤 H A W 11 10 tt (plain (λ _. Ans.the-row)), tt)),
+                  ),
                 ),
               ),
             ),

@@ -13,8 +13,9 @@ use Rattle.queue_test.proofs.cnftl_queue_two.Tie as tie
 -- the board that the queue is served on
 abbrev board : tie.After-queue-two → Board
 board c =
-    let start = c .before .before .before .before .before .before .before .before .before .before .before .before .before .before .before .before .before .before in
+    let start = c .before .before .before .before .before .before .before .before .before .before .before .before .before .before .before .before .before .before .before .before in
     boardOf (start .args .chip .now) (start .args .ct .now) (start .args .bt .now) (start .args .fst .now) (start .args .bst .now) (start .args .wear .now) (start .args .marks .now)
+    (start .args .stamps .now)
 
 params-requires : tie.Need-params-requires
 params-requires c κs = search needs
@@ -24,12 +25,12 @@ queue-two-requires c κs = search needs
 
 pack-requires : tie.Need-pack-requires
 pack-requires c κs =
-    let at-queue-two = c .before .before .before .before .before .before .before .before .before .before .before .before .before .before .before .before .before .before in
+    let at-queue-two = c .before .before .before .before .before .before .before .before .before .before .before .before .before .before .before .before .before .before .before .before in
     (few-two _ (board at-queue-two) _ _ _ _ _ _ _ (at-queue-two .queue-two .ensures)) .1 .0
 
 pack-requires-2 : tie.Need-pack-requires-2
 pack-requires-2 c κs =
-    let at-queue-two = c .before .before .before .before .before .before .before .before .before .before .before .before .before .before .before .before .before .before .before in
+    let at-queue-two = c .before .before .before .before .before .before .before .before .before .before .before .before .before .before .before .before .before .before .before .before .before in
     (few-two _ (board at-queue-two) _ _ _ _ _ _ _ (at-queue-two .queue-two .ensures)) .1 .1 .0
 
 put-both-requires : tie.Need-put-both-requires
@@ -37,8 +38,8 @@ put-both-requires c κs = search needs
 
 pack-requires-3 : tie.Need-pack-requires-3
 pack-requires-3 c κs =
-    let at-queue-two = c .before .before .before .before .before .before .before .before .before .before .before
-    .before .before .before .before .before .before .before .before .before .before .before .before in
+    let at-queue-two = c .before .before .before .before .before .before .before .before .before .before .before .before
+    .before .before .before .before .before .before .before .before .before .before .before .before .before in
     (few-two _ (board at-queue-two) _ _ _ _ _ _ _ (at-queue-two .queue-two .ensures)) .0
 
 same-length : tie.Need-same-length
@@ -65,14 +66,18 @@ same-length-7 c = search needs
 same-length-8 : tie.Need-same-length-8
 same-length-8 c = search needs
 
+same-length-9 : tie.Need-same-length-9
+same-length-9 c = search needs
+
 returns : tie.Need-returns
 returns c =
     let at-put-both = c .before .before .before in
     let at-pack2 = at-put-both .before in
     let at-pack = at-pack2 .before in
-    let at-queue-two = at-pack .before .before .before .before .before .before .before .before .before .before .before .before .before .before .before .before .before .before .before in
-    let at-params = at-queue-two .before .before .before .before .before .before .before .before in
-    let start = at-params .before .before .before .before .before .before .before .before .before .before in
+    let at-queue-two = at-pack .before .before .before .before .before .before .before .before .before .before
+    .before .before .before .before .before .before .before .before .before .before .before in
+    let at-params = at-queue-two .before .before .before .before .before .before .before .before .before in
+    let start = at-params .before .before .before .before .before .before .before .before .before .before .before in
     let two = at-queue-two .queue-two in
     record {
       own = two .result .own;
@@ -104,4 +109,5 @@ cnftl-queue-two-spec =
     same-length-6
     same-length-7
     same-length-8
+    same-length-9
     returns)

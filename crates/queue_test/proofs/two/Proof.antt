@@ -90,10 +90,13 @@ stayed = (
               (
                 gave-slice (6 ∷ []) tt (plain (λ _. u64)),
                 (
-                  stay-dropped (plain (λ _. It.the-row)) yes,
+                  gave-slice (7 ∷ []) tt (plain (λ _. u32)),
                   (
                     stay-dropped (plain (λ _. It.the-row)) yes,
-                    (stay-dropped (shrSliceOf (7 ∷ []) tt (plain (λ _. u8))) yes, (stay-dropped (plain (λ _. Ans.the-row)) yes, tt)),
+                    (
+                      stay-dropped (plain (λ _. It.the-row)) yes,
+                      (stay-dropped (shrSliceOf (8 ∷ []) tt (plain (λ _. u8))) yes, (stay-dropped (plain (λ _. Ans.the-row)) yes, tt)),
+                    ),
                   ),
                 ),
               ),
@@ -126,7 +129,7 @@ second-in n e = omega (arith, e)
 module _ {M : Type 1} (𝓤 : URA M) (H : Heap 𝓤) (A : Atoms 𝓤) (W : Given 𝓤 H A) (mem′ : Memory → SProp 𝓤) (rn : Routine → Fun 𝓤) (p : Params)
     (κ₁ : Lft) (q₁ : Share) (x₁ : RefT (List ℕ)) (κ₂ : Lft) (q₂ : Share) (x₂ : RefT (List ℕ)) (κ₃ : Lft) (q₃ : Share) (x₃ : RefT (List ℕ)) (κ₄ : Lft)
     (q₄ : Share) (x₄ : RefT (List ℕ)) (κ₅ : Lft) (q₅ : Share) (x₅ : RefT (List ℕ)) (κ₆ : Lft) (q₆ : Share) (x₆ : RefT (List ℕ)) (κ₇ : Lft)
-    (q₇ : Share) (x₇ : RefT (List ℕ))
+    (q₇ : Share) (x₇ : RefT (List ℕ)) (κ₈ : Lft) (q₈ : Share) (x₈ : RefT (List ℕ))
     (a b : Item) (κb : Lft) (qb : Share) (xb : RefT (List ℕ)) (blank : Answer) where
   abbrev bs : List ℕ
   bs = xb .now
@@ -139,13 +142,14 @@ module _ {M : Type 1} (𝓤 : URA M) (H : Heap 𝓤) (A : Atoms 𝓤) (W : Given
 
   -- a list for each table
   abbrev Lists : Type 0
-  Lists = List ℕ × (List ℕ × (List ℕ × (List ℕ × (List ℕ × (List ℕ × (List ℕ × (Unit {0})))))))
+  Lists = List ℕ × (List ℕ × (List ℕ × (List ℕ × (List ℕ × (List ℕ × (List ℕ × (List ℕ × (Unit {0}))))))))
 
   abbrev ls₀ : Lists
-  ls₀ = (x₁ .now, (x₂ .now, (x₃ .now, (x₄ .now, (x₅ .now, (x₆ .now, (x₇ .now, tt)))))))
+  ls₀ = (x₁ .now, (x₂ .now, (x₃ .now, (x₄ .now, (x₅ .now, (x₆ .now, (x₇ .now, (x₈ .now, tt))))))))
 
   abbrev S : Lists → Board
   S ls = boardOf (ls .0) (ls .1 .0) (ls .1 .1 .0) (ls .1 .1 .1 .0) (ls .1 .1 .1 .1 .0) (ls .1 .1 .1 .1 .1 .0) (ls .1 .1 .1 .1 .1 .1 .0)
+      (ls .1 .1 .1 .1 .1 .1 .1 .0)
 
   -- the machine values
   abbrev vp : Val
@@ -181,22 +185,25 @@ module _ {M : Type 1} (𝓤 : URA M) (H : Heap 𝓤) (A : Atoms 𝓤) (W : Given
   abbrev v₇ : Val
   v₇ = sliceVal (x₇ .ptr) (length (x₇ .now))
 
+  abbrev v₈ : Val
+  v₈ = sliceVal (x₈ .ptr) (length (x₈ .now))
+
   abbrev sb : Val
   sb = sliceVal (xb .ptr) (length bs)
 
   abbrev arg : Params × (RefT (List ℕ) × (RefT (List ℕ) × (RefT (List ℕ) ×
-      (RefT (List ℕ) × (RefT (List ℕ) × (RefT (List ℕ) × (RefT (List ℕ) × (Item × (Item × (RefT (List ℕ) × (Answer × Unit {0})))))))))))
-  arg = (p, (x₁, (x₂, (x₃, (x₄, (x₅, (x₆, (x₇, (a, (b, (xb, (blank, tt))))))))))))
+      (RefT (List ℕ) × (RefT (List ℕ) × (RefT (List ℕ) × (RefT (List ℕ) × (RefT (List ℕ) × (Item × (Item × (RefT (List ℕ) × (Answer × Unit {0}))))))))))))
+  arg = (p, (x₁, (x₂, (x₃, (x₄, (x₅, (x₆, (x₇, (x₈, (a, (b, (xb, (blank, tt)))))))))))))
 
   abbrev vals : List Val × (List Val × (List Val × (List Val × (List Val ×
-      (List Val × (List Val × (List Val × (List Val × (List Val × (List Val × (List Val × (Unit {0}))))))))))))
-  vals = (vp ∷ [], (v₁ ∷ [], (v₂ ∷ [], (v₃ ∷ [], (v₄ ∷ [], (v₅ ∷ [], (v₆ ∷ [], (v₇ ∷ [], (va ∷ [], (vb ∷ [], (sb ∷ [], (v₀ ∷ [], tt))))))))))))
+      (List Val × (List Val × (List Val × (List Val × (List Val × (List Val × (List Val × (List Val × (Unit {0})))))))))))))
+  vals = (vp ∷ [], (v₁ ∷ [], (v₂ ∷ [], (v₃ ∷ [], (v₄ ∷ [], (v₅ ∷ [], (v₆ ∷ [], (v₇ ∷ [], (v₈ ∷ [], (va ∷ [], (vb ∷ [], (sb ∷ [], (v₀ ∷ [], tt)))))))))))))
 
-  abbrev κs : Lfts 8
-  κs = (κ₁, (κ₂, (κ₃, (κ₄, (κ₅, (κ₆, (κ₇, (κb, tt))))))))
+  abbrev κs : Lfts 9
+  κs = (κ₁, (κ₂, (κ₃, (κ₄, (κ₅, (κ₆, (κ₇, (κ₈, (κb, tt)))))))))
 
-  abbrev qs : Shares 8
-  qs = (q₁, (q₂, (q₃, (q₄, (q₅, (q₆, (q₇, (qb, tt))))))))
+  abbrev qs : Shares 9
+  qs = (q₁, (q₂, (q₃, (q₄, (q₅, (q₆, (q₇, (q₈, (qb, tt)))))))))
 
   -- what the contract binds, and what is to be had at exit
   abbrev bound : walkOf 𝓤 H A two.ended stayed (two.clauses 𝓤 H A mem′ rn) .Ghost
@@ -207,24 +214,24 @@ module _ {M : Type 1} (𝓤 : URA M) (H : Heap 𝓤) (A : Atoms 𝓤) (W : Given
 
   -- the tables' tokens, the tables, and what says their last lists
   abbrev toks : List Fml
-  toks = flft κ₁ q₁ ∷ flft κ₂ q₂ ∷ flft κ₃ q₃ ∷ flft κ₄ q₄ ∷ flft κ₅ q₅ ∷ flft κ₆ q₆ ∷ flft κ₇ q₇ ∷ []
+  toks = flft κ₁ q₁ ∷ flft κ₂ q₂ ∷ flft κ₃ q₃ ∷ flft κ₄ q₄ ∷ flft κ₅ q₅ ∷ flft κ₆ q₆ ∷ flft κ₇ q₇ ∷ flft κ₈ q₈ ∷ []
 
   abbrev tabs : List Fml
   tabs = MutSlice (named 0) κ₁ u8 .own x₁ (v₁ ∷ []) ∷ MutSlice (named 0) κ₂ u16 .own x₂ (v₂ ∷ []) ∷ MutSlice (named 0) κ₃ u16 .own x₃ (v₃ ∷ []) ∷
       MutSlice (named 0) κ₄ u16 .own x₄ (v₄ ∷ []) ∷ MutSlice (named 0) κ₅ u8 .own x₅ (v₅ ∷ []) ∷ MutSlice (named 0) κ₆ u32 .own x₆ (v₆ ∷ []) ∷
-      MutSlice (named 0) κ₇ u64 .own x₇ (v₇ ∷ []) ∷ []
+      MutSlice (named 0) κ₇ u64 .own x₇ (v₇ ∷ []) ∷ MutSlice (named 0) κ₈ u32 .own x₈ (v₈ ∷ []) ∷ []
 
   abbrev fins : Lists → List Fml
   fins ls = finally u8 (x₁ .name) (ls .0) ∷ finally u16 (x₂ .name) (ls .1 .0) ∷ finally u16 (x₃ .name) (ls .1 .1 .0) ∷
       finally u16 (x₄ .name) (ls .1 .1 .1 .0) ∷ finally u8 (x₅ .name) (ls .1 .1 .1 .1 .0) ∷ finally u32 (x₆ .name) (ls .1 .1 .1 .1 .1 .0) ∷
-      finally u64 (x₇ .name) (ls .1 .1 .1 .1 .1 .1 .0) ∷ []
+      finally u64 (x₇ .name) (ls .1 .1 .1 .1 .1 .1 .0) ∷ finally u32 (x₈ .name) (ls .1 .1 .1 .1 .1 .1 .1 .0) ∷ []
 
   -- each list is as long as it was
   abbrev Long : Lists → Type 0
   Long ls = (length (ls .0) ≡ length (x₁ .now)) × ((length (ls .1 .0) ≡ length (x₂ .now)) ×
       ((length (ls .1 .1 .0) ≡ length (x₃ .now)) × ((length (ls .1 .1 .1 .0) ≡ length (x₄ .now)) ×
       ((length (ls .1 .1 .1 .1 .0) ≡ length (x₅ .now)) × ((length (ls .1 .1 .1 .1 .1 .0) ≡ length (x₆ .now)) ×
-      ((length (ls .1 .1 .1 .1 .1 .1 .0) ≡ length (x₇ .now)) × Unit {0}))))))
+      ((length (ls .1 .1 .1 .1 .1 .1 .0) ≡ length (x₇ .now)) × ((length (ls .1 .1 .1 .1 .1 .1 .1 .0) ≡ length (x₈ .now)) × Unit {0})))))))
 
   abbrev OwnP : Fml
   OwnP = Par.the-row .own p (vp ∷ [])
@@ -249,8 +256,8 @@ module _ {M : Type 1} (𝓤 : URA M) (H : Heap 𝓤) (A : Atoms 𝓤) (W : Given
   exits ls l r is e =
       qed W (‵ (chain toks ftrue) ∷ ‵ BytesTok ∷ ‵ (chain (fins ls) ftrue) ∷ []) ∵
       suffices ! _ (ends-at 𝓤 H A two.ended stayed (two.clauses 𝓤 H A mem′ rn) W bound _ r
-      (tt, (ls .0, (ls .1 .0, (ls .1 .1 .0, (ls .1 .1 .1 .0, (ls .1 .1 .1 .1 .0, (ls .1 .1 .1 .1 .1 .0, (ls .1 .1 .1 .1 .1 .1 .0, (tt, (tt, (tt, (tt, tt))))))))))))
-      (tt, (l .0, (l .1 .0, (l .1 .1 .0, (l .1 .1 .1 .0, (l .1 .1 .1 .1 .0, (l .1 .1 .1 .1 .1 .0, (l .1 .1 .1 .1 .1 .1 .0, (tt, (tt, (tt, (tt, tt))))))))))))) $
+      (tt, (ls .0, (ls .1 .0, (ls .1 .1 .0, (ls .1 .1 .1 .0, (ls .1 .1 .1 .1 .0, (ls .1 .1 .1 .1 .1 .0, (ls .1 .1 .1 .1 .1 .1 .0, (ls .1 .1 .1 .1 .1 .1 .1 .0, (tt, (tt, (tt, (tt, tt)))))))))))))
+      (tt, (l .0, (l .1 .0, (l .1 .1 .0, (l .1 .1 .1 .0, (l .1 .1 .1 .1 .0, (l .1 .1 .1 .1 .1 .0, (l .1 .1 .1 .1 .1 .1 .0, (l .1 .1 .1 .1 .1 .1 .1 .0, (tt, (tt, (tt, (tt, tt)))))))))))))) $
       says ! e $
       use2 W (‵ (chain toks BytesTok)) (rechain 𝓤 H A W toks BytesTok) $ frame ! $
       nothing ! $ nothing ! $ fjoin ! $ nothing ! $ fjoin ! $ nothing ! $ fjoin ! $ nothing ! $ fjoin ! $ move ! (1 ∷ 0 ∷ []) $
@@ -282,11 +289,11 @@ module _ {M : Type 1} (𝓤 : URA M) (H : Heap 𝓤) (A : Atoms 𝓤) (W : Given
   abbrev to-queue : ℕ → ℕ → ℕ → ℕ → GName → GName → Queue 𝓤 H A mem′ rn .Ghost
   to-queue l m ν ν′ δ δ′ = (
     (
-      (κ₁, (κ₂, (κ₃, (κ₄, (κ₅, (κ₆, (κ₇, (ν ∷ [], (κb, (ν′ ∷ [], tt)))))))))),
-      (q₁, (q₂, (q₃, (q₄, (q₅, (q₆, (q₇, (fullShare, (qb, (fullShare, tt)))))))))),
+      (κ₁, (κ₂, (κ₃, (κ₄, (κ₅, (κ₆, (κ₇, (κ₈, (ν ∷ [], (κb, (ν′ ∷ [], tt))))))))))),
+      (q₁, (q₂, (q₃, (q₄, (q₅, (q₆, (q₇, (q₈, (fullShare, (qb, (fullShare, tt))))))))))),
       tt,
-      (p, (x₁, (x₂, (x₃, (x₄, (x₅, (x₆, (x₇, (xr l δ, (xb, (xo m δ′, tt))))))))))),
-      (vp ∷ [], (v₁ ∷ [], (v₂ ∷ [], (v₃ ∷ [], (v₄ ∷ [], (v₅ ∷ [], (v₆ ∷ [], (v₇ ∷ [], (at-two l ∷ [], (sb ∷ [], (at-two m ∷ [], tt))))))))))),
+      (p, (x₁, (x₂, (x₃, (x₄, (x₅, (x₆, (x₇, (x₈, (xr l δ, (xb, (xo m δ′, tt)))))))))))),
+      (vp ∷ [], (v₁ ∷ [], (v₂ ∷ [], (v₃ ∷ [], (v₄ ∷ [], (v₅ ∷ [], (v₆ ∷ [], (v₇ ∷ [], (v₈ ∷ [], (at-two l ∷ [], (sb ∷ [], (at-two m ∷ [], tt)))))))))))),
     ),
     tt,
   )
@@ -298,13 +305,13 @@ module _ {M : Type 1} (𝓤 : URA M) (H : Heap 𝓤) (A : Atoms 𝓤) (W : Given
 
   -- what is bound of its parameters: the tables' last lists, and the answers'
   abbrev Lasts : Type 0
-  Lasts = Unit {0} × (List ℕ × (List ℕ × (List ℕ × (List ℕ × (List ℕ × (List ℕ × (List ℕ × (Unit {0} × (Unit {0} × (List Answer × Unit {0}))))))))))
+  Lasts = Unit {0} × (List ℕ × (List ℕ × (List ℕ × (List ℕ × (List ℕ × (List ℕ × (List ℕ × (List ℕ × (Unit {0} × (Unit {0} × (List Answer × Unit {0})))))))))))
 
   abbrev lists : Lasts → Lists
-  lists zs = (zs .1 .0, (zs .1 .1 .0, (zs .1 .1 .1 .0, (zs .1 .1 .1 .1 .0, (zs .1 .1 .1 .1 .1 .0, (zs .1 .1 .1 .1 .1 .1 .0, (zs .1 .1 .1 .1 .1 .1 .1 .0, tt)))))))
+  lists zs = (zs .1 .0, (zs .1 .1 .0, (zs .1 .1 .1 .0, (zs .1 .1 .1 .1 .0, (zs .1 .1 .1 .1 .1 .0, (zs .1 .1 .1 .1 .1 .1 .0, (zs .1 .1 .1 .1 .1 .1 .1 .0, (zs .1 .1 .1 .1 .1 .1 .1 .1 .0, tt))))))))
 
   abbrev answers : Lasts → List Answer
-  answers zs = zs .1 .1 .1 .1 .1 .1 .1 .1 .1 .1 .0
+  answers zs = zs .1 .1 .1 .1 .1 .1 .1 .1 .1 .1 .1 .0
 
   abbrev Said : GName → Lasts → Fml
   Said δ′ zs = fsep ftrue (fsep (fsep (finally u8 (x₁ .name) (zs .1 .0)) (feq ℕ (length (zs .1 .0)) (length (x₁ .now))))
@@ -314,7 +321,8 @@ module _ {M : Type 1} (𝓤 : URA M) (H : Heap 𝓤) (A : Atoms 𝓤) (W : Given
       (fsep (fsep (finally u8 (x₅ .name) (zs .1 .1 .1 .1 .1 .0)) (feq ℕ (length (zs .1 .1 .1 .1 .1 .0)) (length (x₅ .now))))
       (fsep (fsep (finally u32 (x₆ .name) (zs .1 .1 .1 .1 .1 .1 .0)) (feq ℕ (length (zs .1 .1 .1 .1 .1 .1 .0)) (length (x₆ .now))))
       (fsep (fsep (finally u64 (x₇ .name) (zs .1 .1 .1 .1 .1 .1 .1 .0)) (feq ℕ (length (zs .1 .1 .1 .1 .1 .1 .1 .0)) (length (x₇ .now))))
-      (fsep ftrue (fsep ftrue (fsep (fsep (finally Ans.the-row δ′ (answers zs)) (feq ℕ (length (answers zs)) 2)) ftrue))))))))))
+      (fsep (fsep (finally u32 (x₈ .name) (zs .1 .1 .1 .1 .1 .1 .1 .1 .0)) (feq ℕ (length (zs .1 .1 .1 .1 .1 .1 .1 .1 .0)) (length (x₈ .now))))
+      (fsep ftrue (fsep ftrue (fsep (fsep (finally Ans.the-row δ′ (answers zs)) (feq ℕ (length (answers zs)) 2)) ftrue)))))))))))
 
   abbrev Done : Answer → Lasts → Type 0
   Done r zs = outcome r bs (answers zs) (S (lists zs)) ≡ outcomeOf p (S ls₀) (queue (queueOf requests bs blanks))
@@ -327,7 +335,8 @@ module _ {M : Type 1} (𝓤 : URA M) (H : Heap 𝓤) (A : Atoms 𝓤) (W : Given
   module _ (𝓣 : Tables 𝓤 H) (fm : FmC 𝓤 H (W .laws) (𝓣 .C)) (known : Triple 𝓤 (𝓣 .C #queue-list·queue) (Queue 𝓤 H A mem′ rn))
       (gp : Is Par.the-row p (vp ∷ []))
       (gs : Room u8 (length (x₁ .now)) × (Room u16 (length (x₂ .now)) × (Room u16 (length (x₃ .now)) ×
-      (Room u16 (length (x₄ .now)) × (Room u8 (length (x₅ .now)) × (Room u32 (length (x₆ .now)) × (Room u64 (length (x₇ .now)) × Unit {0})))))))
+      (Room u16 (length (x₄ .now)) × (Room u8 (length (x₅ .now)) × (Room u32 (length (x₆ .now)) × (Room u64 (length (x₇ .now)) ×
+      (Room u32 (length (x₈ .now)) × Unit {0}))))))))
       (ga : Is It.the-row a (va ∷ [])) (gb : Is It.the-row b (vb ∷ []))
       (gx : Room u8 (length bs)) (g₀ : Is Ans.the-row blank (v₀ ∷ [])) where
     is-requests : Is (Array It.the-row 2) requests (vstruct (vcons va (vcons vb vnil)) ∷ [])
@@ -344,128 +353,137 @@ module _ {M : Type 1} (𝓤 : URA M) (H : Heap 𝓤) (A : Atoms 𝓤) (W : Given
         (subst (Is Ans.the-row r) (LL.tells Ans.the-type Ans′.the-laws r (v ∷ []) is) is, (g₁, (g₂, tt)))
 
     walk : ent 𝓤 (onEntry 𝓤 H A two.signature κs qs arg vals) (WpFn 𝓤 H (𝓣 .C) (𝓣 .Λ) code.function
-        (vp ∷ v₁ ∷ v₂ ∷ v₃ ∷ v₄ ∷ v₅ ∷ v₆ ∷ v₇ ∷ va ∷ vb ∷ sb ∷ v₀ ∷ []) Post)
+        (vp ∷ v₁ ∷ v₂ ∷ v₃ ∷ v₄ ∷ v₅ ∷ v₆ ∷ v₇ ∷ v₈ ∷ va ∷ vb ∷ sb ∷ v₀ ∷ []) Post)
     walk =
         qed W (‵ (chain toks BytesTok) ∷ ‵ (fsep OwnP (chain tabs RestHas)) ∷ []) ∵ enter ! (𝓣 .C) (𝓣 .Λ) code.function
-        (vp ∷ v₁ ∷ v₂ ∷ v₃ ∷ v₄ ∷ v₅ ∷ v₆ ∷ v₇ ∷ va ∷ vb ∷ sb ∷ v₀ ∷ []) _ $
-        alloc1 ! (λ l₀. alloc1 ! (λ l₁. alloc1 ! (λ l₂. alloc1 ! (λ l₃. alloc1 ! (λ l₄. alloc1 ! (λ l₅. alloc1 ! (λ l₆. alloc1 ! (λ l₇. alloc1 ! (λ l₈.
-        alloc1 ! (λ l₉. alloc1 ! (λ l₁₀. alloc1 ! (λ l₁₁. alloc1 ! (λ l₁₂. alloc1 ! (λ l₁₃. alloc1 ! (λ l₁₄. alloc1 ! (λ l₁₅. alloc1 ! (λ l₁₆.
-        alloc1 ! (λ l₁₇. alloc1 ! (λ l₁₈. alloc1 ! (λ l₁₉. alloc1 ! (λ l₂₀. alloc1 ! (λ l₂₁. alloc1 ! (λ l₂₂. alloc1 ! (λ l₂₃. alloc1 ! (λ l₂₄.
-        alloc1 ! (λ l₂₅. alloc1 ! (λ l₂₆. alloc1 ! (λ l₂₇. alloc1 ! (λ l₂₈. alloc1 ! (λ l₂₉. alloc1 ! (λ l₃₀. alloc1 ! (λ l₃₁. alloc1 ! (λ l₃₂.
-        alloc1 ! (λ l₃₃. alloc1 ! (λ l₃₄. alloc1 ! (λ l₃₅. alloc1 ! (λ l₃₆. alloc1 ! (λ l₃₇. alloc1 ! (λ l₃₈. alloc1 ! (λ l₃₉. alloc0 ! $ params1 ! $
-        pass1 ! (init ! 76 refl (LL.lawful Par.the-type Par′.the-laws 𝓤 H A W .typed p _ gp .0)) $
-        pass1 ! (init ! 74 refl (tt, (tt, (record { fits = gs .0 .0 }, tt)))) $
-        pass1 ! (init ! 72 refl (tt, (tt, (record { fits = gs .1 .0 .0 }, tt)))) $
-        pass1 ! (init ! 70 refl (tt, (tt, (record { fits = gs .1 .1 .0 .0 }, tt)))) $
-        pass1 ! (init ! 68 refl (tt, (tt, (record { fits = gs .1 .1 .1 .0 .0 }, tt)))) $
-        pass1 ! (init ! 66 refl (tt, (tt, (record { fits = gs .1 .1 .1 .1 .0 .0 }, tt)))) $
-        pass1 ! (init ! 64 refl (tt, (tt, (record { fits = gs .1 .1 .1 .1 .1 .0 .0 }, tt)))) $
-        pass1 ! (init ! 62 refl (tt, (tt, (record { fits = gs .1 .1 .1 .1 .1 .1 .0 .0 }, tt)))) $
-        pass1 ! (init ! 60 refl (LL.lawful It.the-type It′.the-laws 𝓤 H A W .typed a _ ga .0)) $
-        pass1 ! (init ! 58 refl (LL.lawful It.the-type It′.the-laws 𝓤 H A W .typed b _ gb .0)) $
-        pass1 ! (init ! 56 refl (tt, (tt, (record { fits = gx .0 }, tt)))) $
-        pass1 ! (init ! 54 refl (LL.lawful Ans.the-type Ans′.the-laws 𝓤 H A W .typed blank _ g₀ .0)) $
+        (vp ∷ v₁ ∷ v₂ ∷ v₃ ∷ v₄ ∷ v₅ ∷ v₆ ∷ v₇ ∷ v₈ ∷ va ∷ vb ∷ sb ∷ v₀ ∷ []) _ $
+        alloc1 ! (λ l₀. alloc1 ! (λ l₁. alloc1 ! (λ l₂. alloc1 ! (λ l₃. alloc1 ! (λ l₄. alloc1 ! (λ l₅. alloc1 ! (λ l₆. alloc1 ! (λ l₇.
+        alloc1 ! (λ l₈. alloc1 ! (λ l₉. alloc1 ! (λ l₁₀. alloc1 ! (λ l₁₁. alloc1 ! (λ l₁₂. alloc1 ! (λ l₁₃. alloc1 ! (λ l₁₄. alloc1 ! (λ l₁₅.
+        alloc1 ! (λ l₁₆. alloc1 ! (λ l₁₇. alloc1 ! (λ l₁₈. alloc1 ! (λ l₁₉. alloc1 ! (λ l₂₀. alloc1 ! (λ l₂₁. alloc1 ! (λ l₂₂. alloc1 ! (λ l₂₃.
+        alloc1 ! (λ l₂₄. alloc1 ! (λ l₂₅. alloc1 ! (λ l₂₆. alloc1 ! (λ l₂₇. alloc1 ! (λ l₂₈. alloc1 ! (λ l₂₉. alloc1 ! (λ l₃₀. alloc1 ! (λ l₃₁.
+        alloc1 ! (λ l₃₂. alloc1 ! (λ l₃₃. alloc1 ! (λ l₃₄. alloc1 ! (λ l₃₅. alloc1 ! (λ l₃₆. alloc1 ! (λ l₃₇. alloc1 ! (λ l₃₈. alloc1 ! (λ l₃₉.
+        alloc1 ! (λ l₄₀. alloc1 ! (λ l₄₁. alloc1 ! (λ l₄₂. alloc0 ! $ params1 ! $
+        pass1 ! (init ! 82 refl (LL.lawful Par.the-type Par′.the-laws 𝓤 H A W .typed p _ gp .0)) $
+        pass1 ! (init ! 80 refl (tt, (tt, (record { fits = gs .0 .0 }, tt)))) $
+        pass1 ! (init ! 78 refl (tt, (tt, (record { fits = gs .1 .0 .0 }, tt)))) $
+        pass1 ! (init ! 76 refl (tt, (tt, (record { fits = gs .1 .1 .0 .0 }, tt)))) $
+        pass1 ! (init ! 74 refl (tt, (tt, (record { fits = gs .1 .1 .1 .0 .0 }, tt)))) $
+        pass1 ! (init ! 72 refl (tt, (tt, (record { fits = gs .1 .1 .1 .1 .0 .0 }, tt)))) $
+        pass1 ! (init ! 70 refl (tt, (tt, (record { fits = gs .1 .1 .1 .1 .1 .0 .0 }, tt)))) $
+        pass1 ! (init ! 68 refl (tt, (tt, (record { fits = gs .1 .1 .1 .1 .1 .1 .0 .0 }, tt)))) $
+        pass1 ! (init ! 66 refl (tt, (tt, (record { fits = gs .1 .1 .1 .1 .1 .1 .1 .0 .0 }, tt)))) $
+        pass1 ! (init ! 64 refl (LL.lawful It.the-type It′.the-laws 𝓤 H A W .typed a _ ga .0)) $
+        pass1 ! (init ! 62 refl (LL.lawful It.the-type It′.the-laws 𝓤 H A W .typed b _ gb .0)) $
+        pass1 ! (init ! 60 refl (tt, (tt, (record { fits = gx .0 }, tt)))) $
+        pass1 ! (init ! 58 refl (LL.lawful Ans.the-type Ans′.the-laws 𝓤 H A W .typed blank _ g₀ .0)) $
         pass0 ! $
         -- the two arrays
-        -- _13 = [_9, _10]: requests
-        assigns ! (agg ! (and-then ! (load ! (from ! (stop !)) (look ! 60 refl)) (and-then ! (load ! (from ! (stop !)) (look ! 58 refl)) (no-more !))))
-        (from ! (stop !)) (init ! 52 refl (array-lawful 𝓤 H A W It.the-row (LL.lawful It.the-type It′.the-laws 𝓤 H A W) 2 .typed requests _
+        -- _14 = [_10, _11]: requests
+        assigns ! (agg ! (and-then ! (load ! (from ! (stop !)) (look ! 64 refl)) (and-then ! (load ! (from ! (stop !)) (look ! 62 refl)) (no-more !))))
+        (from ! (stop !)) (init ! 56 refl (array-lawful 𝓤 H A W It.the-row (LL.lawful It.the-type It′.the-laws 𝓤 H A W) 2 .typed requests _
         is-requests .0)) $
-        -- _14 = [_12, _12]: answers
-        assigns ! (agg ! (and-then ! (load ! (from ! (stop !)) (look ! 54 refl)) (and-then ! (load ! (from ! (stop !)) (look ! 54 refl)) (no-more !))))
-        (from ! (stop !)) (init ! 50 refl (array-lawful 𝓤 H A W Ans.the-row (LL.lawful Ans.the-type Ans′.the-laws 𝓤 H A W) 2 .typed blanks _
+        -- _15 = [_13, _13]: answers
+        assigns ! (agg ! (and-then ! (load ! (from ! (stop !)) (look ! 58 refl)) (and-then ! (load ! (from ! (stop !)) (look ! 58 refl)) (no-more !))))
+        (from ! (stop !)) (init ! 54 refl (array-lawful 𝓤 H A W Ans.the-row (LL.lawful Ans.the-type Ans′.the-laws 𝓤 H A W) 2 .typed blanks _
         is-blanks .0)) $
-        -- the seven tables, passed on
-        -- _16 = &mut *_2.0: chip
-        assigns ! (addr ! (from ! (fld ! refl (hop ! (look-in ! 74 (sub ! 0 refl (whole !))) (stop !))))) (from ! (stop !)) (init ! 46 refl (tt, tt)) $
-        -- _17 = (_16, _2.1)
+        -- the eight tables, passed on
+        -- _17 = &mut *_2.0: chip
+        assigns ! (addr ! (from ! (fld ! refl (hop ! (look-in ! 80 (sub ! 0 refl (whole !))) (stop !))))) (from ! (stop !)) (init ! 50 refl (tt, tt)) $
+        -- _18 = (_17, _2.1)
+        assigns ! (agg ! (and-then ! (load ! (from ! (stop !)) (look ! 50 refl))
+        (and-then ! (load ! (from ! (fld ! refl (stop !))) (look-in ! 80 (sub ! 1 refl (whole !)))) (no-more !)))) (from ! (stop !))
+        (init ! 48 refl (tt, (tt, (record { fits = gs .0 .0 }, tt)))) $
+        -- _19 = &mut *_3.0: ct
+        assigns ! (addr ! (from ! (fld ! refl (hop ! (look-in ! 78 (sub ! 0 refl (whole !))) (stop !))))) (from ! (stop !)) (init ! 46 refl (tt, tt)) $
+        -- _20 = (_19, _3.1)
         assigns ! (agg ! (and-then ! (load ! (from ! (stop !)) (look ! 46 refl))
-        (and-then ! (load ! (from ! (fld ! refl (stop !))) (look-in ! 74 (sub ! 1 refl (whole !)))) (no-more !)))) (from ! (stop !))
-        (init ! 44 refl (tt, (tt, (record { fits = gs .0 .0 }, tt)))) $
-        -- _18 = &mut *_3.0: ct
-        assigns ! (addr ! (from ! (fld ! refl (hop ! (look-in ! 72 (sub ! 0 refl (whole !))) (stop !))))) (from ! (stop !)) (init ! 42 refl (tt, tt)) $
-        -- _19 = (_18, _3.1)
+        (and-then ! (load ! (from ! (fld ! refl (stop !))) (look-in ! 78 (sub ! 1 refl (whole !)))) (no-more !)))) (from ! (stop !))
+        (init ! 44 refl (tt, (tt, (record { fits = gs .1 .0 .0 }, tt)))) $
+        -- _21 = &mut *_4.0: bt
+        assigns ! (addr ! (from ! (fld ! refl (hop ! (look-in ! 76 (sub ! 0 refl (whole !))) (stop !))))) (from ! (stop !)) (init ! 42 refl (tt, tt)) $
+        -- _22 = (_21, _4.1)
         assigns ! (agg ! (and-then ! (load ! (from ! (stop !)) (look ! 42 refl))
-        (and-then ! (load ! (from ! (fld ! refl (stop !))) (look-in ! 72 (sub ! 1 refl (whole !)))) (no-more !)))) (from ! (stop !))
-        (init ! 40 refl (tt, (tt, (record { fits = gs .1 .0 .0 }, tt)))) $
-        -- _20 = &mut *_4.0: bt
-        assigns ! (addr ! (from ! (fld ! refl (hop ! (look-in ! 70 (sub ! 0 refl (whole !))) (stop !))))) (from ! (stop !)) (init ! 38 refl (tt, tt)) $
-        -- _21 = (_20, _4.1)
+        (and-then ! (load ! (from ! (fld ! refl (stop !))) (look-in ! 76 (sub ! 1 refl (whole !)))) (no-more !)))) (from ! (stop !))
+        (init ! 40 refl (tt, (tt, (record { fits = gs .1 .1 .0 .0 }, tt)))) $
+        -- _23 = &mut *_5.0: fst
+        assigns ! (addr ! (from ! (fld ! refl (hop ! (look-in ! 74 (sub ! 0 refl (whole !))) (stop !))))) (from ! (stop !)) (init ! 38 refl (tt, tt)) $
+        -- _24 = (_23, _5.1)
         assigns ! (agg ! (and-then ! (load ! (from ! (stop !)) (look ! 38 refl))
-        (and-then ! (load ! (from ! (fld ! refl (stop !))) (look-in ! 70 (sub ! 1 refl (whole !)))) (no-more !)))) (from ! (stop !))
-        (init ! 36 refl (tt, (tt, (record { fits = gs .1 .1 .0 .0 }, tt)))) $
-        -- _22 = &mut *_5.0: fst
-        assigns ! (addr ! (from ! (fld ! refl (hop ! (look-in ! 68 (sub ! 0 refl (whole !))) (stop !))))) (from ! (stop !)) (init ! 34 refl (tt, tt)) $
-        -- _23 = (_22, _5.1)
+        (and-then ! (load ! (from ! (fld ! refl (stop !))) (look-in ! 74 (sub ! 1 refl (whole !)))) (no-more !)))) (from ! (stop !))
+        (init ! 36 refl (tt, (tt, (record { fits = gs .1 .1 .1 .0 .0 }, tt)))) $
+        -- _25 = &mut *_6.0: bst
+        assigns ! (addr ! (from ! (fld ! refl (hop ! (look-in ! 72 (sub ! 0 refl (whole !))) (stop !))))) (from ! (stop !)) (init ! 34 refl (tt, tt)) $
+        -- _26 = (_25, _6.1)
         assigns ! (agg ! (and-then ! (load ! (from ! (stop !)) (look ! 34 refl))
-        (and-then ! (load ! (from ! (fld ! refl (stop !))) (look-in ! 68 (sub ! 1 refl (whole !)))) (no-more !)))) (from ! (stop !))
-        (init ! 32 refl (tt, (tt, (record { fits = gs .1 .1 .1 .0 .0 }, tt)))) $
-        -- _24 = &mut *_6.0: bst
-        assigns ! (addr ! (from ! (fld ! refl (hop ! (look-in ! 66 (sub ! 0 refl (whole !))) (stop !))))) (from ! (stop !)) (init ! 30 refl (tt, tt)) $
-        -- _25 = (_24, _6.1)
+        (and-then ! (load ! (from ! (fld ! refl (stop !))) (look-in ! 72 (sub ! 1 refl (whole !)))) (no-more !)))) (from ! (stop !))
+        (init ! 32 refl (tt, (tt, (record { fits = gs .1 .1 .1 .1 .0 .0 }, tt)))) $
+        -- _27 = &mut *_7.0: wear
+        assigns ! (addr ! (from ! (fld ! refl (hop ! (look-in ! 70 (sub ! 0 refl (whole !))) (stop !))))) (from ! (stop !)) (init ! 30 refl (tt, tt)) $
+        -- _28 = (_27, _7.1)
         assigns ! (agg ! (and-then ! (load ! (from ! (stop !)) (look ! 30 refl))
-        (and-then ! (load ! (from ! (fld ! refl (stop !))) (look-in ! 66 (sub ! 1 refl (whole !)))) (no-more !)))) (from ! (stop !))
-        (init ! 28 refl (tt, (tt, (record { fits = gs .1 .1 .1 .1 .0 .0 }, tt)))) $
-        -- _26 = &mut *_7.0: wear
-        assigns ! (addr ! (from ! (fld ! refl (hop ! (look-in ! 64 (sub ! 0 refl (whole !))) (stop !))))) (from ! (stop !)) (init ! 26 refl (tt, tt)) $
-        -- _27 = (_26, _7.1)
+        (and-then ! (load ! (from ! (fld ! refl (stop !))) (look-in ! 70 (sub ! 1 refl (whole !)))) (no-more !)))) (from ! (stop !))
+        (init ! 28 refl (tt, (tt, (record { fits = gs .1 .1 .1 .1 .1 .0 .0 }, tt)))) $
+        -- _29 = &mut *_8.0: marks
+        assigns ! (addr ! (from ! (fld ! refl (hop ! (look-in ! 68 (sub ! 0 refl (whole !))) (stop !))))) (from ! (stop !)) (init ! 26 refl (tt, tt)) $
+        -- _30 = (_29, _8.1)
         assigns ! (agg ! (and-then ! (load ! (from ! (stop !)) (look ! 26 refl))
-        (and-then ! (load ! (from ! (fld ! refl (stop !))) (look-in ! 64 (sub ! 1 refl (whole !)))) (no-more !)))) (from ! (stop !))
-        (init ! 24 refl (tt, (tt, (record { fits = gs .1 .1 .1 .1 .1 .0 .0 }, tt)))) $
-        -- _28 = &mut *_8.0: marks
-        assigns ! (addr ! (from ! (fld ! refl (hop ! (look-in ! 62 (sub ! 0 refl (whole !))) (stop !))))) (from ! (stop !)) (init ! 22 refl (tt, tt)) $
-        -- _29 = (_28, _8.1)
+        (and-then ! (load ! (from ! (fld ! refl (stop !))) (look-in ! 68 (sub ! 1 refl (whole !)))) (no-more !)))) (from ! (stop !))
+        (init ! 24 refl (tt, (tt, (record { fits = gs .1 .1 .1 .1 .1 .1 .0 .0 }, tt)))) $
+        -- _31 = &mut *_9.0: stamps
+        assigns ! (addr ! (from ! (fld ! refl (hop ! (look-in ! 66 (sub ! 0 refl (whole !))) (stop !))))) (from ! (stop !)) (init ! 22 refl (tt, tt)) $
+        -- _32 = (_31, _9.1)
         assigns ! (agg ! (and-then ! (load ! (from ! (stop !)) (look ! 22 refl))
-        (and-then ! (load ! (from ! (fld ! refl (stop !))) (look-in ! 62 (sub ! 1 refl (whole !)))) (no-more !)))) (from ! (stop !))
-        (init ! 20 refl (tt, (tt, (record { fits = gs .1 .1 .1 .1 .1 .1 .0 .0 }, tt)))) $
+        (and-then ! (load ! (from ! (fld ! refl (stop !))) (look-in ! 66 (sub ! 1 refl (whole !)))) (no-more !)))) (from ! (stop !))
+        (init ! 20 refl (tt, (tt, (record { fits = gs .1 .1 .1 .1 .1 .1 .1 .0 .0 }, tt)))) $
         -- the two arrays, to be lent
-        -- _30 = &_13
+        -- _33 = &_14
         assigns ! (addr ! (from ! (stop !))) (from ! (stop !)) (init ! 18 refl (tt, tt)) $
-        -- _31 = (_30, 2)
+        -- _34 = (_33, 2)
         assigns ! (agg ! (and-then ! (load ! (from ! (stop !)) (look ! 18 refl)) (and-then ! (lit ! tt) (no-more !)))) (from ! (stop !))
         (init ! 16 refl (tt, (tt, (record { fits = lit< tt }, tt)))) $
-        -- _32 = &mut _14
+        -- _35 = &mut _15
         assigns ! (addr ! (from ! (stop !))) (from ! (stop !)) (init ! 14 refl (tt, tt)) $
-        -- _33 = (_32, 2)
+        -- _36 = (_35, 2)
         assigns ! (agg ! (and-then ! (load ! (from ! (stop !)) (look ! 14 refl)) (and-then ! (lit ! tt) (no-more !)))) (from ! (stop !))
         (init ! 12 refl (tt, (tt, (record { fits = lit< tt }, tt)))) $
         -- requests is lent shared
-        move ! (52 ∷ []) $
-        use1 W (‵ (Elems It.the-row 2 requests l₁₃)) (as-elems 𝓤 H A W It.the-row tt (LL.makes It.the-type It′.the-plain 𝓤 H A) 2 requests l₁₃ _
+        move ! (56 ∷ []) $
+        use1 W (‵ (Elems It.the-row 2 requests l₁₄)) (as-elems 𝓤 H A W It.the-row tt (LL.makes It.the-type It′.the-plain 𝓤 H A) 2 requests l₁₄ _
         is-requests) $
         lft-new ! tt (λ ν. move ! (1 ∷ []) $
-        use1 W (later (some (λ (δ : GName). ‵ (Items l₁₃ ν δ) ⊛ ‵ (flent (ν ∷ []) (Elems It.the-row 2 requests l₁₃)))))
-        (lends-shr-slice 𝓤 H A W It.the-row (named 0) (ν ∷ []) fullShare requests l₁₃ 0 (lit< tt, lit< tt)) $
+        use1 W (later (some (λ (δ : GName). ‵ (Items l₁₄ ν δ) ⊛ ‵ (flent (ν ∷ []) (Elems It.the-row 2 requests l₁₄)))))
+        (lends-shr-slice 𝓤 H A W It.the-row (named 0) (ν ∷ []) fullShare requests l₁₄ 0 (lit< tt, lit< tt)) $
         await ! tt $ pick ! (λ δ. split ! $
         -- answers is lent
-        move ! (53 ∷ []) $
-        use1 W (‵ (Elems Ans.the-row 2 blanks l₁₄)) (as-elems 𝓤 H A W Ans.the-row tt (LL.makes Ans.the-type Ans′.the-plain 𝓤 H A) 2 blanks l₁₄ _
+        move ! (57 ∷ []) $
+        use1 W (‵ (Elems Ans.the-row 2 blanks l₁₅)) (as-elems 𝓤 H A W Ans.the-row tt (LL.makes Ans.the-type Ans′.the-plain 𝓤 H A) 2 blanks l₁₅ _
         is-blanks) $
-        use1 W (‵ (cells (mem Ans.the-row) blanks l₁₄ 0)) (as-cells 𝓤 H A W Ans.the-row 2 blanks l₁₄) $
+        use1 W (‵ (cells (mem Ans.the-row) blanks l₁₅ 0)) (as-cells 𝓤 H A W Ans.the-row 2 blanks l₁₅) $
         lft-new ! tt (λ ν′. move ! (1 ∷ []) $
-        use1 W (later (some (λ (δ′ : GName). ‵ (Answers l₁₄ ν′ δ′) ⊛ ‵ (flent (ν′ ∷ []) (Held Ans.the-row 2 l₁₄ 0 δ′)))))
-        (lends-slice 𝓤 H A W Ans.the-row (named 0) (ν′ ∷ []) blanks l₁₄ 0 (lit< tt, lit< tt)) $
+        use1 W (later (some (λ (δ′ : GName). ‵ (Answers l₁₅ ν′ δ′) ⊛ ‵ (flent (ν′ ∷ []) (Held Ans.the-row 2 l₁₅ 0 δ′)))))
+        (lends-slice 𝓤 H A W Ans.the-row (named 0) (ν′ ∷ []) blanks l₁₅ 0 (lit< tt, lit< tt)) $
         await ! tt $ pick ! (λ δ′. split ! $
         -- what `queue` is passed, and the tokens
-        move ! (85 ∷ []) $ fsplit ! $ move ! (1 ∷ []) $ use1 W (‵ (chain tabs ftrue) ⊛ ‵ RestHas) (unchain 𝓤 H A W tabs RestHas) $ split ! $
+        move ! (91 ∷ []) $ fsplit ! $ move ! (1 ∷ []) $ use1 W (‵ (chain tabs ftrue) ⊛ ‵ RestHas) (unchain 𝓤 H A W tabs RestHas) $ split ! $
         move ! (1 ∷ []) $ fsplit ! $ drop ! $ fsplit ! $ drop ! $ fsplit ! $ move ! (1 ∷ []) $ drop ! $
         nothing ! $ move ! (4 ∷ 0 ∷ []) $ fjoin ! $ move ! (1 ∷ 0 ∷ []) $ fjoin ! $ move ! (5 ∷ 0 ∷ []) $ fjoin ! $ move ! (1 ∷ 0 ∷ []) $
-        use2 W (‵ (chain tabs (AskHas l₁₃ l₁₄ ν ν′ δ δ′))) (rechain 𝓤 H A W tabs (AskHas l₁₃ l₁₄ ν ν′ δ δ′)) $ move ! (1 ∷ 0 ∷ []) $ fjoin ! $
-        move ! (83 ∷ []) $ use1 W (‵ (chain toks ftrue) ⊛ ‵ BytesTok) (unchain 𝓤 H A W toks BytesTok) $ split ! $ move ! (1 ∷ []) $ fsplit ! $
+        use2 W (‵ (chain tabs (AskHas l₁₄ l₁₅ ν ν′ δ δ′))) (rechain 𝓤 H A W tabs (AskHas l₁₄ l₁₅ ν ν′ δ δ′)) $ move ! (1 ∷ 0 ∷ []) $ fjoin ! $
+        move ! (89 ∷ []) $ use1 W (‵ (chain toks ftrue) ⊛ ‵ BytesTok) (unchain 𝓤 H A W toks BytesTok) $ split ! $ move ! (1 ∷ []) $ fsplit ! $
         move ! (1 ∷ []) $ drop ! $
         nothing ! $ move ! (5 ∷ 0 ∷ []) $ fjoin ! $ move ! (1 ∷ 0 ∷ []) $ fjoin ! $ move ! (5 ∷ 0 ∷ []) $ fjoin ! $ move ! (1 ∷ 0 ∷ []) $
         use2 W (‵ (chain toks (AskToks ν ν′))) (rechain 𝓤 H A W toks (AskToks ν ν′)) $
-        use2 W (raw (Queue 𝓤 H A mem′ rn .pre (to-queue l₁₃ l₁₄ ν ν′ δ δ′))) (goes-queue l₁₃ l₁₄ ν ν′ δ δ′) $
-        -- [what `queue` asks; …]: _15 = queue(_1, _17, _19, _21, _23, _25, _27, _29, _31, _11, _33)
-        calls-at ! fm (Queue 𝓤 H A mem′ rn) known (to-queue l₁₃ l₁₄ ν ν′ δ δ′)
-        (and-then ! (load ! (from ! (stop !)) (look ! 77 refl)) (and-then ! (load ! (from ! (stop !)) (look ! 47 refl))
-        (and-then ! (load ! (from ! (stop !)) (look ! 43 refl)) (and-then ! (load ! (from ! (stop !)) (look ! 39 refl))
-        (and-then ! (load ! (from ! (stop !)) (look ! 35 refl)) (and-then ! (load ! (from ! (stop !)) (look ! 31 refl))
-        (and-then ! (load ! (from ! (stop !)) (look ! 27 refl)) (and-then ! (load ! (from ! (stop !)) (look ! 23 refl))
-        (and-then ! (load ! (from ! (stop !)) (look ! 19 refl)) (and-then ! (load ! (from ! (stop !)) (look ! 57 refl))
-        (and-then ! (load ! (from ! (stop !)) (look ! 15 refl)) (no-more !)))))))))))) (λ v.
+        use2 W (raw (Queue 𝓤 H A mem′ rn .pre (to-queue l₁₄ l₁₅ ν ν′ δ δ′))) (goes-queue l₁₄ l₁₅ ν ν′ δ δ′) $
+        -- [what `queue` asks; …]: _16 = queue(_1, _18, _20, _22, _24, _26, _28, _30, _32, _34, _12, _36)
+        calls-at ! fm (Queue 𝓤 H A mem′ rn) known (to-queue l₁₄ l₁₅ ν ν′ δ δ′)
+        (and-then ! (load ! (from ! (stop !)) (look ! 83 refl)) (and-then ! (load ! (from ! (stop !)) (look ! 51 refl))
+        (and-then ! (load ! (from ! (stop !)) (look ! 47 refl)) (and-then ! (load ! (from ! (stop !)) (look ! 43 refl))
+        (and-then ! (load ! (from ! (stop !)) (look ! 39 refl)) (and-then ! (load ! (from ! (stop !)) (look ! 35 refl))
+        (and-then ! (load ! (from ! (stop !)) (look ! 31 refl)) (and-then ! (load ! (from ! (stop !)) (look ! 27 refl))
+        (and-then ! (load ! (from ! (stop !)) (look ! 23 refl)) (and-then ! (load ! (from ! (stop !)) (look ! 19 refl))
+        (and-then ! (load ! (from ! (stop !)) (look ! 61 refl)) (and-then ! (load ! (from ! (stop !)) (look ! 15 refl))
+        (no-more !))))))))))))) (λ v.
         use1 W (later (some (λ (r : Answer). (‵ (chain toks (AskToks ν ν′)) ⊛ ‵ (Ans.the-row .own r (v ∷ []))) ⊛ raw
-        (ensured 𝓤 H A queue.ended (queue.clauses 𝓤 H A mem′ rn) (to-queue l₁₃ l₁₄ ν ν′ δ δ′ .0 .0) (to-queue l₁₃ l₁₄ ν ν′ δ δ′ .0 .3) tt r))))
+        (ensured 𝓤 H A queue.ended (queue.clauses 𝓤 H A mem′ rn) (to-queue l₁₄ l₁₅ ν ν′ δ δ′ .0 .0) (to-queue l₁₄ l₁₅ ν ν′ δ δ′ .0 .3) tt r))))
         (id⊢ 𝓤 _) $
         await ! tt $ pick ! (λ r.
         split ! $ move ! (1 ∷ []) $
@@ -479,78 +497,77 @@ module _ {M : Type 1} (𝓤 : URA M) (H : Heap 𝓤) (A : Atoms 𝓤) (W : Given
         move ! (1 ∷ []) $ fsplit ! $ fsplit ! $ move ! (1 ∷ []) $ feqL ! (λ e₅.
         move ! (1 ∷ []) $ fsplit ! $ fsplit ! $ move ! (1 ∷ []) $ feqL ! (λ e₆.
         move ! (1 ∷ []) $ fsplit ! $ fsplit ! $ move ! (1 ∷ []) $ feqL ! (λ e₇.
+        move ! (1 ∷ []) $ fsplit ! $ fsplit ! $ move ! (1 ∷ []) $ feqL ! (λ e₈.
         move ! (1 ∷ []) $ fsplit ! $ drop ! $ fsplit ! $ drop ! $ fsplit ! $ move ! (1 ∷ []) $ drop ! $ fsplit ! $ move ! (1 ∷ []) $ feqL ! (λ eo.
         nothing ! $ move ! (2 ∷ 0 ∷ []) $ fjoin ! $ move ! (2 ∷ 0 ∷ []) $ fjoin ! $ move ! (2 ∷ 0 ∷ []) $ fjoin ! $ move ! (2 ∷ 0 ∷ []) $ fjoin ! $
-        move ! (2 ∷ 0 ∷ []) $ fjoin ! $ move ! (2 ∷ 0 ∷ []) $ fjoin ! $ move ! (2 ∷ 0 ∷ []) $ fjoin ! $
+        move ! (2 ∷ 0 ∷ []) $ fjoin ! $ move ! (2 ∷ 0 ∷ []) $ fjoin ! $ move ! (2 ∷ 0 ∷ []) $ fjoin ! $ move ! (2 ∷ 0 ∷ []) $ fjoin ! $
         -- the queue's own answer
         move ! (2 ∷ []) $ split ! $ move ! (1 ∷ []) $
         peeks ! Ans.the-row (Is Ans.the-row) (shows 𝓤 H A Ans.the-row) r (v ∷ []) (λ is.
-        land ! (from ! (stop !)) (init ! 54 refl (LL.lawful Ans.the-type Ans′.the-laws 𝓤 H A W .typed r _ is .0)) $
-        drop ! $ rewrite ! 53 (λ (u : Val). ‵ (fat fullShare Ans′.mir l₁₅ 0 u)) (ap only (LL.tells Ans.the-type Ans′.the-laws r (v ∷ []) is)) refl $
+        land ! (from ! (stop !)) (init ! 58 refl (LL.lawful Ans.the-type Ans′.the-laws 𝓤 H A W .typed r _ is .0)) $
+        drop ! $ rewrite ! 57 (λ (u : Val). ‵ (fat fullShare Ans′.mir l₁₆ 0 u)) (ap only (LL.tells Ans.the-type Ans′.the-laws r (v ∷ []) is)) refl $
         -- both lifetimes are ended: requests is room again, and answers holds its last list
         use1 W (‵ (chain toks ftrue) ⊛ ‵ (AskToks ν ν′)) (unchain 𝓤 H A W toks (AskToks ν ν′)) $ split ! $ move ! (1 ∷ []) $ fsplit ! $ lft-end ! tt $
         move ! (0 ∷ 6 ∷ []) $ lent-back ! tt $
-        use1 W (‵ (froom (tyArray It′.mir 2) l₁₃ 0)) (as-room 𝓤 H A W It.the-row (LL.vals It.the-type It′.the-laws) (LL.tells It.the-type It′.the-laws)
-        2 requests l₁₃) $
+        use1 W (‵ (froom (tyArray It′.mir 2) l₁₄ 0)) (as-room 𝓤 H A W It.the-row (LL.vals It.the-type It′.the-laws) (LL.tells It.the-type It′.the-laws)
+        2 requests l₁₄) $
         move ! (1 ∷ []) $ fsplit ! $ move ! (1 ∷ []) $ fsplit ! $ lft-end ! tt $ move ! (0 ∷ 7 ∷ 6 ∷ []) $
-        use3 W (later (‵ (Arr (mem Ans.the-row) 2 .lies (answers zs) l₁₄ 0))) (slice-back 𝓤 H A W Ans.the-row (ν′ ∷ []) δ′ (answers zs) 2 l₁₄ 0) $
+        use3 W (later (‵ (Arr (mem Ans.the-row) 2 .lies (answers zs) l₁₅ 0))) (slice-back 𝓤 H A W Ans.the-row (ν′ ∷ []) δ′ (answers zs) 2 l₁₅ 0) $
         await ! tt $
-        use1 W (‵ (Elems Ans.the-row 2 (answers zs) l₁₄)) (from-lies 𝓤 H A W Ans.the-row 2 (answers zs) l₁₄) $ fsplit ! $
+        use1 W (‵ (Elems Ans.the-row 2 (answers zs) l₁₅)) (from-lies 𝓤 H A W Ans.the-row 2 (answers zs) l₁₅) $ fsplit ! $
         -- answers[0] and answers[1] are read
-        -- _34 = &_14
+        -- _37 = &_15
         assigns ! (addr ! (from ! (stop !))) (from ! (stop !)) (init ! 17 refl (tt, tt)) $
-        -- _35 = _34 + 0
+        -- _38 = _37 + 0
         assigns ! (bin ! (load ! (from ! (stop !)) (look ! 17 refl)) (lit ! tt) tt) (from ! (stop !)) (init ! 15 refl (tt, tt)) $
         move ! (1 ∷ []) $
         elem-out ! Ans.the-row (Is Ans.the-row) (shows 𝓤 H A Ans.the-row) (LL.vals Ans.the-type Ans′.the-laws) (LL.tells Ans.the-type Ans′.the-laws)
-        fullShare (answers zs) 0 blank l₁₄ 0 (first-in _ eo) (λ g₁.
-        -- _36 = *_35
+        fullShare (answers zs) 0 blank l₁₅ 0 (first-in _ eo) (λ g₁.
+        -- _39 = *_38
         assigns ! (of-opd ! (load ! (from ! (hop ! (look ! 17 refl) (stop !))) (look-raw ! 0 refl))) (from ! (stop !))
         (init ! 15 refl (LL.lawful Ans.the-type Ans′.the-laws 𝓤 H A W .typed (getD (answers zs) 0 blank) _ g₁ .0)) $
-        elem-back ! Ans.the-row fullShare (answers zs) 0 blank (LL.vals Ans.the-type Ans′.the-laws (getD (answers zs) 0 blank)) l₁₄ 0 (first-in _ eo) $
-        -- _37 = &_14
+        elem-back ! Ans.the-row fullShare (answers zs) 0 blank (LL.vals Ans.the-type Ans′.the-laws (getD (answers zs) 0 blank)) l₁₅ 0 (first-in _ eo) $
+        -- _40 = &_15
         assigns ! (addr ! (from ! (stop !))) (from ! (stop !)) (init ! 11 refl (tt, tt)) $
-        -- _38 = _37 + 16
+        -- _41 = _40 + 16
         assigns ! (bin ! (load ! (from ! (stop !)) (look ! 11 refl)) (lit ! tt) tt) (from ! (stop !)) (init ! 9 refl (tt, tt)) $
         elem-out ! Ans.the-row (Is Ans.the-row) (shows 𝓤 H A Ans.the-row) (LL.vals Ans.the-type Ans′.the-laws) (LL.tells Ans.the-type Ans′.the-laws)
-        fullShare (answers zs) 1 blank l₁₄ 0 (second-in _ eo) (λ g₂.
-        -- _39 = *_38
+        fullShare (answers zs) 1 blank l₁₅ 0 (second-in _ eo) (λ g₂.
+        -- _42 = *_41
         assigns ! (of-opd ! (load ! (from ! (hop ! (look ! 11 refl) (stop !))) (look-raw ! 0 refl))) (from ! (stop !))
         (init ! 9 refl (LL.lawful Ans.the-type Ans′.the-laws 𝓤 H A W .typed (getD (answers zs) 1 blank) _ g₂ .0)) $
-        elem-back ! Ans.the-row fullShare (answers zs) 1 blank (LL.vals Ans.the-type Ans′.the-laws (getD (answers zs) 1 blank)) l₁₄ 0 (second-in _ eo) $
+        elem-back ! Ans.the-row fullShare (answers zs) 1 blank (LL.vals Ans.the-type Ans′.the-laws (getD (answers zs) 1 blank)) l₁₅ 0 (second-in _ eo) $
         -- the result
-        -- _0 = Pair(_15, _36, _39)
-        assigns ! (agg ! (and-then ! (load ! (from ! (stop !)) (look ! 55 refl))
+        -- _0 = Pair(_16, _39, _42)
+        assigns ! (agg ! (and-then ! (load ! (from ! (stop !)) (look ! 59 refl))
         (and-then ! (load ! (from ! (stop !)) (look ! 13 refl)) (and-then ! (load ! (from ! (stop !)) (look ! 7 refl)) (no-more !)))))
-        (from ! (stop !)) (init ! 83 refl (LL.lawful Pr.the-type Pr′.the-laws 𝓤 H A W .typed (gave r zs) _ (is-gave r zs is g₁ g₂) .0)) $
+        (from ! (stop !)) (init ! 89 refl (LL.lawful Pr.the-type Pr′.the-laws 𝓤 H A W .typed (gave r zs) _ (is-gave r zs is g₁ g₂) .0)) $
         -- answers is room again, and the locals die
         move ! (1 ∷ 0 ∷ []) $ fjoin ! $
-        use1 W (‵ (froom (tyArray Ans′.mir 2) l₁₄ 0)) (as-room 𝓤 H A W Ans.the-row (LL.vals Ans.the-type Ans′.the-laws)
-        (LL.tells Ans.the-type Ans′.the-laws) 2 (answers zs) l₁₄) $
-        returns ! (look ! 82 refl) $
+        use1 W (‵ (froom (tyArray Ans′.mir 2) l₁₅ 0)) (as-room 𝓤 H A W Ans.the-row (LL.vals Ans.the-type Ans′.the-laws)
+        (LL.tells Ans.the-type Ans′.the-laws) 2 (answers zs) l₁₅) $
+        returns ! (look ! 88 refl) $
         forget ! 6 refl $ forget ! 8 refl $ forget ! 10 refl $ forget ! 12 refl $ forget ! 14 refl $ forget ! 16 refl $ forget ! 18 refl $
         forget ! 20 refl $ forget ! 22 refl $ forget ! 24 refl $ forget ! 26 refl $ forget ! 28 refl $ forget ! 30 refl $ forget ! 32 refl $
         forget ! 34 refl $ forget ! 36 refl $ forget ! 38 refl $ forget ! 40 refl $ forget ! 42 refl $ forget ! 44 refl $ forget ! 46 refl $
-        forget ! 48 refl $ forget ! 50 refl $ forget ! 52 refl $ forget ! 54 refl $ forget ! 58 refl $ forget ! 60 refl $ forget ! 62 refl $
+        forget ! 48 refl $ forget ! 50 refl $ forget ! 52 refl $ forget ! 54 refl $ forget ! 56 refl $ forget ! 58 refl $ forget ! 62 refl $
         forget ! 64 refl $ forget ! 66 refl $ forget ! 68 refl $ forget ! 70 refl $ forget ! 72 refl $ forget ! 74 refl $ forget ! 76 refl $
-        forget ! 78 refl $ forget ! 80 refl $ forget ! 82 refl $
-        move ! (82 ∷ 83 ∷ []) $ free1 ! $ move ! (80 ∷ 81 ∷ []) $ free1 ! $ move ! (78 ∷ 79 ∷ []) $ free1 ! $ move ! (76 ∷ 77 ∷ []) $ free1 ! $
-        move ! (74 ∷ 75 ∷ []) $ free1 ! $ move ! (72 ∷ 73 ∷ []) $ free1 ! $
-        move ! (70 ∷ 71 ∷ []) $ free1 ! $ move ! (68 ∷ 69 ∷ []) $ free1 ! $ move ! (66 ∷ 67 ∷ []) $ free1 ! $ move ! (64 ∷ 65 ∷ []) $ free1 ! $
-        move ! (62 ∷ 63 ∷ []) $ free1 ! $ move ! (60 ∷ 61 ∷ []) $ free1 ! $
-        move ! (58 ∷ 59 ∷ []) $ free1 ! $ move ! (3 ∷ 57 ∷ []) $ free1 ! $ move ! (0 ∷ 55 ∷ []) $ free1 ! $ move ! (52 ∷ 53 ∷ []) $ free1 ! $
-        move ! (50 ∷ 51 ∷ []) $ free1 ! $ move ! (48 ∷ 49 ∷ []) $ free1 ! $
-        move ! (46 ∷ 47 ∷ []) $ free1 ! $ move ! (44 ∷ 45 ∷ []) $ free1 ! $ move ! (42 ∷ 43 ∷ []) $ free1 ! $ move ! (40 ∷ 41 ∷ []) $ free1 ! $
-        move ! (38 ∷ 39 ∷ []) $ free1 ! $ move ! (36 ∷ 37 ∷ []) $ free1 ! $
-        move ! (34 ∷ 35 ∷ []) $ free1 ! $ move ! (32 ∷ 33 ∷ []) $ free1 ! $ move ! (30 ∷ 31 ∷ []) $ free1 ! $ move ! (28 ∷ 29 ∷ []) $ free1 ! $
-        move ! (26 ∷ 27 ∷ []) $ free1 ! $ move ! (24 ∷ 25 ∷ []) $ free1 ! $
-        move ! (22 ∷ 23 ∷ []) $ free1 ! $ move ! (20 ∷ 21 ∷ []) $ free1 ! $ move ! (18 ∷ 19 ∷ []) $ free1 ! $ move ! (16 ∷ 17 ∷ []) $ free1 ! $
-        move ! (14 ∷ 15 ∷ []) $ free1 ! $ move ! (12 ∷ 13 ∷ []) $ free1 ! $
-        move ! (10 ∷ 11 ∷ []) $ free1 ! $ move ! (8 ∷ 9 ∷ []) $ free1 ! $ move ! (6 ∷ 7 ∷ []) $ free1 ! $ move ! (4 ∷ 5 ∷ []) $ free1 ! $ free0 ! $
+        forget ! 78 refl $ forget ! 80 refl $ forget ! 82 refl $ forget ! 84 refl $ forget ! 86 refl $ forget ! 88 refl $
+        move ! (88 ∷ 89 ∷ []) $ free1 ! $ move ! (86 ∷ 87 ∷ []) $ free1 ! $ move ! (84 ∷ 85 ∷ []) $ free1 ! $ move ! (82 ∷ 83 ∷ []) $ free1 ! $
+        move ! (80 ∷ 81 ∷ []) $ free1 ! $ move ! (78 ∷ 79 ∷ []) $ free1 ! $ move ! (76 ∷ 77 ∷ []) $ free1 ! $ move ! (74 ∷ 75 ∷ []) $ free1 ! $
+        move ! (72 ∷ 73 ∷ []) $ free1 ! $ move ! (70 ∷ 71 ∷ []) $ free1 ! $ move ! (68 ∷ 69 ∷ []) $ free1 ! $ move ! (66 ∷ 67 ∷ []) $ free1 ! $
+        move ! (64 ∷ 65 ∷ []) $ free1 ! $ move ! (62 ∷ 63 ∷ []) $ free1 ! $ move ! (3 ∷ 61 ∷ []) $ free1 ! $ move ! (0 ∷ 59 ∷ []) $ free1 ! $
+        move ! (56 ∷ 57 ∷ []) $ free1 ! $ move ! (54 ∷ 55 ∷ []) $ free1 ! $ move ! (52 ∷ 53 ∷ []) $ free1 ! $ move ! (50 ∷ 51 ∷ []) $ free1 ! $
+        move ! (48 ∷ 49 ∷ []) $ free1 ! $ move ! (46 ∷ 47 ∷ []) $ free1 ! $ move ! (44 ∷ 45 ∷ []) $ free1 ! $ move ! (42 ∷ 43 ∷ []) $ free1 ! $
+        move ! (40 ∷ 41 ∷ []) $ free1 ! $ move ! (38 ∷ 39 ∷ []) $ free1 ! $ move ! (36 ∷ 37 ∷ []) $ free1 ! $ move ! (34 ∷ 35 ∷ []) $ free1 ! $
+        move ! (32 ∷ 33 ∷ []) $ free1 ! $ move ! (30 ∷ 31 ∷ []) $ free1 ! $ move ! (28 ∷ 29 ∷ []) $ free1 ! $ move ! (26 ∷ 27 ∷ []) $ free1 ! $
+        move ! (24 ∷ 25 ∷ []) $ free1 ! $ move ! (22 ∷ 23 ∷ []) $ free1 ! $ move ! (20 ∷ 21 ∷ []) $ free1 ! $ move ! (18 ∷ 19 ∷ []) $ free1 ! $
+        move ! (16 ∷ 17 ∷ []) $ free1 ! $ move ! (14 ∷ 15 ∷ []) $ free1 ! $ move ! (12 ∷ 13 ∷ []) $ free1 ! $ move ! (10 ∷ 11 ∷ []) $ free1 ! $
+        move ! (8 ∷ 9 ∷ []) $ free1 ! $ move ! (6 ∷ 7 ∷ []) $ free1 ! $ move ! (4 ∷ 5 ∷ []) $ free1 ! $ free0 ! $
         nothing ! $ move ! (2 ∷ 0 ∷ []) $ fjoin ! $ keep ! (2 ∷ 0 ∷ 3 ∷ []) $
-        by ! (exits (lists zs) (e₁, (e₂, (e₃, (e₄, (e₅, (e₆, (e₇, tt))))))) (gave r zs) (is-gave r zs is g₁ g₂)
+        by ! (exits (lists zs) (e₁, (e₂, (e₃, (e₄, (e₅, (e₆, (e₇, (e₈, tt)))))))) (gave r zs) (is-gave r zs is g₁ g₂)
         (ap (λ (os : List Answer). outcome r bs os (S (lists zs))) (two-of blank (answers zs) eo) ∙
-        e)))))))))))))))))))))))))))))))))))))))))))))))))))))))))))))
+        e)))))))))))))))))))))))))))))))))))))))))))))))))))))))))))))))))
 
 -- ---- from the walk to the theorem
 module _ {M : Type 1} (𝓤 : URA M) (H : Heap 𝓤) (A : Atoms 𝓤) (W : Given 𝓤 H A) (mem′ : Memory → SProp 𝓤) (rn : Routine → Fun 𝓤) where
@@ -569,7 +586,7 @@ module _ {M : Type 1} (𝓤 : URA M) (H : Heap 𝓤) (A : Atoms 𝓤) (W : Given
                 slice-vals,
                 (
                   slice-vals,
-                  (slice-vals, (slice-vals, (LL.vals It.the-type It′.the-laws, (LL.vals It.the-type It′.the-laws, (slice-vals, (LL.vals Ans.the-type Ans′.the-laws, tt)))))),
+                  (slice-vals, (slice-vals, (slice-vals, (LL.vals It.the-type It′.the-laws, (LL.vals It.the-type It′.the-laws, (slice-vals, (LL.vals Ans.the-type Ans′.the-laws, tt))))))),
                 ),
               ),
             ),
@@ -593,10 +610,13 @@ module _ {M : Type 1} (𝓤 : URA M) (H : Heap 𝓤) (A : Atoms 𝓤) (W : Given
                     (
                       mut-slice-tells (named 6) (κs .1 .1 .1 .1 .1 .1 .0) u64,
                       (
-                        LL.tells It.the-type It′.the-laws,
+                        mut-slice-tells (named 7) (κs .1 .1 .1 .1 .1 .1 .1 .0) u32,
                         (
                           LL.tells It.the-type It′.the-laws,
-                          (shr-slice-tells (named 7) (κs .1 .1 .1 .1 .1 .1 .1 .0) u8, (LL.tells Ans.the-type Ans′.the-laws, tt)),
+                          (
+                            LL.tells It.the-type It′.the-laws,
+                            (shr-slice-tells (named 8) (κs .1 .1 .1 .1 .1 .1 .1 .1 .0) u8, (LL.tells Ans.the-type Ans′.the-laws, tt)),
+                          ),
                         ),
                       ),
                     ),
@@ -611,45 +631,49 @@ module _ {M : Type 1} (𝓤 : URA M) (H : Heap 𝓤) (A : Atoms 𝓤) (W : Given
       (walk 𝓤 H A W mem′ rn (a .0) (κs .0) (qs .0) (a .1 .0) (κs .1 .0) (qs .1 .0) (a .1 .1 .0) (κs .1 .1 .0) (qs .1 .1 .0) (a .1 .1 .1 .0)
       (κs .1 .1 .1 .0) (qs .1 .1 .1 .0) (a .1 .1 .1 .1 .0) (κs .1 .1 .1 .1 .0) (qs .1 .1 .1 .1 .0) (a .1 .1 .1 .1 .1 .0) (κs .1 .1 .1 .1 .1 .0)
       (qs .1 .1 .1 .1 .1 .0) (a .1 .1 .1 .1 .1 .1 .0) (κs .1 .1 .1 .1 .1 .1 .0) (qs .1 .1 .1 .1 .1 .1 .0) (a .1 .1 .1 .1 .1 .1 .1 .0)
-      (a .1 .1 .1 .1 .1 .1 .1 .1 .0) (a .1 .1 .1 .1 .1 .1 .1 .1 .1 .0) (κs .1 .1 .1 .1 .1 .1 .1 .0) (qs .1 .1 .1 .1 .1 .1 .1 .0)
-      (a .1 .1 .1 .1 .1 .1 .1 .1 .1 .1 .0) (a .1 .1 .1 .1 .1 .1 .1 .1 .1 .1 .1 .0) 𝓣 (fmOf 𝓤 H (W .laws) 𝓣) known (are .0) (
+      (κs .1 .1 .1 .1 .1 .1 .1 .0) (qs .1 .1 .1 .1 .1 .1 .1 .0) (a .1 .1 .1 .1 .1 .1 .1 .1 .0) (a .1 .1 .1 .1 .1 .1 .1 .1 .1 .0)
+      (a .1 .1 .1 .1 .1 .1 .1 .1 .1 .1 .0) (κs .1 .1 .1 .1 .1 .1 .1 .1 .0) (qs .1 .1 .1 .1 .1 .1 .1 .1 .0) (a .1 .1 .1 .1 .1 .1 .1 .1 .1 .1 .1 .0)
+      (a .1 .1 .1 .1 .1 .1 .1 .1 .1 .1 .1 .1 .0) 𝓣 (fmOf 𝓤 H (W .laws) 𝓣) known (are .0) (
         are .1 .0 .0 .1,
         (
           are .1 .1 .0 .0 .1,
           (
             are .1 .1 .1 .0 .0 .1,
-            (are .1 .1 .1 .1 .0 .0 .1, (are .1 .1 .1 .1 .1 .0 .0 .1, (are .1 .1 .1 .1 .1 .1 .0 .0 .1, (are .1 .1 .1 .1 .1 .1 .1 .0 .0 .1, tt)))),
+            (are .1 .1 .1 .1 .0 .0 .1, (are .1 .1 .1 .1 .1 .0 .0 .1, (are .1 .1 .1 .1 .1 .1 .0 .0 .1, (are .1 .1 .1 .1 .1 .1 .1 .0 .0 .1, (are .1 .1 .1 .1 .1 .1 .1 .1 .0 .0 .1, tt))))),
           ),
         ),
       )
-      (are .1 .1 .1 .1 .1 .1 .1 .1 .0) (are .1 .1 .1 .1 .1 .1 .1 .1 .1 .0) (are .1 .1 .1 .1 .1 .1 .1 .1 .1 .1 .0 .0 .1) (are .1 .1 .1 .1 .1 .1 .1 .1 .1 .1 .1 .0)))
+      (are .1 .1 .1 .1 .1 .1 .1 .1 .1 .0) (are .1 .1 .1 .1 .1 .1 .1 .1 .1 .1 .0) (are .1 .1 .1 .1 .1 .1 .1 .1 .1 .1 .1 .0 .0 .1) (are .1 .1 .1 .1 .1 .1 .1 .1 .1 .1 .1 .1 .0)))
 
 two-meets : {M : Type 1} (𝓤 : URA M) (H : Heap 𝓤) (A : Atoms 𝓤) → Given 𝓤 H A → (mem′ : Memory → SProp 𝓤) (rn : Routine → Fun 𝓤) (𝓣 : Tables 𝓤 H) →
     Triple 𝓤 (𝓣 .C #queue-list·queue) (Queue 𝓤 H A mem′ rn)
     → Meets 𝓤 H A two.signature (WpFn 𝓤 H (𝓣 .C) (𝓣 .Λ) code.function) (two.spec 𝓤 H A mem′ rn)
 two-meets 𝓤 H A W mem′ rn 𝓣 known = walk-meets 𝓤 H A two.ended stayed W (
-  goes-dropped 𝓤 H A W 8 (plain (λ _. Par.the-row)) yes (λ κs x f. refl),
+  goes-dropped 𝓤 H A W 9 (plain (λ _. Par.the-row)) yes (λ κs x f. refl),
   (
-    goes-gave-slice 𝓤 H A W 8 0 tt (plain (λ _. u8)),
+    goes-gave-slice 𝓤 H A W 9 0 tt (plain (λ _. u8)),
     (
-      goes-gave-slice 𝓤 H A W 8 1 tt (plain (λ _. u16)),
+      goes-gave-slice 𝓤 H A W 9 1 tt (plain (λ _. u16)),
       (
-        goes-gave-slice 𝓤 H A W 8 2 tt (plain (λ _. u16)),
+        goes-gave-slice 𝓤 H A W 9 2 tt (plain (λ _. u16)),
         (
-          goes-gave-slice 𝓤 H A W 8 3 tt (plain (λ _. u16)),
+          goes-gave-slice 𝓤 H A W 9 3 tt (plain (λ _. u16)),
           (
-            goes-gave-slice 𝓤 H A W 8 4 tt (plain (λ _. u8)),
+            goes-gave-slice 𝓤 H A W 9 4 tt (plain (λ _. u8)),
             (
-              goes-gave-slice 𝓤 H A W 8 5 tt (plain (λ _. u32)),
+              goes-gave-slice 𝓤 H A W 9 5 tt (plain (λ _. u32)),
               (
-                goes-gave-slice 𝓤 H A W 8 6 tt (plain (λ _. u64)),
+                goes-gave-slice 𝓤 H A W 9 6 tt (plain (λ _. u64)),
                 (
-                  goes-dropped 𝓤 H A W 8 (plain (λ _. It.the-row)) yes (λ κs x f. refl),
+                  goes-gave-slice 𝓤 H A W 9 7 tt (plain (λ _. u32)),
                   (
-                    goes-dropped 𝓤 H A W 8 (plain (λ _. It.the-row)) yes (λ κs x f. refl),
+                    goes-dropped 𝓤 H A W 9 (plain (λ _. It.the-row)) yes (λ κs x f. refl),
                     (
-                      goes-dropped 𝓤 H A W 8 (shrSliceOf (7 ∷ []) tt (plain (λ _. u8))) yes (λ κs x f. refl),
-                      (goes-dropped 𝓤 H A W 8 (plain (λ _. Ans.the-row)) yes (λ κs x f. refl), tt),
+                      goes-dropped 𝓤 H A W 9 (plain (λ _. It.the-row)) yes (λ κs x f. refl),
+                      (
+                        goes-dropped 𝓤 H A W 9 (shrSliceOf (8 ∷ []) tt (plain (λ _. u8))) yes (λ κs x f. refl),
+                        (goes-dropped 𝓤 H A W 9 (plain (λ _. Ans.the-row)) yes (λ κs x f. refl), tt),
+                      ),
                     ),
                   ),
                 ),

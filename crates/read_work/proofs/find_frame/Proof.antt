@@ -109,15 +109,4 @@ returns-2 c =
 
 pub find-frame-spec : {M : Type 1} → statement M
 find-frame-spec =
-    tie.close
-    (tie.spec
-    ct-at-requires
-    returns
-    region-of-requires
-    vblock-of-requires
-    bt-at-requires
-    place-of-requires
-    block-of-requires
-    last-in-requires
-    frame-at-requires
-    returns-2)
+    tie.close (tie.spec ct-at-requires returns region-of-requires vblock-of-requires bt-at-requires place-of-requires block-of-requires last-in-requires frame-at-requires returns-2)

@@ -34,14 +34,4 @@ returns c = rw (width, c .before .before .read-sector .ensures) (back _ _ _ _)
 
 pub place-sector-spec : {M : Type 1} → statement M
 place-sector-spec =
-    tie.close
-    (tie.spec
-    mul-a
-    add-b
-    add-read-sector
-    sub-read-sector
-    part-read-sector-start
-    part-read-sector-end
-    read-sector-requires
-    same-length
-    returns)
+    tie.close (tie.spec mul-a add-b add-read-sector sub-read-sector part-read-sector-start part-read-sector-end read-sector-requires same-length returns)

@@ -53,5 +53,4 @@ returns c =
 
 pub read-run-spec : {M : Type 1} → statement M
 read-run-spec =
-    tie.close
-    (tie.spec Inv-loop μ-loop loop-holds place-sector-requires add-i loop-less loop-again same-length returns)
+    tie.close (tie.spec Inv-loop μ-loop loop-holds place-sector-requires add-i loop-less loop-again same-length returns)

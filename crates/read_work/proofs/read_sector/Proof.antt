@@ -89,19 +89,4 @@ returns-2 c =
 
 pub read-sector-spec : {M : Type 1} → statement M
 read-sector-spec =
-    tie.close
-    (tie.spec
-    blank-requires
-    same-length
-    returns
-    page-bytes-requires
-    mul-a
-    add-a
-    mul-a-2
-    add-b
-    sub-put
-    part-put-start
-    part-put-end
-    put-requires
-    same-length-2
-    returns-2)
+    tie.close (tie.spec blank-requires same-length returns page-bytes-requires mul-a add-a mul-a-2 add-b sub-put part-put-start part-put-end put-requires same-length-2 returns-2)

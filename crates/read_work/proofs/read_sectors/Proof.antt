@@ -40,8 +40,8 @@ returns c =
     let pre = start .pre in
     let cluster = at-cluster-of .cluster-of .ensures in
     let found = at-find-frame .find-frame .ensures in (
-      λ fst bst wear marks.
-          c .before .before .read-run .ensures ∙ read-is _ _ _ _ _ _ _ pre _ _ (rw cluster at (found .0)) _ (at-sector-of .sector-of .ensures) fst bst wear marks,
+      λ fst bst wear marks stamps.
+          c .before .before .read-run .ensures ∙ read-is _ _ _ _ _ _ _ pre _ _ (rw cluster at (found .0)) _ (at-sector-of .sector-of .ensures) fst bst wear marks stamps,
       rw cluster at (found .1 .1),
     )
 

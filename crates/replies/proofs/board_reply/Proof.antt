@@ -24,14 +24,14 @@ unfolding lentRows badParameter wrongLength
 returns-2 c =
     let at-parameters-allowed = c .before .before .before in
     skip _ _ _ _ _ (ap not (at-parameters-allowed .parameters-allowed .ensures)) (c .before .before .if1 .left)
-    (here _ _ _ _ (ap not (c .before .lengths-fit .ensures _ refl refl refl refl refl refl refl)) (c .if2 .taken))
+    (here _ _ _ _ (ap not (c .before .lengths-fit .ensures _ refl refl refl refl refl refl refl refl)) (c .if2 .taken))
 
 returns-3 : tie.Need-returns-3
 unfolding lentRows badParameter wrongLength
 returns-3 c =
     let at-parameters-allowed = c .before .before .before in
     skip _ _ _ _ _ (ap not (at-parameters-allowed .parameters-allowed .ensures)) (c .before .before .if1 .left)
-    (skip _ _ _ _ _ (ap not (c .before .lengths-fit .ensures _ refl refl refl refl refl refl refl)) (c .if2 .left) otherwise)
+    (skip _ _ _ _ _ (ap not (c .before .lengths-fit .ensures _ refl refl refl refl refl refl refl refl)) (c .if2 .left) otherwise)
 
 pub board-reply-spec : {M : Type 1} → statement M
 board-reply-spec = tie.close (tie.spec parameters-allowed-requires returns lengths-fit-requires returns-2 returns-3)

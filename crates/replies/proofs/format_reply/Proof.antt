@@ -14,7 +14,7 @@ use Rattle.replies.proofs.format_reply.Statement.{statement}
 use Rattle.replies.proofs.format_reply.Tie as tie
 
 abbrev board : tie.Start → Board
-board a = boardOf (a .args .chip .now) (a .args .ct .now) (a .args .bt .now) (a .args .fst .now) (a .args .bst .now) (a .args .wear .now) (a .args .marks .now)
+board a = boardOf (a .args .chip .now) (a .args .ct .now) (a .args .bt .now) (a .args .fst .now) (a .args .bst .now) (a .args .wear .now) (a .args .marks .now) (a .args .stamps .now)
 
 board-reply-requires : tie.Need-board-reply-requires
 board-reply-requires c κs = search needs
@@ -28,7 +28,7 @@ returns c = refuses _ _ _ (c .before .before .board-reply .ensures) (c .before .
 
 count-good-requires : tie.Need-count-good-requires
 count-good-requires c κs =
-    let a = c .before .before .before .before .before .before .before .before .before .before in
+    let a = c .before .before .before .before .before .before .before .before .before .before .before in
     let h = lent-passes _ (board a) _ _ (c .before .before .board-reply .ensures) (c .before .number .ensures) (c .if1 .left) in
     (h .fine, (lengths-in _ (board a) (h .fine) (h .fits)) .chipLength ∙ chip-size _)
 
@@ -36,7 +36,7 @@ mul-if2 : tie.Need-mul-if2
 mul-if2 c =
     let at-number = c .before .before .before in
     let at-board-reply = at-number .before in
-    let a = at-board-reply .before .before .before .before .before .before .before .before in
+    let a = at-board-reply .before .before .before .before .before .before .before .before .before in
     let h = lent-passes _ (board a) _ _ (at-board-reply .board-reply .ensures) (at-number .number .ensures) (c .before .before .if1 .left) in
     omega (arith, (sizes _ (h .fine)) .tableHigh)
 
@@ -44,7 +44,7 @@ add-if2 : tie.Need-add-if2
 add-if2 c =
     let at-number = c .before .before .before in
     let at-board-reply = at-number .before in
-    let a = at-board-reply .before .before .before .before .before .before .before .before in
+    let a = at-board-reply .before .before .before .before .before .before .before .before .before in
     let h = lent-passes _ (board a) _ _ (at-board-reply .board-reply .ensures) (at-number .number .ensures) (c .before .before .if1 .left) in
     omega (arith, (sizes _ (h .fine)) .tableHigh)
 
@@ -54,7 +54,7 @@ returns-2 c =
     let at-if1 = c .before .before .before in
     let at-number = at-if1 .before in
     let at-board-reply = at-number .before in
-    let a = at-board-reply .before .before .before .before .before .before .before .before in
+    let a = at-board-reply .before .before .before .before .before .before .before .before .before in
     let h = lent-passes _ (board a) _ _ (at-board-reply .board-reply .ensures) (at-number .number .ensures) (at-if1 .if1 .left) in
     after-lent _ (board a) h _ _ (here _ _ _ _ (few-is _ (board a) _ (c .before .before .count-good .ensures)) (lt-ltb _ _ (c .if2 .taken)))
 
@@ -64,7 +64,7 @@ returns-3 c =
     let at-if1 = c .before .before .before in
     let at-number = at-if1 .before in
     let at-board-reply = at-number .before in
-    let a = at-board-reply .before .before .before .before .before .before .before .before in
+    let a = at-board-reply .before .before .before .before .before .before .before .before .before in
     let h = lent-passes _ (board a) _ _ (at-board-reply .board-reply .ensures) (at-number .number .ensures) (at-if1 .if1 .left) in
     after-lent _ (board a) h _ _ (skip _ _ _ _ _ (few-is _ (board a) _ (c .before .before .count-good .ensures)) (le-ltb _ _ (c .if2 .left)) otherwise)
 

@@ -9,7 +9,7 @@ use Rattle.replies.proofs.release_reply.Statement.{statement}
 use Rattle.replies.proofs.release_reply.Tie as tie
 
 abbrev board : tie.Start → Board
-board a = boardOf (a .args .chip .now) (a .args .ct .now) (a .args .bt .now) (a .args .fst .now) (a .args .bst .now) (a .args .wear .now) (a .args .marks .now)
+board a = boardOf (a .args .chip .now) (a .args .ct .now) (a .args .bt .now) (a .args .fst .now) (a .args .bst .now) (a .args .wear .now) (a .args .marks .now) (a .args .stamps .now)
 
 board-reply-requires : tie.Need-board-reply-requires
 board-reply-requires c κs = search needs
@@ -29,7 +29,7 @@ unfolding replyOf rowsOf
 returns-2 c =
     let at-number = c .before .before .before in
     let at-board-reply = at-number .before in
-    let a = at-board-reply .before .before .before .before .before .before .before .before in
+    let a = at-board-reply .before .before .before .before .before .before .before .before .before in
     let h = lent-passes _ (board a) _ _ (at-board-reply .board-reply .ensures) (at-number .number .ensures) (c .before .before .if1 .left) in
     after-lent _ (board a) h _ _ (here _ _ _ _ (c .before .bad-cluster .ensures) (c .if2 .taken))
 
@@ -37,7 +37,7 @@ state-reply-requires : tie.Need-state-reply-requires
 state-reply-requires c κs =
     let at-number = c .before .before .before in
     let at-board-reply = at-number .before in
-    let a = at-board-reply .before .before .before .before .before .before .before .before in
+    let a = at-board-reply .before .before .before .before .before .before .before .before .before in
     let h = lent-passes _ (board a) _ _ (at-board-reply .board-reply .ensures) (at-number .number .ensures) (c .before .before .if1 .left) in
     (lengths-in _ (board a) (h .fine) (h .fits), marks-fit _ (board a) (h .fits))
 
@@ -47,9 +47,9 @@ returns-3 c =
     let at-if1 = c .before .before .before in
     let at-number = at-if1 .before in
     let at-board-reply = at-number .before in
-    let a = at-board-reply .before .before .before .before .before .before .before .before in
+    let a = at-board-reply .before .before .before .before .before .before .before .before .before in
     let h = lent-passes _ (board a) _ _ (at-board-reply .board-reply .ensures) (at-number .number .ensures) (at-if1 .if1 .left) in
-    after-lent _ (board a) h _ _ (skip _ _ _ _ _ (c .before .before .bad-cluster .ensures) (c .before .if2 .left) (c .state-reply .ensures _))
+    after-lent _ (board a) h _ _ (skip _ _ _ _ _ (c .before .before .bad-cluster .ensures) (c .before .if2 .left) (c .state-reply .ensures _ _))
 
 pub release-reply-spec : {M : Type 1} → statement M
 release-reply-spec = tie.close (tie.spec board-reply-requires number-requires returns bad-cluster-requires returns-2 state-reply-requires returns-3)

@@ -27,7 +27,7 @@ reclaim-block-requires c κs =
     rw (at-pl3 .pl3 .given .1) at (start .pre)
 
 returns : tie.Need-returns
-returns c = λ fst e. rw (c .before .pl .given .1) (made-continues _ _ _ _ fst _ _ _ _ _ _)
+returns c = λ fst stamps e. rw (c .before .pl .given .1) (made-continues _ _ _ _ fst _ _ _ stamps _ _ _)
 
 same-length : tie.Need-same-length
 same-length c = search needs
@@ -42,7 +42,7 @@ returns-2 : tie.Need-returns-2
 returns-2 c =
     let at-open-block = c .before .before .before .before in
     let at-pl2 = at-open-block .before .before .before .before .before in
-    λ fst e. rw (at-pl2 .pl2 .given .1) (made-opens _ _ _ _ fst _ _ _ _ _ _ _ (at-open-block .open-block .ensures))
+    λ fst stamps e. rw (at-pl2 .pl2 .given .1) (made-opens _ _ _ _ fst _ _ _ stamps _ _ _ _ (at-open-block .open-block .ensures))
 
 same-length-4 : tie.Need-same-length-4
 same-length-4 c = search needs
@@ -64,7 +64,7 @@ returns-3 c =
     let at-reclaim-block = c .before .before .before .before .before .before .before .before .before .before in
     let at-pl3 = at-reclaim-block .before .before .before .before .before .before .before in
     let start = at-pl3 .before .before .before .before .before .before .before .before in
-    λ fst e. rw (at-pl3 .pl3 .given .1) (made-by-marks _ _ _ _ _ _ _ _ _ (rw (at-pl3 .pl3 .given .1) at (start .pre)) fst e _ _ _ _ _ _ (at-reclaim-block .reclaim-block .ensures))
+    λ fst stamps e. rw (at-pl3 .pl3 .given .1) (made-by-marks _ _ _ _ _ _ _ _ _ (rw (at-pl3 .pl3 .given .1) at (start .pre)) fst stamps e _ _ _ _ _ _ (at-reclaim-block .reclaim-block .ensures))
 
 pub make-room-spec : {M : Type 1} → statement M
 make-room-spec =

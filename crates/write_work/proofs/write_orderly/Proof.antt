@@ -24,32 +24,32 @@ use Rattle.write_work.proofs.write_orderly.Tie as tie
 
 cluster-of-requires : tie.Need-cluster-of-requires
 cluster-of-requires c κs =
-    let start = c .before .before .before .before .before .before .before .before in
+    let start = c .before .before .before .before .before .before .before .before .before in
     sectors _ _ _ (start .pre)
 
 region-of-requires : tie.Need-region-of-requires
 region-of-requires c κs =
-    let start = c .before .before .before .before .before .before .before .before .before in
+    let start = c .before .before .before .before .before .before .before .before .before .before in
     let look = lookup-entry _ _ _ (start .pre) _ (c .cluster-of .ensures) in
     (look .fine, look .low)
 
 find-frame-requires : tie.Need-find-frame-requires
 find-frame-requires c κs =
     let at-cluster-of = c .before .before .before .before in
-    let start = at-cluster-of .before .before .before .before .before .before .before .before .before in
+    let start = at-cluster-of .before .before .before .before .before .before .before .before .before .before in
     lookup-entry _ _ _ (start .pre) _ (at-cluster-of .cluster-of .ensures)
 
 plan-of-requires : tie.Need-plan-of-requires
 plan-of-requires c κs =
     let at-region-of = c .before .before .before .before .before .before .before .before in
     let at-cluster-of = at-region-of .before in
-    let entry = at-cluster-of .before .before .before .before .before .before .before .before .before in
+    let entry = at-cluster-of .before .before .before .before .before .before .before .before .before .before in
     (plan-asked _ _ _ (entry .pre) _ (at-region-of .region-of .ensures ∙ ap (regionOf (entry .args .p)) (at-cluster-of .cluster-of .ensures)), marks-full _ _ _ (entry .pre))
 
 make-room-requires : tie.Need-make-room-requires
 make-room-requires c κs =
     let d = c .before .before .before .before .before .before in
-    let entry = d .before .before .before .before .before .before .before .before .before .before .before .before .before .before .before .before .before .before .before in
+    let entry = d .before .before .before .before .before .before .before .before .before .before .before .before .before .before .before .before .before .before .before .before in
     let cluster = d .before .before .before .before .before .before .before .before .before .before .cluster-of .ensures in
     let region = d .before .before .before .before .before .before .before .before .before .region-of .ensures ∙ ap (regionOf (entry .args .p)) cluster in
     room-asked _ _ _ (entry .pre) _ region _ (d .plan-of .ensures)
@@ -58,7 +58,7 @@ find-again-requires : tie.Need-find-again-requires
 find-again-requires c κs =
     let at-make-room = c .before .before .before .before .before .before .before .before .before .before .before .before .before in
     let d = at-make-room .before .before .before .before .before .before .before in
-    let entry = d .before .before .before .before .before .before .before .before .before .before .before .before .before .before .before .before .before .before .before in
+    let entry = d .before .before .before .before .before .before .before .before .before .before .before .before .before .before .before .before .before .before .before .before in
     let cluster = d .before .before .before .before .before .before .before .before .before .before .cluster-of .ensures in
     let region = d .before .before .before .before .before .before .before .before .before .region-of .ensures ∙ ap (regionOf (entry .args .p)) cluster in
     let room = at-make-room .make-room .ensures in
@@ -72,10 +72,10 @@ find-again-requires c κs =
 
 put-cluster-requires : tie.Need-put-cluster-requires
 put-cluster-requires c κs =
-    let at-find-again = c .before .before .before .before in
+    let at-find-again = c .before .before .before .before .before in
     let at-make-room = at-find-again .before .before .before .before .before .before .before .before .before .before .before .before .before .before in
     let d = at-make-room .before .before .before .before .before .before .before in
-    let entry = d .before .before .before .before .before .before .before .before .before .before .before .before .before .before .before .before .before .before .before in
+    let entry = d .before .before .before .before .before .before .before .before .before .before .before .before .before .before .before .before .before .before .before .before in
     let cluster = d .before .before .before .before .before .before .before .before .before .before .cluster-of .ensures in
     let region = d .before .before .before .before .before .before .before .before .before .region-of .ensures ∙ ap (regionOf (entry .args .p)) cluster in
     let room = at-make-room .make-room .ensures in
@@ -83,10 +83,10 @@ put-cluster-requires c κs =
 
 keep-marks-requires : tie.Need-keep-marks-requires
 keep-marks-requires c κs =
-    let at-find-again = c .before .before .before .before .before .before .before .before .before .before .before .before in
+    let at-find-again = c .before .before .before .before .before .before .before .before .before .before .before .before .before .before .before in
     let at-make-room = at-find-again .before .before .before .before .before .before .before .before .before .before .before .before .before .before in
     let d = at-make-room .before .before .before .before .before .before .before in
-    let entry = d .before .before .before .before .before .before .before .before .before .before .before .before .before .before .before .before .before .before .before in
+    let entry = d .before .before .before .before .before .before .before .before .before .before .before .before .before .before .before .before .before .before .before .before in
     let cluster = d .before .before .before .before .before .before .before .before .before .before .cluster-of .ensures in
     let region = d .before .before .before .before .before .before .before .before .before .region-of .ensures ∙ ap (regionOf (entry .args .p)) cluster in
     let room = at-make-room .make-room .ensures in
@@ -97,10 +97,9 @@ keep-marks-requires c κs =
 
 answered-requires : tie.Need-answered-requires
 answered-requires c κs =
-    let at-make-room = c .before .before .before .before .before .before .before .before .before .before .before .before .before .before
-    .before .before .before .before .before .before .before .before .before .before .before .before .before .before .before in
+    let at-make-room = c .before .before .before .before .before .before .before .before .before .before .before .before .before .before .before .before .before .before .before .before .before .before .before .before .before .before .before .before .before .before .before .before in
     let d = at-make-room .before .before .before .before .before .before .before in
-    let entry = d .before .before .before .before .before .before .before .before .before .before .before .before .before .before .before .before .before .before .before in
+    let entry = d .before .before .before .before .before .before .before .before .before .before .before .before .before .before .before .before .before .before .before .before in
     let cluster = d .before .before .before .before .before .before .before .before .before .before .cluster-of .ensures in
     let region = d .before .before .before .before .before .before .before .before .before .region-of .ensures ∙ ap (regionOf (entry .args .p)) cluster in
     let room = at-make-room .make-room .ensures in
@@ -110,75 +109,60 @@ answered-requires c κs =
 
 same-length : tie.Need-same-length
 same-length c =
-    let at-chip2 = c .before .before .before .before .before .before .before .before .before .before in
-    let at-chip = at-chip2 .before .before .before .before .before .before .before .before .before .before .before .before .before .before .before .before .before .before .before in
+    let at-chip2 = c .before .before .before .before .before .before .before .before .before .before .before .before in
+    let at-chip = at-chip2 .before .before .before .before .before .before .before .before .before .before .before .before .before .before .before .before .before .before .before .before in
     at-chip2 .chip2 .given ∙ at-chip .chip .given
 
 same-length-2 : tie.Need-same-length-2
 same-length-2 c =
-    let at-ct2 = c .before .before .before .before .before .before .before .before in
-    let at-ct = at-ct2 .before .before .before .before .before .before .before .before .before .before .before .before .before .before .before .before .before .before .before in
+    let at-ct2 = c .before .before .before .before .before .before .before .before .before .before in
+    let at-ct = at-ct2 .before .before .before .before .before .before .before .before .before .before .before .before .before .before .before .before .before .before .before .before in
     at-ct2 .ct2 .given ∙ at-ct .ct .given
 
 same-length-3 : tie.Need-same-length-3
 same-length-3 c =
-    let at-bt = c .before .before .before .before .before .before .before .before .before .before .before .before
-    .before .before .before .before .before .before .before .before .before .before .before .before .before in
+    let at-bt = c .before .before .before .before .before .before .before .before .before .before .before .before .before .before .before .before .before .before .before .before .before .before .before .before .before .before .before .before in
     at-bt .bt .given
 
 same-length-4 : tie.Need-same-length-4
 same-length-4 c =
-    let at-fst = c .before .before .before .before .before .before in
+    let at-fst = c .before .before .before .before .before .before .before .before in
     at-fst .fst .given
 
 same-length-5 : tie.Need-same-length-5
 same-length-5 c =
-    let at-bst = c .before .before .before .before .before .before .before .before .before .before .before
-    .before .before .before .before .before .before .before .before .before .before .before .before in
+    let at-bst = c .before .before .before .before .before .before .before .before .before .before .before .before .before .before .before .before .before .before .before .before .before .before .before .before .before .before in
     at-bst .bst .given
 
 same-length-6 : tie.Need-same-length-6
 same-length-6 c =
-    let at-wear = c .before .before .before .before .before .before .before .before .before .before .before .before .before .before .before .before .before .before .before .before .before in
+    let at-wear = c .before .before .before .before .before .before .before .before .before .before .before .before .before .before .before .before .before .before .before .before .before .before .before .before in
     at-wear .wear .given
 
 same-length-7 : tie.Need-same-length-7
 same-length-7 c = c .before .before .marks .given
 
+same-length-8 : tie.Need-same-length-8
+same-length-8 c =
+    let at-stamps = c .before .before .before .before .before .before in
+    at-stamps .stamps .given
+
 returns : tie.Need-returns
 returns c =
     let at-keep-marks = c .before .before .before in
-    let at-put-cluster = at-keep-marks .before .before .before .before .before .before .before .before in
-    let at-find-again = at-put-cluster .before .before .before .before .before in
+    let at-put-cluster = at-keep-marks .before .before .before .before .before .before .before .before .before .before in
+    let at-find-again = at-put-cluster .before .before .before .before .before .before in
     let at-make-room = at-find-again .before .before .before .before .before .before .before .before .before .before .before .before .before .before in
     let d = at-make-room .before .before .before .before .before .before .before in
-    let entry = d .before .before .before .before .before .before .before .before .before .before .before .before .before .before .before .before .before .before .before in
+    let entry = d .before .before .before .before .before .before .before .before .before .before .before .before .before .before .before .before .before .before .before .before in
     let cluster = d .before .before .before .before .before .before .before .before .before .before .cluster-of .ensures in
     let region = d .before .before .before .before .before .before .before .before .before .region-of .ensures ∙ ap (regionOf (entry .args .p)) cluster in
     let room = at-make-room .make-room .ensures in
     let found = d .before .before .before .before .before .find-frame .ensures in
     let old = at-find-again .find-again .ensures in
-    gives _ _ _ (entry .pre) _ region _ (d .plan-of .ensures) _ _ _ _ _ _ _ _ _ room _ _ cluster _ _ _ (old .0) (old .1) _ (found .1 .1) _ _ _ _ _
+    gives _ _ _ (entry .pre) _ region _ (d .plan-of .ensures) _ _ _ _ _ _ _ _ _ room _ _ cluster _ _ _ (old .0) (old .1) _ (found .1 .1) _ _ _ _ _ _
     (at-put-cluster .put-cluster .ensures) (at-keep-marks .keep-marks .ensures) (c .answered .ensures)
 
 pub write-orderly-spec : {M : Type 1} → statement M
 write-orderly-spec =
-    tie.close
-    (tie.spec
-    cluster-of-requires
-    region-of-requires
-    find-frame-requires
-    plan-of-requires
-    make-room-requires
-    find-again-requires
-    put-cluster-requires
-    keep-marks-requires
-    answered-requires
-    same-length
-    same-length-2
-    same-length-3
-    same-length-4
-    same-length-5
-    same-length-6
-    same-length-7
-    returns)
+    tie.close (tie.spec cluster-of-requires region-of-requires find-frame-requires plan-of-requires make-room-requires find-again-requires put-cluster-requires keep-marks-requires answered-requires same-length same-length-2 same-length-3 same-length-4 same-length-5 same-length-6 same-length-7 same-length-8 returns)
