@@ -57,9 +57,10 @@ void free_board(struct cnftl_board *b)
     free(b->stamps);
 }
 
-/* Programs one frame of a formatted board. */
+/* Programs one frame of a formatted board for a virtual block. */
 static void put_frame(const struct cnftl_board *b, uint32_t block,
-                      uint32_t frame, uint32_t cluster)
+                      uint32_t frame, uint32_t cluster, uint32_t stamp,
+                      uint32_t virtual_block)
 {
     const struct cnftl_params *p = &b->params;
     size_t at = block * cnftl_pages_per_block(p) + (size_t)frame * p->alpha;
@@ -69,12 +70,13 @@ static void put_frame(const struct cnftl_board *b, uint32_t block,
         uint8_t *spare = page + p->s;
 
         memset(page, (int)(cluster & 255), p->s);
-        spare[0] = (uint8_t)cluster;
-        spare[1] = (uint8_t)(cluster >> 8);
-        spare[2] = (uint8_t)(cluster >> 16);
-        spare[3] = (uint8_t)(cluster >> 24);
+        for (int i = 0; i < 4; i++) {
+            spare[i] = (uint8_t)(cluster >> 8 * i);
+            spare[7 + i] = (uint8_t)(stamp >> 8 * i);
+        }
         spare[4] = (uint8_t)place;
         spare[6] = 0;
+        spare[11] = (uint8_t)virtual_block;
     }
 }
 
@@ -97,7 +99,7 @@ void fill_region(const struct cnftl_board *b, uint32_t region,
         uint32_t block = region * p->gamma + i / frames;
         uint32_t cluster = region + p->mu * (i % clusters);
 
-        put_frame(b, block, i % frames, cluster);
+        put_frame(b, block, i % frames, cluster, i + 1, i / frames);
         b->ct[cluster] = (uint16_t)(i / p->beta);
         b->bt[block] = (uint16_t)block;
         b->bst[block] = CNFTL_BLOCK_USED;
@@ -105,4 +107,5 @@ void fill_region(const struct cnftl_board *b, uint32_t region,
             put_mark(b, block, i % frames);
     }
     b->fst[region] = (uint16_t)((all - 1) / p->beta);
+    b->stamps[region] = all;
 }

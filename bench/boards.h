@@ -19,7 +19,7 @@ void free_board(struct cnftl_board *b);
 
 /* Fills a region of a formatted board with its clusters in turn.  All of its
    blocks are full but the last, which has this many frames.  The last round of
-   clusters is valid. */
+   clusters is valid.  Each frame has the next stamp. */
 void fill_region(const struct cnftl_board *b, uint32_t region, uint32_t last);
 
 #endif

@@ -4,10 +4,12 @@
  *
  * The orderly check passes once over the chip.  It reads only the spare bytes
  * of programmed pages, compares erased pages by words, and searches nothing:
- *   - The clusters in a block's frames fix its region, so that a block can be
- *     named twice only within one region.
+ *   - The pages of a block fix its region, by their cluster, and its virtual
+ *     block, so that no block can be named twice.
  *   - If all named blocks are used and differ, then "used exactly if named"
  *     says that as many blocks are used as are named.
+ *   - All pages of a frame have the spare bytes of its first page but for the
+ *     place: they are compared with those as two words.
  *   - A cluster has at most one valid frame, and that frame's segment is the
  *     one in CT.  So there are at most as many valid frames as CT entries that
  *     are not none.  Where each marked frame is valid, and there are as many
@@ -16,7 +18,7 @@
  *
  * A write keeps the marks: it sets the new frame's and clears the old one's,
  * and after a reclaim the copies have the first marks of their block.  It takes
- * the next stamp of its region, if there is one left.
+ * the next stamp of its region, if there is one left, for its pages.
  */
 #include "model_fast.h"
 
@@ -25,7 +27,9 @@
 #include <stdbool.h>
 #include <string.h>
 
-#define BEGUN UINT32_MAX /* in place of a cluster's number */
+/* In place of a cluster's number: of a frame only begun, and of a wrong one. */
+#define BEGUN UINT32_MAX
+#define WRONG (UINT32_MAX - 1)
 
 enum { SPARE = 16, NONE = 65535, FREE = 0, USED = 1, RESERVED = 2, WORDS = 4 };
 enum {
@@ -63,16 +67,50 @@ static uint32_t cluster_in(const uint8_t *spare)
          | (uint32_t)spare[3] << 24;
 }
 
-/* The spare bytes of a cluster's first page; byte 4 is the place. */
-static void make_spare(uint8_t spare[SPARE], uint32_t cluster)
+/* The spare bytes of a frame's first page as two numbers, the low byte first,
+   as both processors have it.  Byte 4, the place, is all that differs on the
+   other pages. */
+struct spare {
+    uint64_t low, high;
+};
+
+/* The eight bytes from p on as a number. */
+static uint64_t word_at(const uint8_t *p)
 {
-    memset(spare, 255, SPARE);
-    spare[0] = (uint8_t)cluster;
-    spare[1] = (uint8_t)(cluster >> 8);
-    spare[2] = (uint8_t)(cluster >> 16);
-    spare[3] = (uint8_t)(cluster >> 24);
-    spare[4] = 0;
-    spare[6] = 0;
+    uint64_t w;
+
+    memcpy(&w, p, sizeof w);
+    return w;
+}
+
+/* Those of a page. */
+static struct spare spare_in(const uint8_t *bytes)
+{
+    return (struct spare){ word_at(bytes), word_at(bytes + 8) };
+}
+
+/* Cluster, place 0, 255, 0 and the stamp's low byte; its other bytes, virtual
+   block, and four times 255. */
+static struct spare make_spare(uint32_t cluster, uint32_t stamp,
+                               uint32_t virtual_block)
+{
+    return (struct spare){
+        UINT64_C(0x0000ff0000000000) | cluster | (uint64_t)stamp << 56,
+        UINT64_C(0xffffffff00000000) | virtual_block << 24 | stamp >> 8
+    };
+}
+
+/* The stamp in them. */
+static uint32_t stamp_in(struct spare spare)
+{
+    return (uint32_t)(spare.high << 8 | spare.low >> 56);
+}
+
+/* The same bytes for another page of the frame. */
+static struct spare at_place(struct spare spare, uint32_t place)
+{
+    spare.low |= (uint64_t)place << 32;
+    return spare;
 }
 
 /* Offset of a frame in the chip. */
@@ -125,41 +163,41 @@ static uint32_t ones_below(const uint64_t *words, uint32_t frame)
 
 /* ==== The orderly check ================================================ */
 
-/* The eight bytes from p on as a number, the low byte first, as both
-   processors have it. */
-static uint64_t word_at(const uint8_t *p)
-{
-    uint64_t w;
-
-    memcpy(&w, p, sizeof w);
-    return w;
-}
-
 /* How many pages of a frame, from the first on, have the spare bytes of the
-   cluster, by words: cluster, place, 255, 0, 255, and then eight times 255. */
-static uint32_t spares_right(const struct board *b, const uint8_t *spare,
-                             uint32_t cluster)
+   first one. */
+static uint32_t pages_alike(const struct board *b, const uint8_t *bytes,
+                            struct spare first)
 {
-    uint64_t right = UINT64_C(0xff00ff0000000000) | cluster;
-    uint32_t place = 0;
+    uint32_t place = 1;
 
     for (; place < b->alpha; place++) {
-        if (word_at(spare) != (right | (uint64_t)place << 32)
-            || word_at(spare + 8) != UINT64_MAX)
+        struct spare right = at_place(first, place);
+
+        bytes += b->page;
+        if (word_at(bytes) != right.low || word_at(bytes + 8) != right.high)
             break;
-        spare += b->page;
     }
     return place;
 }
 
-/* Whether a frame that begins with so many right pages is whole, or only begun
-   and erased after them. */
-static bool whole_or_begun(const struct board *b, const uint8_t *frame,
-                           uint32_t pages)
+/* The cluster of a frame with these spare bytes in its first page, BEGUN if
+   only its first pages are programmed, or WRONG if it is not orderly. */
+static uint32_t check_frame(const struct board *b, uint32_t region,
+                            uint32_t virtual_block, const uint8_t *bytes)
 {
-    return pages == b->alpha
-        || (pages > 0 && all_ones(frame + pages * b->page,
-                                  (b->alpha - pages) * b->page));
+    struct spare first = spare_in(bytes);
+    uint32_t cluster = (uint32_t)first.low, stamp = stamp_in(first), pages;
+    struct spare right = make_spare(cluster, stamp, virtual_block);
+
+    if (first.low != right.low || first.high != right.high
+        || cluster >= b->c || cluster % b->mu != region
+        || stamp > b->stamps[region])
+        return WRONG;
+    pages = pages_alike(b, bytes, first);
+    if (pages == b->alpha)
+        return cluster;
+    return all_ones(bytes - b->s + pages * b->page,
+                    (b->alpha - pages) * b->page) ? BEGUN : WRONG;
 }
 
 /* Whether each marked one of a segment's first k frames, with these clusters,
@@ -206,20 +244,16 @@ static uint32_t check_used_block(const struct board *b, uint32_t region,
                                  uint32_t virtual_block, uint32_t block)
 {
     const uint64_t *words = b->marks + words_at(b, region, virtual_block);
-    uint32_t cluster[16], pages, k, held = 0, segment = virtual_block * b->d;
+    uint32_t cluster[16], k, held = 0, segment = virtual_block * b->d;
 
     for (k = 0; k < b->frames; k++) {
         const uint8_t *spare = spare_at(b, block, k);
-        uint32_t x = cluster_in(spare);
 
         if (spare[6] != 0)
             break;
-        if (x >= b->c || x % b->mu != region)
+        cluster[held] = check_frame(b, region, virtual_block, spare);
+        if (cluster[held++] == WRONG)
             return 0;
-        pages = spares_right(b, spare, x);
-        if (!whole_or_begun(b, spare - b->s, pages))
-            return 0;
-        cluster[held++] = pages == b->alpha ? x : BEGUN;
         if (held == b->beta) {
             if (!marked_valid(b, cluster, held, segment,
                               marks_from(words, k + 1 - held)))
@@ -257,9 +291,6 @@ static bool check_region(const struct board *b, uint32_t region,
             continue;
         if (bt[v] >= b->n || b->bst[bt[v]] != USED)
             return false;
-        for (uint32_t u = 0; u < v; u++)
-            if (bt[u] == bt[v])
-                return false;
         k = check_used_block(b, region, v, bt[v]);
         if (k == 0 || (k < b->frames && v != open))
             return false;
@@ -565,27 +596,21 @@ static void move_mark(const struct board *b, const struct lent *l,
 }
 
 /* Programs the pages of an erased frame, each once: those asked for with the
-   data, the others with the old page, or, if there is none, with the spare
-   bytes alone, since their data bytes are 255 already. */
+   data, the others with that of the old page, or, if there is none, with the
+   spare bytes alone, since their data bytes are 255 already. */
 static void put_cluster(const struct board *b, uint8_t *to, const uint8_t *old,
-                        uint32_t cluster, uint32_t first, uint32_t count,
-                        const uint8_t *data)
+                        struct spare first_page, uint32_t first,
+                        uint32_t count, const uint8_t *data)
 {
-    uint8_t spare[SPARE];
-
-    make_spare(spare, cluster);
     for (uint32_t place = 0; place < b->alpha; place++) {
+        struct spare spare = at_place(first_page, place);
         uint8_t *page = to + place * b->page;
-        bool new = place - first < count;
 
-        if (!new && old != NULL) {
-            memcpy(page, old + place * b->page, b->page);
-            continue;
-        }
-        if (new)
+        if (place - first < count)
             memcpy(page, data + (size_t)(place - first) * b->s, b->s);
-        spare[4] = (uint8_t)place;
-        memcpy(page + b->s, spare, SPARE);
+        else if (old != NULL)
+            memcpy(page, old + place * b->page, b->s);
+        memcpy(page + b->s, &spare, SPARE);
     }
 }
 
@@ -598,14 +623,14 @@ static uint64_t write_steps(const struct board *b, const struct lent *l,
     struct target t = find_target(b, l, region, &old);
     uint8_t *to = l->chip + frame_at(b, t.block, t.frame);
 
-    put_cluster(b, to, old.at == SIZE_MAX ? NULL : b->chip + old.at, cluster,
+    put_cluster(b, to, old.at == SIZE_MAX ? NULL : b->chip + old.at,
+                make_spare(cluster, ++l->stamps[region], t.virtual_block),
                 lba % b->alpha, count, data);
     if (t.victim_block != NONE)
         erase(b, l, t.victim_block);
     segment = t.virtual_block * b->d + t.frame / b->beta;
     l->ct[cluster] = (uint16_t)segment;
     l->fst[region] = (uint16_t)segment;
-    l->stamps[region]++;
     move_mark(b, l, region, &old, &t);
     return answer(ACCEPTED, b->alpha * (t.copied + 1), t.victim_block != NONE);
 }

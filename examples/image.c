@@ -9,7 +9,7 @@
 #include <stdlib.h>
 #include <string.h>
 
-enum { VERSION = 3, HEADER_BYTES = 44 };
+enum { VERSION = 4, HEADER_BYTES = 44 };
 
 /* The result where nothing is wrong. */
 static const struct image_result fine = { IMAGE_FINE, "" };

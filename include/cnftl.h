@@ -43,8 +43,8 @@
  *     v of region r is bit f % 64, UINT64_C(1) << f % 64, of entry
  *     CNFTL_MARK_WORDS*(r*gamma + v) + f/64.  All other bits are 0.
  *   - stamps: for each region the stamp that was taken last, 0 after a format.
- *     An accepted write, single or of a queue, takes the next one of its
- *     region; nothing else changes the entry.  A region whose entry is
+ *     An accepted write, single or of a queue, takes the next one of its region
+ *     for its pages; nothing else changes the entry.  A region whose entry is
  *     4,294,967,295 has no stamp left: its writes are refused with 9 until the
  *     next format.
  *
@@ -114,8 +114,10 @@ __attribute__((used)) static uint32_t (*const cnftl_needs_api)(void)
 /*
  * Spare bytes that follow the s data bytes of each page.  On a programmed page
  * 0 to 3 are the cluster's number, low byte first, 4 is the sector's place in
- * its cluster, 5 is 255, 6 is 0, and 7 to 15 are 255.  An erased page is 255
- * throughout.
+ * its cluster, 5 is 255, 6 is 0, 7 to 10 are the stamp, low byte first, 11 is
+ * the virtual block, counted within its region, and 12 to 15 are 255.  All
+ * pages of a frame have one stamp, which is the one that the write took for
+ * them; the copies of a reclaim keep it.  An erased page is 255 throughout.
  */
 #define CNFTL_SPARE_BYTES 16u
 
@@ -206,8 +208,10 @@ enum cnftl_rule {
     CNFTL_RULE_USED_BLOCK = 7, /* in a used block of a region the first k
                                   frames, k from 1 to F, are programmed with
                                   clusters below c of that region and with
-                                  their spare bytes, each in all or only its
-                                  first pages; the rest is erased           */
+                                  their spare bytes, one stamp in a frame and
+                                  the virtual block that BT names the block
+                                  for, each in all or only its first pages;
+                                  the rest is erased                        */
     CNFTL_RULE_FST = 8,        /* FST is none exactly if the region has no
                                   block; else it is the segment of the last
                                   programmed frame of one of its blocks, the
@@ -216,8 +220,10 @@ enum cnftl_rule {
     CNFTL_RULE_CT = 9,         /* a CT entry is none or names a segment of its
                                   region that holds a whole frame of the
                                   cluster                                   */
-    CNFTL_RULE_MARKS = 10      /* a frame's mark is 1 exactly if the frame is
+    CNFTL_RULE_MARKS = 10,     /* a frame's mark is 1 exactly if the frame is
                                   valid, and all other bits are 0           */
+    CNFTL_RULE_STAMPS = 11     /* no programmed page of a region's blocks has
+                                  a larger stamp than the region's entry    */
 };
 
 /* What a write would do for its frame. */
@@ -438,8 +444,8 @@ static inline const char *cnftl_rule_text(uint32_t rule)
     case CNFTL_RULE_FREE:
         return "a free block is not erased throughout";
     case CNFTL_RULE_USED_BLOCK:
-        return "a used block does not begin with frames of its region "
-               "and go on erased";
+        return "a used block does not begin with frames of its virtual "
+               "block and go on erased";
     case CNFTL_RULE_FST:
         return "FST does not name the open block's last segment, or two "
                "blocks are not full";
@@ -447,6 +453,8 @@ static inline const char *cnftl_rule_text(uint32_t rule)
         return "a CT entry names a segment that does not hold its cluster";
     case CNFTL_RULE_MARKS:
         return "a mark is 1 where no frame is valid, or 0 where one is";
+    case CNFTL_RULE_STAMPS:
+        return "a page has a larger stamp than the last one of its region";
     default:
         return "unknown rule";
     }

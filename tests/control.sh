@@ -95,7 +95,7 @@ check "an FST entry becomes none" broken "$room/fst" "$fst" '\377\377'
 check "a board that is not orderly" refuses 5 "read was refused with reply 7: the board is not orderly" "$room/fst"
 # s=16, alpha=1, beta=1, d=2, mu=1, gamma=1, c=1, n=2: 128 bytes of chip and 52 of tables
 one_region() {
-    printf 'CNFTLIMG\3\0\0\0\20\0\0\0\1\0\0\0\1\0\0\0\2\0\0\0\1\0\0\0\1\0\0\0\1\0\0\0\2\0\0\0' && head -c 180 /dev/zero
+    printf 'CNFTLIMG\4\0\0\0\20\0\0\0\1\0\0\0\1\0\0\0\2\0\0\0\1\0\0\0\1\0\0\0\1\0\0\0\2\0\0\0' && head -c 180 /dev/zero
 }
 one_region >"$room/one"
 check "a board with one region" refuses 7 "$room/one: the board has one region, for 2 ledgers" "$room/one"

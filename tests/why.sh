@@ -146,6 +146,25 @@ check "rule 10 for that too" grep -q '^Rule 10 is the first one broken' <(run "$
 check "the marks are those of frames 1 and 3" broken "$room/same" "$marks" '\012'
 check "nothing was changed by that" cmp "$room/board" "$room/same"
 
+check "the first page names virtual block 1" broken "$room/virtual" $((44 + spare + 11)) '\001'
+check "rule 7" tells 3 "$room/virtual" 5 <<'END'
+Sector 5 is at place 1 of cluster 2, in region 0.
+The board is not orderly: no read, write or release is accepted (reply 7).
+Rule 7 is the first one broken:
+  a used block does not begin with frames of its virtual block and go on erased.
+END
+check "the second page gets another stamp than the first" broken "$room/mixed" $((44 + page + spare + 7)) '\000'
+check "rule 7 for that too" grep -q '^Rule 7 is the first one broken' <(run "$room/cnftl-why" "$room/mixed" 5)
+check "region 0 has taken 5 stamps, and its sixth write the sixth" broken "$room/stamped" "$stamps" '\005'
+check "rule 11" tells 3 "$room/stamped" 5 <<'END'
+Sector 5 is at place 1 of cluster 2, in region 0.
+The board is not orderly: no read, write or release is accepted (reply 7).
+Rule 11 is the first one broken:
+  a page has a larger stamp than the last one of its region.
+END
+check "it has taken 6" broken "$room/same" "$stamps" '\006'
+check "nothing was changed by that either" cmp "$room/board" "$room/same"
+
 check "all blocks full" control 4
 check "a sector in the third block, and the write reclaims the first" tells 0 "$room/board" 22 <<'END'
 Sector 22 is at place 0 of cluster 11, in region 1.

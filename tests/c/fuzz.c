@@ -31,7 +31,7 @@ enum slice {
     REQUESTS, ANSWERS, SLICES
 };
 enum { GUARD = 64, DATA_ROOM = 16 * 512 + GUARD, REPLIES = 10 };
-enum { LIST_ROOM = (CNFTL_WHY_ENTRIES + 1) * 4, RULES = CNFTL_RULE_MARKS + 1 };
+enum { LIST_ROOM = (CNFTL_WHY_ENTRIES + 1) * 4, RULES = CNFTL_RULE_STAMPS + 1 };
 enum { MOST_ITEMS = 8, REQUESTS_ROOM = (3 * MOST_ITEMS + 2) * 4 };
 enum { ANSWERS_ROOM = (MOST_ITEMS + 3) * 8 };
 
@@ -679,60 +679,85 @@ static uint8_t *frame_at(uint32_t block, uint32_t frame)
     return chip + block * block_bytes() + frame * frame_bytes();
 }
 
-/* Programs the first pages of a frame as document 01 says, with random data. */
-static void begin_frame(uint32_t block, uint32_t frame, uint32_t cluster,
-                        uint32_t pages)
+/* The spare bytes of a page of a frame. */
+static uint8_t *spare_at(uint32_t block, uint32_t frame, uint32_t place)
 {
-    uint8_t *page = frame_at(block, frame);
+    return frame_at(block, frame) + place * cnftl_page_bytes(&par) + par.s;
+}
+
+/* Puts a number of four bytes down, low byte first. */
+static void put_number(uint8_t *to, uint32_t number)
+{
+    for (int i = 0; i < 4; i++)
+        to[i] = (uint8_t)(number >> 8 * i);
+}
+
+/* The number of four bytes, low byte first. */
+static uint32_t number_at(const uint8_t *from)
+{
+    return from[0] | (uint32_t)from[1] << 8 | (uint32_t)from[2] << 16
+         | (uint32_t)from[3] << 24;
+}
+
+/* A stamp that a page of a region may have: the last one of the region, the one
+   before, 0, or any up to the last. */
+static uint32_t right_stamp(uint32_t region)
+{
+    uint32_t last = stamps[region];
+    const uint32_t values[] = {
+        last, last - (last > 0), 0, (uint32_t)(rnd() % ((uint64_t)last + 1))
+    };
+
+    return values[below(4)];
+}
+
+/* Programs the first pages of a frame as the documents say, with random data,
+   in a block that this BT entry names, or that is to look so. */
+static void begin_frame(uint32_t entry, uint32_t block, uint32_t frame,
+                        uint32_t cluster, uint32_t pages)
+{
+    uint32_t stamp = right_stamp(entry / par.gamma);
 
     for (uint32_t place = 0; place < pages; place++) {
-        uint8_t *spare = page + par.s;
+        uint8_t *spare = spare_at(block, frame, place);
 
-        fill_random(page, par.s);
+        fill_random(spare - par.s, par.s);
         memset(spare, 255, CNFTL_SPARE_BYTES);
-        spare[0] = (uint8_t)cluster;
-        spare[1] = (uint8_t)(cluster >> 8);
-        spare[2] = (uint8_t)(cluster >> 16);
-        spare[3] = (uint8_t)(cluster >> 24);
+        put_number(spare, cluster);
         spare[4] = (uint8_t)place;
         spare[6] = 0;
-        page += cnftl_page_bytes(&par);
+        put_number(spare + 7, stamp);
+        spare[11] = (uint8_t)(entry % par.gamma);
     }
 }
 
 /* The cluster number in a frame's first page. */
 static uint32_t cluster_at(uint32_t block, uint32_t frame)
 {
-    const uint8_t *spare = frame_at(block, frame) + par.s;
-
-    return spare[0] | (uint32_t)spare[1] << 8 | (uint32_t)spare[2] << 16
-         | (uint32_t)spare[3] << 24;
+    return number_at(spare_at(block, frame, 0));
 }
 
-/* Programs all of them. */
-static void put_frame(uint32_t block, uint32_t frame, uint32_t cluster)
+/* Programs all pages of a frame of a BT entry's block. */
+static void put_frame(uint32_t entry, uint32_t frame, uint32_t cluster)
 {
-    begin_frame(block, frame, cluster, par.alpha);
+    begin_frame(entry, bt[entry], frame, cluster, par.alpha);
 }
 
-/* Programs a frame, or, at times, only its first pages.  Whether it is whole. */
-static bool put_some_frame(uint32_t block, uint32_t frame, uint32_t cluster)
+/* The same or, at times, only the first pages.  Whether the frame is whole. */
+static bool put_some_frame(uint32_t entry, uint32_t frame, uint32_t cluster)
 {
     uint32_t pages = once_in(6) ? between(1, par.alpha) : par.alpha;
 
-    begin_frame(block, frame, cluster, pages);
+    begin_frame(entry, bt[entry], frame, cluster, pages);
     return pages == par.alpha;
 }
 
 /* Whether a frame is whole and holds a cluster, by its last page. */
 static bool holds_at(uint32_t block, uint32_t frame, uint32_t cluster)
 {
-    const uint8_t *spare = frame_at(block, frame)
-        + (par.alpha - 1) * cnftl_page_bytes(&par) + par.s;
-    uint32_t held = spare[0] | (uint32_t)spare[1] << 8
-        | (uint32_t)spare[2] << 16 | (uint32_t)spare[3] << 24;
+    const uint8_t *spare = spare_at(block, frame, par.alpha - 1);
 
-    return spare[6] == 0 && held == cluster;
+    return spare[6] == 0 && number_at(spare) == cluster;
 }
 
 /* Leading programmed frames of a block. */
@@ -740,7 +765,7 @@ static uint32_t frames_in(uint32_t block)
 {
     uint32_t k = 0;
 
-    while (k < frames() && frame_at(block, k)[par.s + 6] == 0)
+    while (k < frames() && spare_at(block, k, 0)[6] == 0)
         k++;
     return k;
 }
@@ -838,13 +863,14 @@ static void put_block(uint32_t region, uint32_t virtual_block, uint32_t k)
 {
     uint32_t block = some_block(CNFTL_BLOCK_FREE);
     uint32_t kinds_of = between(1, clusters_of_region(region));
+    uint32_t entry = region * par.gamma + virtual_block;
 
     bst[block] = CNFTL_BLOCK_USED;
-    bt[region * par.gamma + virtual_block] = (uint16_t)block;
+    bt[entry] = (uint16_t)block;
     for (uint32_t frame = 0; frame < k; frame++) {
         uint32_t cluster = region + par.mu * below(kinds_of);
 
-        if (put_some_frame(block, frame, cluster) && once_in(2))
+        if (put_some_frame(entry, frame, cluster) && once_in(2))
             ct[cluster] =
                 (uint16_t)(virtual_block * par.d + frame / par.beta);
     }
@@ -869,8 +895,8 @@ static void shuffle_clusters(uint32_t region, uint32_t *list)
 }
 
 /* Gives a region all of its blocks, full, with a frame of every cluster, each
-   in CT that has a whole one.  Where C is tight, few frames are stale, and those of each block count
-   when the next writes reclaim. */
+   in CT that has a whole one.  Where C is tight, few frames are stale, and
+   those of each block count when the next writes reclaim. */
 static void pack_region(uint32_t region)
 {
     static uint32_t list[16 * 256];
@@ -883,7 +909,7 @@ static void pack_region(uint32_t region)
             bt[entry] = (uint16_t)some_block(CNFTL_BLOCK_FREE);
             bst[bt[entry]] = CNFTL_BLOCK_USED;
         }
-        if (put_some_frame(bt[entry], i % frames(), list[i])
+        if (put_some_frame(entry, i % frames(), list[i])
             && (ct[list[i]] == CNFTL_NONE || once_in(2)))
             ct[list[i]] = (uint16_t)(i / par.beta);
     }
@@ -1075,9 +1101,20 @@ static void change_cluster(void)
 
     if (entry == CNFTL_NONE || frame >= frames_in(bt[entry]))
         return;
-    put_frame(bt[entry], frame,
+    put_frame(entry, frame,
               once_in(2) ? below(par.c)
                          : entry / par.gamma + par.mu * below(par.c));
+}
+
+/* The BT entry that names a block, or any. */
+static uint32_t entry_of(uint32_t block)
+{
+    uint32_t entries = par.mu * par.gamma;
+
+    for (uint32_t i = 0; i < entries; i++)
+        if (bt[i] == block)
+            return i;
+    return below(entries);
 }
 
 /* A block takes or loses a whole frame anywhere. */
@@ -1086,7 +1123,7 @@ static void change_frame(void)
     uint32_t block = below(par.n), frame = below(frames());
 
     if (once_in(2))
-        put_frame(block, frame, below(par.c));
+        begin_frame(entry_of(block), block, frame, below(par.c), par.alpha);
     else
         memset(frame_at(block, frame), 255, frame_bytes());
 }
@@ -1215,12 +1252,138 @@ static void change_marks(void)
     changes[below(sizeof changes / sizeof *changes)]();
 }
 
-/* The last stamps of some regions become others. */
-static void change_stamps(void)
+/* The largest stamp on the pages of a region, by the first page of each frame,
+   or 0.  The state may be any. */
+static uint32_t largest_stamp(uint32_t region)
+{
+    uint32_t most = 0;
+
+    for (uint32_t i = 0; i < par.gamma; i++) {
+        uint32_t block = bt[region * par.gamma + i];
+
+        for (uint32_t k = block < par.n ? frames_in(block) : 0; k > 0; k--) {
+            uint32_t stamp = number_at(spare_at(block, k - 1, 0) + 7);
+
+            most = stamp > most ? stamp : most;
+        }
+    }
+    return most;
+}
+
+/* The last stamps of some regions become others: the largest on the region's
+   pages, just below or above that, or any. */
+static void change_last_stamps(void)
+{
+    do {
+        uint32_t region = below(par.mu), most = largest_stamp(region);
+        const uint32_t values[] = { most, most - 1, most + 1, some_stamp() };
+
+        stamps[region] = values[below(4)];
+    } while (once_in(2));
+}
+
+/* Some regions have one stamp left or none. */
+static void use_up_stamps(void)
 {
     do
-        stamps[below(par.mu)] = some_stamp();
+        stamps[below(par.mu)] = UINT32_MAX - below(2);
     while (once_in(2));
+}
+
+/* The programmed pages of a frame get this stamp, from a place on. */
+static void put_stamp(uint32_t block, uint32_t frame, uint32_t place,
+                      uint32_t stamp)
+{
+    for (; place < par.alpha; place++)
+        if (spare_at(block, frame, place)[6] == 0)
+            put_number(spare_at(block, frame, place) + 7, stamp);
+}
+
+/* A frame of a used block gets another stamp, from a place on: the region's
+   last one, the next, or any. */
+static void change_stamp_from(uint32_t place)
+{
+    uint32_t entry = some_entry(true), last;
+
+    if (entry == CNFTL_NONE || frames_in(bt[entry]) == 0)
+        return;
+    last = stamps[entry / par.gamma];
+    put_stamp(bt[entry], below(frames_in(bt[entry])), place,
+              once_in(2) ? last + 1 : once_in(2) ? last : (uint32_t)rnd());
+}
+
+/* All pages of a frame get another stamp. */
+static void change_stamp(void)
+{
+    change_stamp_from(0);
+}
+
+/* The pages of a frame get two stamps. */
+static void mix_stamps(void)
+{
+    change_stamp_from(below(par.alpha));
+}
+
+/* A random BT entry whose block has frames and is not full, or CNFTL_NONE. */
+static uint32_t open_entry(void)
+{
+    uint32_t entries = par.mu * par.gamma, start = below(entries);
+
+    for (uint32_t i = 0; i < entries; i++) {
+        uint32_t block = bt[(start + i) % entries];
+        uint32_t k = block < par.n ? frames_in(block) : 0;
+
+        if (k > 0 && k < frames())
+            return (start + i) % entries;
+    }
+    return CNFTL_NONE;
+}
+
+/* A block that is not full takes a frame that is only begun, with the region's
+   next stamp, as of a write that was cut short; the table has the stamp or
+   not. */
+static void cut_write(void)
+{
+    uint32_t entry = open_entry(), region, k;
+
+    if (entry == CNFTL_NONE || par.alpha == 1)
+        return;
+    region = entry / par.gamma;
+    k = frames_in(bt[entry]);
+    begin_frame(entry, bt[entry], k, cluster_at(bt[entry], k - 1),
+                between(1, par.alpha - 1));
+    fst[region] = (uint16_t)(entry % par.gamma * par.d + k / par.beta);
+    if (stamps[region] == UINT32_MAX)
+        return;
+    put_stamp(bt[entry], k, 0, stamps[region] + 1);
+    stamps[region] += once_in(2);
+}
+
+/* The programmed pages of a used block, or of one of its frames, name another
+   virtual block, perhaps of no region. */
+static void change_virtual(void)
+{
+    uint32_t entry = some_entry(true), k, only, to;
+
+    if (entry == CNFTL_NONE || (k = frames_in(bt[entry])) == 0)
+        return;
+    only = once_in(2) ? below(k) : k;
+    to = once_in(4) ? (uint32_t)rnd() : below(par.gamma + 1);
+    for (uint32_t frame = 0; frame < k; frame++)
+        for (uint32_t place = 0; place < par.alpha; place++)
+            if ((only == k || only == frame)
+                && spare_at(bt[entry], frame, place)[6] == 0)
+                spare_at(bt[entry], frame, place)[11] = (uint8_t)to;
+}
+
+/* One thing changes in the stamps, in the table or on the pages. */
+static void change_stamps(void)
+{
+    static void (*const changes[])(void) = {
+        change_last_stamps, use_up_stamps, change_stamp, mix_stamps, cut_write
+    };
+
+    changes[below(sizeof changes / sizeof *changes)]();
 }
 
 /* One whole table becomes anything. */
@@ -1231,20 +1394,24 @@ static void scramble_table(void)
     fill_random(bytes_of(&product, (enum slice)i), room[i]);
 }
 
-/* Changes one thing, most often, in both sides' states: a mark alone, or
-   another thing, which the marks then follow half of the time, so that they do
-   not always give it away; and the last stamps as well at times. */
+/* Changes one thing, most often, in both sides' states: marks or stamps alone,
+   or another thing, which the marks then follow half of the time, so that they
+   do not always give it away.  At times no stamps are left then. */
 static void change_state(void)
 {
     static void (*const changes[])(void) = {
         change_ct, change_fst, change_bt, change_bst, change_chip,
         change_spare, change_used_spare, change_cluster, change_frame,
         cut_frame, reserve_blocks, drop_last_frame, name_empty_block,
-        change_stamps, scramble_table
+        change_virtual, scramble_table
     };
 
     if (once_in(5)) {
         change_marks();
+        if (once_in(4))
+            change_stamps();
+    } else if (once_in(6)) {
+        change_stamps();
     } else {
         do
             changes[below(sizeof changes / sizeof *changes)]();
@@ -1252,8 +1419,8 @@ static void change_state(void)
         if (once_in(2))
             put_marks();
     }
-    if (once_in(4))
-        change_stamps();
+    if (once_in(8))
+        use_up_stamps();
     copy_side(&model, &product);
 }
 
@@ -1401,9 +1568,27 @@ static void refused_as_told(struct call k, const uint32_t *list)
     stampless++;
 }
 
+/* Whether the frame of a cluster in a virtual block of its region has the
+   region's last stamp and that virtual block on all pages. */
+static bool is_stamped(uint32_t cluster, uint32_t virtual_block,
+                       uint32_t frame)
+{
+    uint32_t region = cluster % par.mu;
+    uint32_t block = bt[region * par.gamma + virtual_block];
+
+    for (uint32_t place = 0; place < par.alpha; place++) {
+        const uint8_t *spare = spare_at(block, frame, place);
+
+        if (number_at(spare + 7) != stamps[region]
+            || spare[11] != virtual_block)
+            return false;
+    }
+    return true;
+}
+
 /* Writes one sector, and compares the counts of the write, the segment that CT
-   and FST then name and the mark that it sets with the forecast, and the
-   copies of a reclaim with the marks before it. */
+   and FST then name, the mark that it sets and the spare bytes of its frame
+   with the forecast, and the copies of a reclaim with the marks before it. */
 static void write_as_told(struct call k, const uint32_t *list)
 {
     uint32_t cluster = k.lba / par.alpha;
@@ -1420,7 +1605,9 @@ static void write_as_told(struct call k, const uint32_t *list)
                != (list[CNFTL_WHY_WRITE] == CNFTL_WRITE_RECLAIMS)
         || ct[cluster] != segment || fst[cluster % par.mu] != segment
         || !counted || !is_marked(cluster, list[CNFTL_WHY_TARGET],
-                                  list[CNFTL_WHY_TAKES]))
+                                  list[CNFTL_WHY_TAKES])
+        || !is_stamped(cluster, list[CNFTL_WHY_TARGET],
+                       list[CNFTL_WHY_TAKES]))
         differ(&k, "the forecast", a, a);
     looked_as_told(&k, list, a);
     forecasts[list[CNFTL_WHY_WRITE] % 4]++;

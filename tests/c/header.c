@@ -114,8 +114,26 @@ static int marks_are(uint64_t r0v0, uint64_t r0v1, uint64_t r1v0,
     return 1;
 }
 
+/* Whether the spare bytes of both pages of a frame are those of a cluster, with
+   this stamp and virtual block. */
+static int frame_is(int block, int frame, uint8_t cluster, uint8_t stamp,
+                    uint8_t virtual_block)
+{
+    for (int place = 0; place < 2; place++) {
+        const uint8_t right[CNFTL_SPARE_BYTES] = {
+            cluster, 0, 0, 0, (uint8_t)place, 255, 0, stamp, 0, 0, 0,
+            virtual_block, 255, 255, 255, 255
+        };
+
+        if (memcmp(chip + block * 128 + (frame * 2 + place) * 32 + 16, right,
+                   sizeof right) != 0)
+            return 0;
+    }
+    return 1;
+}
+
 /* The session, its two reads, the marked cases (a) to (c), and a stamp for each
-   accepted write. */
+   accepted write, which a copy keeps. */
 static void check_session(void)
 {
     new_board();
@@ -126,9 +144,11 @@ static void check_session(void)
         if (i == 4)
             assert(marks_are(2, 3, 1, 0));
         if (i == 5)
-            assert(bt[0] == 3 && bst[0] == CNFTL_BLOCK_FREE);
+            assert(bt[0] == 3 && bst[0] == CNFTL_BLOCK_FREE
+                   && frame_is(3, 0, 2, 2, 0) && frame_is(3, 1, 2, 5, 0));
         if (i == 6)
-            assert(bt[0] == 4 && bst[3] == CNFTL_BLOCK_FREE);
+            assert(bt[0] == 4 && bst[3] == CNFTL_BLOCK_FREE
+                   && frame_is(4, 0, 2, 5, 0) && frame_is(4, 1, 0, 6, 0));
         if (i == 7)
             assert(sector_is(0, 0x12) && sector_is(1, 0x16));
         if (i == 8)
@@ -136,7 +156,8 @@ static void check_session(void)
     }
     assert(ct[0] == 1 && ct[2] == 0 && ct[4] == 2);
     assert(marks_are(3, 1, 1, 0));
-    assert(stamps[0] == 6 && stamps[1] == 1);
+    assert(stamps[0] == 6 && stamps[1] == 1 && frame_is(1, 0, 1, 1, 0)
+           && frame_is(2, 0, 4, 3, 1) && frame_is(2, 1, 0, 4, 1));
 }
 
 /* The marked cases (d) to (i); (f) with the mark on each page, of which the
@@ -399,6 +420,52 @@ static void check_stamps(void)
     assert(stamps[0] == 0 && stamps[1] == 0);
 }
 
+/* Whether every call that needs an orderly board is refused, and a why tells
+   this rule. */
+static int breaks(uint32_t rule)
+{
+    uint32_t list[CNFTL_WHY_ENTRIES];
+
+    return is(cnftl_board_read(&board, 0, 1, data, 16), CNFTL_NOT_ORDERLY, 0, 0)
+        && is(cnftl_board_write(&board, 0, 1, data, 16), CNFTL_NOT_ORDERLY,
+              0, 0)
+        && is(cnftl_board_release(&board, 0), CNFTL_NOT_ORDERLY, 0, 0)
+        && is(cnftl_board_why(&board, 0, list), CNFTL_NOT_ORDERLY, 0, 0)
+        && list[CNFTL_WHY_RULE] == rule;
+}
+
+/* The spare bytes from 7 on: each of them wrong breaks rule 7 on either page of
+   a frame, but for the stamp of a whole frame, which may be any up to the
+   region's last one; a larger one breaks rule 11, of a begun frame too. */
+static void check_spares(void)
+{
+    uint8_t *first = chip + 16, *second = first + 32;
+
+    new_board();
+    assert(is(cnftl_board_format(&board), CNFTL_ACCEPTED, 0, 5));
+    assert(is(cnftl_board_write(&board, 0, 1, data, 16), CNFTL_ACCEPTED, 2, 0));
+    for (int i = 7; i < 16; i++) {
+        first[i] ^= 1;
+        assert(breaks(CNFTL_RULE_USED_BLOCK));
+        first[i] ^= 1;
+        second[i] ^= 1;
+        assert(breaks(CNFTL_RULE_USED_BLOCK));
+        second[i] ^= 1;
+    }
+    first[7] = second[7] = 0;
+    assert(looks_are(0, 1));
+    first[7] = second[7] = 2;
+    assert(breaks(CNFTL_RULE_STAMPS));
+    marks[0] = 0;
+    assert(breaks(CNFTL_RULE_MARKS));
+    ct[0] = CNFTL_NONE;
+    memset(second - 16, 255, 32);
+    assert(breaks(CNFTL_RULE_STAMPS));
+    stamps[0] = 2;
+    assert(is(cnftl_board_write(&board, 0, 1, data, 16), CNFTL_ACCEPTED, 2, 0));
+    assert(frame_is(0, 1, 0, 3, 0));
+}
+
 /* The replies that the cases above do not give, through the long calls. */
 static void check_replies(void)
 {
@@ -444,7 +511,7 @@ static void check_texts(void)
         for (uint32_t j = 0; j <= i; j++)
             assert((strcmp(cnftl_reply_text(i), cnftl_reply_text(j)) == 0)
                    == (i == j));
-    for (uint32_t i = 0; i <= CNFTL_RULE_MARKS + 1; i++)
+    for (uint32_t i = 0; i <= CNFTL_RULE_STAMPS + 1; i++)
         for (uint32_t j = 0; j <= i; j++)
             assert((strcmp(cnftl_rule_text(i), cnftl_rule_text(j)) == 0)
                    == (i == j));
@@ -455,7 +522,7 @@ static void check_texts(void)
     assert(strcmp(cnftl_reply_text(UINT32_MAX), "unknown reply") == 0);
     assert(strcmp(cnftl_rule_text(CNFTL_RULE_TWICE),
                   "BT names a block twice") == 0);
-    assert(strcmp(cnftl_rule_text(11), "unknown rule") == 0);
+    assert(strcmp(cnftl_rule_text(12), "unknown rule") == 0);
     assert(strcmp(cnftl_rule_text(UINT32_MAX), "unknown rule") == 0);
 }
 
@@ -588,6 +655,7 @@ int main(void)
     check_looks();
     check_marks();
     check_stamps();
+    check_spares();
     check_wear();
     check_replies();
     printf("header: Board T answers as printed\n");

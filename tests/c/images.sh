@@ -40,12 +40,14 @@ each_fault() {
     "$1" board "$f/other" "not a board image"
     broken "$f/old" 8 '\001'
     head -c 3990 "$f/old" >"$f/older1"
-    "$1" board "$f/older1" "board image of version 1, which is older than 3: such a board is formatted anew"
+    "$1" board "$f/older1" "board image of version 1, which is older than 4: such a board is formatted anew"
     broken "$f/old" 8 '\002'
     head -c 4182 "$f/old" >"$f/older2"
-    "$1" board "$f/older2" "board image of version 2, which is older than 3: such a board is formatted anew"
-    broken "$f/newer" 8 '\004'
-    "$1" board "$f/newer" "board image of version 4, not 3"
+    "$1" board "$f/older2" "board image of version 2, which is older than 4: such a board is formatted anew"
+    broken "$f/older3" 8 '\003'
+    "$1" board "$f/older3" "board image of version 3, which is older than 4: such a board is formatted anew"
+    broken "$f/newer" 8 '\005'
+    "$1" board "$f/newer" "board image of version 5, not 4"
     broken "$f/regions" 28 '\000'
     "$1" board "$f/regions" "its parameters are not allowed"
 }

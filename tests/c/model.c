@@ -201,11 +201,28 @@ static uint32_t cluster_in(const uint8_t *spare)
          | (uint32_t)spare[3] << 24;
 }
 
-/* "4 the sector's place in its cluster; 5 always 255; 6 zero; 7 to 15 all
-   255." */
-static bool spare_right(const uint8_t *spare, uint32_t cluster, uint32_t place)
+/* T-07: "Spare bytes 7 to 10 take a stamp, .. low byte first" */
+static uint32_t stamp_in(const uint8_t *spare)
 {
-    if (cluster_in(spare) != cluster)
+    uint32_t stamp = 0;
+
+    for (int i = 0; i < 4; i++)
+        stamp |= (uint32_t)spare[7 + i]
+            << 8 * (MUTANT(STAMP_HIGH_FIRST) ? 3 - i : i);
+    return stamp;
+}
+
+/* What the spare bytes of all pages of a frame say alike. */
+struct label {
+    uint32_t cluster, stamp, virtual_block;
+};
+
+/* "4 the sector's place in its cluster; 5 always 255; 6 zero"; T-07: "7 to 10
+   take a stamp, .. and byte 11 the virtual block"; 12 to 15 stay 255. */
+static bool spare_right(const uint8_t *spare, const struct label *label,
+                        uint32_t place)
+{
+    if (cluster_in(spare) != label->cluster)
         return false;
     if (spare[4] != place && !MUTANT(PLACE_BYTE))
         return false;
@@ -213,7 +230,11 @@ static bool spare_right(const uint8_t *spare, uint32_t cluster, uint32_t place)
         return false;
     if (spare[6] != 0)
         return false;
-    for (int i = 7; i < SPARE && !MUTANT(TAIL_BYTES); i++)
+    if (stamp_in(spare) != label->stamp && !MUTANT(MIXED_STAMPS))
+        return false;
+    if (spare[11] != label->virtual_block && !MUTANT(VIRTUAL_BYTE))
+        return false;
+    for (int i = 12; i < SPARE && !MUTANT(TAIL_BYTES); i++)
         if (spare[i] != 255)
             return false;
     return true;
@@ -240,16 +261,21 @@ static bool frame_erased(const struct view *v, uint32_t block, uint32_t frame)
     return true;
 }
 
-/* "The alpha pages of a frame hold one cluster in order."  T-07: "A frame with
+/* "The alpha pages of a frame hold one cluster in order."  T-07: they have "a
+   stamp, one for all pages of a frame", and the virtual block; "A frame with
    only its first pages programmed counts as programmed"; its others are
    erased. */
-static bool frame_programmed(const struct view *v, uint32_t block,
-                             uint32_t frame)
+static bool frame_programmed(const struct view *v, uint32_t virtual_block,
+                             uint32_t block, uint32_t frame)
 {
-    uint32_t cluster = cluster_in(spare_at(v, block, frame, 0)), place = 0;
+    const uint8_t *first = spare_at(v, block, frame, 0);
+    struct label label = {
+        cluster_in(first), stamp_in(first), virtual_block
+    };
+    uint32_t place = 0;
 
     while (place < v->p.alpha
-           && spare_right(spare_at(v, block, frame, place), cluster, place))
+           && spare_right(spare_at(v, block, frame, place), &label, place))
         place++;
     if (place == 0)
         return false;
@@ -442,11 +468,13 @@ static bool free_blocks_erased(const struct view *v)
 
 /* A frame "with spare bytes as above and clusters below C of that region" */
 static bool frame_orderly(const struct view *v, uint32_t region,
-                          uint32_t block, uint32_t frame)
+                          uint32_t virtual_block, uint32_t frame)
 {
+    uint32_t block = block_of(v, region, virtual_block);
     uint32_t cluster = cluster_in(spare_at(v, block, frame, 0));
 
-    if (!frame_programmed(v, block, frame) || cluster >= v->p.c)
+    if (!frame_programmed(v, virtual_block, block, frame)
+        || cluster >= v->p.c)
         return false;
     if (MUTANT(CT_NONE_REFUSED) && v->ct[cluster] == NONE)
         return false;
@@ -456,11 +484,11 @@ static bool frame_orderly(const struct view *v, uint32_t region,
 /* "In a used block the first k frames are programmed, k from 1 to F, ... The
    rest is erased." */
 static bool used_block_orderly(const struct view *v, uint32_t region,
-                               uint32_t block)
+                               uint32_t virtual_block)
 {
-    uint32_t k = 0;
+    uint32_t block = block_of(v, region, virtual_block), k = 0;
 
-    while (k < v->p.f && frame_orderly(v, region, block, k))
+    while (k < v->p.f && frame_orderly(v, region, virtual_block, k))
         k++;
     if (k == 0 && !MUTANT(EMPTY_USED))
         return false;
@@ -473,12 +501,9 @@ static bool used_block_orderly(const struct view *v, uint32_t region,
 static bool used_blocks_orderly(const struct view *v)
 {
     for (uint32_t r = 0; r < v->p.mu; r++)
-        for (uint32_t i = 0; i < v->p.gamma; i++) {
-            uint32_t block = block_of(v, r, i);
-
-            if (block != NONE && !used_block_orderly(v, r, block))
+        for (uint32_t i = 0; i < v->p.gamma; i++)
+            if (block_of(v, r, i) != NONE && !used_block_orderly(v, r, i))
                 return false;
-        }
     return true;
 }
 
@@ -592,8 +617,38 @@ static bool marks_orderly(const struct view *v)
     return true;
 }
 
-/* The rules in the document's order, with T-06's last; each relies on those
-   before it. */
+/* Whether no page of a block has a stamp above the region's last. */
+static bool block_stamps_orderly(const struct view *v, uint32_t region,
+                                 uint32_t block)
+{
+    for (uint32_t page = 0; page < v->p.p; page++) {
+        uint32_t frame = page / v->p.alpha;
+        const uint8_t *spare = spare_at(v, block, frame, page % v->p.alpha);
+
+        if (spare[6] != 0
+            || (MUTANT(BEGUN_STAMPS) && !frame_whole(v, block, frame)))
+            continue;
+        if (stamp_in(spare) > v->stamps[region]
+            || (MUTANT(LAST_STAMP) && stamp_in(spare) == v->stamps[region]))
+            return false;
+    }
+    return true;
+}
+
+/* T-07: "no page of an orderly region has a larger one" than the region's last
+   stamp. */
+static bool stamps_orderly(const struct view *v)
+{
+    for (uint32_t r = 0; r < v->p.mu && !MUTANT(STAMPS_UNCHECKED); r++)
+        for (uint32_t i = 0; i < v->p.gamma; i++)
+            if (block_of(v, r, i) != NONE
+                && !block_stamps_orderly(v, r, block_of(v, r, i)))
+                return false;
+    return true;
+}
+
+/* The rules in the document's order, with T-06's and T-07's last; each relies
+   on those before it. */
 static bool (*const rules[])(const struct view *) = {
     bst_entries_orderly,
     bt_entries_orderly,
@@ -604,7 +659,8 @@ static bool (*const rules[])(const struct view *) = {
     used_blocks_orderly,
     fst_entries_orderly,
     ct_entries_orderly,
-    marks_orderly
+    marks_orderly,
+    stamps_orderly
 };
 
 enum { RULES = sizeof rules / sizeof *rules };
@@ -632,18 +688,33 @@ struct spot {
     uint32_t virtual_block, block, frame;
 };
 
-/* Programs one page: "Each page that the steps program is 255 throughout just
-   before". */
-static void program_page(struct lent *l, const struct spot *at, uint32_t place,
-                         uint32_t cluster, const uint8_t *bytes)
+/* Puts a stamp into spare bytes, "low byte first". */
+static void put_stamp(uint8_t *spare, uint32_t stamp)
 {
-    const struct params *p = &l->v.p;
-    uint8_t *page = l->chip + page_at(p, at->block, at->frame, place);
-    uint8_t *spare = page + p->s;
+    for (int i = 0; i < 4; i++)
+        spare[7 + i] =
+            (uint8_t)(stamp >> 8 * (MUTANT(STAMP_HIGH_FIRST) ? 3 - i : i));
+}
 
+/* A page to be programmed: "Each page that the steps program is 255 throughout
+   just before". */
+static uint8_t *page_to_program(struct lent *l, const struct spot *at,
+                                uint32_t place)
+{
     assert(model_mutant != MODEL_RIGHT
            || page_erased(&l->v, at->block, at->frame, place));
-    memcpy(page, bytes, p->s);
+    return l->chip + page_at(&l->v.p, at->block, at->frame, place);
+}
+
+/* Programs one page. */
+static void program_page(struct lent *l, const struct spot *at, uint32_t place,
+                         const struct label *label, const uint8_t *bytes)
+{
+    uint8_t *page = page_to_program(l, at, place);
+    uint8_t *spare = page + l->v.p.s;
+    uint32_t cluster = label->cluster;
+
+    memcpy(page, bytes, l->v.p.s);
     spare[0] = (uint8_t)cluster;
     spare[1] = (uint8_t)(MUTANT(CLUSTER_8_BITS) ? 0 : cluster >> 8);
     spare[2] = (uint8_t)(MUTANT(CLUSTER_8_BITS) || MUTANT(CLUSTER_16_BITS)
@@ -653,15 +724,17 @@ static void program_page(struct lent *l, const struct spot *at, uint32_t place,
     spare[4] = (uint8_t)(MUTANT(SPARE_PLACE_0) ? 0 : place);
     spare[5] = 255;
     spare[6] = 0;
-    memset(spare + 7, 255, SPARE - 7);
+    put_stamp(spare, label->stamp);
+    spare[11] = (uint8_t)label->virtual_block;
+    memset(spare + 12, 255, SPARE - 12);
 }
 
 /* Programs the alpha pages of a frame with one cluster in order. */
 static void program_frame(struct lent *l, const struct spot *at,
-                          uint32_t cluster, const uint8_t *bytes)
+                          const struct label *label, const uint8_t *bytes)
 {
     for (uint32_t place = 0; place < l->v.p.alpha; place++)
-        program_page(l, at, place, cluster, bytes + place * l->v.p.s);
+        program_page(l, at, place, label, bytes + place * l->v.p.s);
 }
 
 /* Gathers the data bytes of a frame. */
@@ -944,20 +1017,40 @@ static bool no_stamp_left(const struct view *v, uint32_t cluster)
         >= UINT32_MAX - MUTANT(STAMP_EARLY);
 }
 
-/* "A host write takes the next": one more than the region's last stamp. */
+/* The stamp that a write of a cluster takes: one more than the last one of its
+   region. */
+static uint32_t next_stamp(const struct view *v, uint32_t cluster)
+{
+    return v->stamps[stamp_index(&v->p, cluster)] + 1;
+}
+
+/* "A host write takes the next" */
 static void take_stamp(const struct lent *l, uint32_t cluster)
 {
-    l->stamps[stamp_index(&l->v.p, cluster)]++;
+    l->stamps[stamp_index(&l->v.p, cluster)] = next_stamp(&l->v, cluster);
+}
+
+/* Copies one page of the victim as it is; T-07: "copies keep theirs", their
+   stamps, and the virtual block is the same. */
+static void copy_page(struct lent *l, uint32_t cluster,
+                      const struct spot *from, const struct spot *to,
+                      uint32_t place)
+{
+    const struct params *p = &l->v.p;
+    uint8_t *page = page_to_program(l, to, place);
+
+    memmove(page, l->chip + page_at(p, from->block, from->frame, place),
+            page_bytes(p));
+    if (MUTANT(COPY_STAMP))
+        put_stamp(page + p->s, next_stamp(&l->v, cluster));
 }
 
 /* Copies one frame of the victim and "CT follows each". */
 static void copy_frame(struct lent *l, uint32_t cluster,
                        const struct spot *from, const struct spot *to)
 {
-    uint8_t bytes[16 * 512];
-
-    load_frame(&l->v, from, bytes);
-    program_frame(l, to, cluster, bytes);
+    for (uint32_t place = 0; place < l->v.p.alpha; place++)
+        copy_page(l, cluster, from, to, place);
     if (!MUTANT(CT_NOT_FOLLOWING))
         l->ct[cluster] =
             (uint16_t)segment_of(&l->v.p, to->virtual_block, to->frame);
@@ -1104,6 +1197,24 @@ static uint32_t looks_of_write(const struct view *v, uint32_t cluster,
     return work->looks + (MUTANT(LOOKS_COPIES) ? work->copied : 0);
 }
 
+/* What a write puts into the spare bytes of its frame, but for the virtual
+   block: that is the one that it writes to, once it has its frame. */
+static struct label label_of_write(const struct view *v, uint32_t cluster,
+                                   const struct spot *old)
+{
+    struct label label = { cluster, next_stamp(v, cluster), NONE };
+
+    if (MUTANT(STAMP_BEFORE))
+        label.stamp--;
+    if (MUTANT(STAMP_255))
+        label.stamp = UINT32_MAX;
+    if (MUTANT(OLD_STAMP) && old->found)
+        label.stamp = stamp_in(spare_at(v, old->block, old->frame, 0));
+    if (MUTANT(OLD_VIRTUAL) && old->found)
+        label.virtual_block = old->virtual_block;
+    return label;
+}
+
 /* Write. "The new cluster is the old one ... with the given sectors replaced.
    ... Then CT and FST name the segment just written."  T-08 counts the looks
    "for the host's own cluster in the state at entry, not for copies". */
@@ -1114,6 +1225,7 @@ static struct work write_steps(struct lent *l, uint32_t lba, uint32_t count,
     uint32_t cluster = cluster_of(p, lba);
     struct spot old = valid_frame(&l->v, cluster), at;
     struct work work = { 0, 0, looks_for(&l->v, cluster) };
+    struct label label = label_of_write(&l->v, cluster, &old);
     uint8_t bytes[16 * 512];
     uint32_t segment;
 
@@ -1123,7 +1235,9 @@ static struct work write_steps(struct lent *l, uint32_t lba, uint32_t count,
     if (MUTANT(OLD_AFTER_ERASE))
         load_old(&l->v, &old, bytes);
     memcpy(bytes + lba % p->alpha * p->s, data, (size_t)count * p->s);
-    program_frame(l, &at, cluster, bytes);
+    if (label.virtual_block == NONE)
+        label.virtual_block = at.virtual_block;
+    program_frame(l, &at, &label, bytes);
     segment = MUTANT(CT_FRAME) ? at.virtual_block * p->f + at.frame
                                : segment_of(p, at.virtual_block, at.frame);
     l->ct[cluster] = (uint16_t)segment;
@@ -1614,7 +1728,8 @@ static uint32_t refuse_why(const struct view *v, uint32_t lba,
     return orderly(v) ? ACCEPTED : NOT_ORDERLY;
 }
 
-/* "with 7 the first orderly rule broken, in 01's order", T-06's after them */
+/* "with 7 the first orderly rule broken, in 01's order", T-06's and T-07's
+   after them */
 static uint32_t told_rule(const struct view *v)
 {
     uint32_t rule = broken_rule(v);
@@ -1623,6 +1738,8 @@ static uint32_t told_rule(const struct view *v)
         return 5;
     if (MUTANT(WHY_MARKS_FIRST) && rule == 9 && !marks_orderly(v))
         return 10;
+    if (MUTANT(WHY_STAMPS_FIRST) && rule == 10 && !stamps_orderly(v))
+        return 11;
     return rule;
 }
 

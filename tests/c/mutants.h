@@ -47,7 +47,9 @@
     X(BEGUN_REFUSED, "orderly: a frame that is only begun refused")            \
     X(PLACE_BYTE, "orderly: spare byte 4 not checked")                         \
     X(MARK_BYTE, "orderly: spare byte 5 not checked")                          \
-    X(TAIL_BYTES, "orderly: spare bytes 7 to 15 not checked")                  \
+    X(VIRTUAL_BYTE, "orderly: spare byte 11 not checked")                      \
+    X(MIXED_STAMPS, "orderly: pages of a frame with other stamps accepted")    \
+    X(TAIL_BYTES, "orderly: spare bytes 12 to 15 not checked")                 \
     X(OTHER_REGION, "orderly: a cluster of another region accepted")           \
     X(FST_NONE, "orderly: FST none in a region with blocks accepted")          \
     X(FST_OFF_BY_ONE, "orderly: FST one segment off accepted")                 \
@@ -57,6 +59,9 @@
     X(MARKS_UNCHECKED, "orderly: a wrong mark accepted")                       \
     X(MARKS_FROM_F, "orderly: a mark from F up accepted")                      \
     X(MARKS_UNASSIGNED, "orderly: a mark without a physical block accepted")   \
+    X(STAMPS_UNCHECKED, "orderly: a stamp above the region's last accepted")   \
+    X(LAST_STAMP, "orderly: a page with the region's last stamp refused")      \
+    X(BEGUN_STAMPS, "orderly: stamps of frames only begun not looked at")      \
     /* format */                                                               \
     X(FORMAT_NO_ERASES, "format: its erases are not counted")                  \
     X(FORMAT_COUNTS_BAD, "format: an erase counted for bad blocks too")        \
@@ -125,9 +130,16 @@
     X(STAMP_REFUSED, "stamps: a write refused with 5 or 7 takes one")          \
     X(RELEASE_TAKES_STAMP, "stamps: a release takes one")                      \
     X(FORMAT_KEEPS_STAMPS, "stamps: a format leaves them")                     \
+    X(STAMP_HIGH_FIRST, "stamps: the high byte first on a page")               \
+    X(STAMP_255, "stamps: not written, 255 throughout on a page")              \
+    X(STAMP_BEFORE, "stamps: a write's pages get the one before")              \
+    X(OLD_STAMP, "stamps: that of the cluster's old frame kept by a write")    \
+    X(OLD_VIRTUAL, "stamps: spare byte 11 of the old virtual block kept")      \
+    X(COPY_STAMP, "stamps: a copy gets that of the write")                     \
     /* why */                                                                  \
     X(WHY_RULE_ORDER, "why: too few blocks told before used if named")         \
     X(WHY_MARKS_FIRST, "why: a wrong mark told before a wrong CT entry")       \
+    X(WHY_STAMPS_FIRST, "why: a wrong stamp told before a wrong mark")         \
     X(WHY_STALE, "why: the first frame of the cluster, not the last")          \
     X(WHY_VICTIM_TIE, "why: the highest victim on a tie")                      \
     X(WHY_OPENS, "why: opens told where the open block has room")              \

@@ -17,16 +17,16 @@ use Rattle.rules.specs.Numbers.{clusterOf, regionOf, sectorOf}
 use Rattle.rules.specs.Regions.{looksAt, view}
 use Rattle.rules.specs.Replies.{accessRows, badCount, badParameter, firstRow, isAccepted, lentRows, notOrderly, numberOf, orderRow, replyOf, rowsOf, whyReply, wrongData, wrongLength}
 use Rattle.rules.specs.Requests.{Request, read}
-use Rattle.rules.specs.Tables.{Board, btAt, ctAt, none, stampAt}
+use Rattle.rules.specs.Tables.{Board, btAt, ctAt, none, stampAt, marksLength}
 use Rattle.rules.specs.Write.{planOf, planVBlock, reclaims}
 use Rattle.rules.proofs.Admitted.{Admitted, admitted, read-checks}
 use Rattle.rules.proofs.Continues.{Makes}
 use Rattle.rules.proofs.RegionFacts.{neat}
 use Rattle.rules.proofs.Sizes.{sizes}
-use Rattle.rules.proofs.TableFacts.{marks-in}
+use Rattle.rules.proofs.TableFacts.{marks-in, lengths-in as tables-in}
 use Rattle.rules.proofs.WritePromise.{makes}
 use Rattle.check_rules.specs.Check.{Lengths}
-use Rattle.check_rules.proofs.Agree.{lengths-in}
+use Rattle.check_rules.proofs.Agree.{lengths-in, marks-fit}
 use Rattle.check_broken.specs.declared.Rule.{Rule}
 use Rattle.check_broken.specs.Broken.{brokenRule, ruleNumber}
 use Rattle.read_work.specs.Lookup.{Looked, Lookup, Stands, Within, blockFor, lastFor}
@@ -42,8 +42,10 @@ use Rattle.call_why.proofs.Small.{found-small}
 
 module _ (p : Params) (b : Board) (lba : ℕ) (r : Reply) (e : r ≡ whyReply p b lba) (n : ℕ) (m : n ≡ numberOf r) where
   -- 7: the parameters and the lengths passed
-  pub lengths-at : n ≡ 7 → Lengths p (b .chip) (b .ct) (b .bt) (b .fst) (b .bst)
-  lengths-at z = let w = disorder p b lba (sym (ap numberOf e) ∙ sym m ∙ z) in lengths-in p b (w .fine) (w .fits)
+  pub lengths-at : n ≡ 7 → Lengths p (b .chip) (b .ct) (b .bt) (b .fst) (b .bst) × ((length (b .marks) ≡ marksLength p) × (length (b .stamps) ≡ p .mu))
+  lengths-at z =
+      let w = disorder p b lba (sym (ap numberOf e) ∙ sym m ∙ z) in
+      (lengths-in p b (w .fine) (w .fits), (marks-fit p b (w .fits), (tables-in p b (w .fits)) .stampsLength))
 
   pub why-7 : n ≡ 7 → (k : Rule) → k ≡ brokenRule p b → 7 ∷ ruleNumber k ∷ replicate 11 0 ≡ whyOf p b lba
   unfolding whyOf isAccepted

@@ -10,7 +10,7 @@ use Rattle.rules.specs.declared.Params.{Params}
 use Rattle.rules.specs.Numbers.{clusterOf, placeOf, regionOf, vblockOf}
 use Rattle.rules.specs.Pages.{block, lastIn}
 use Rattle.rules.specs.Regions.{View, looksAt, validFrames, view}
-use Rattle.rules.specs.Replies.{isAccepted, numberOf, whyReply}
+use Rattle.rules.specs.Replies.{isAccepted, noStampLeft, numberOf, whyReply}
 use Rattle.rules.specs.Tables.{Board, btAt, ctAt, none, stampAt}
 use Rattle.rules.specs.Write.{Plan, continues, opens, planOf, reclaims}
 use Rattle.check_broken.specs.Broken.{brokenRule, ruleNumber}
@@ -62,7 +62,7 @@ planNumbers p vw (reclaims v) = 3 ∷ v ∷ length (validFrames p vw v) ∷ leng
 
 -- "T-05's forecast gives 9 .. too": by the region's last stamp and its view
 unfoldable pub forecastIn : Params → ℕ → View → List ℕ
-forecastIn p t vw = cond (leb 4294967295 t) (9 ∷ 0 ∷ 0 ∷ 0 ∷ []) (planNumbers p vw (planOf p vw))
+forecastIn p t vw = cond (noStampLeft t) (9 ∷ 0 ∷ 0 ∷ 0 ∷ []) (planNumbers p vw (planOf p vw))
 
 unfoldable pub forecastOf : Params → Board → ℕ → List ℕ
 forecastOf p b c = forecastIn p (stampAt (b .stamps) (regionOf p c)) (view p b (regionOf p c))

@@ -120,7 +120,7 @@ pub fn explain(
     let reply = replies::why_reply(p, chip, ct, bt, fst, bst, wear, marks, stamps, lba);
     let n = rules::number(reply);
     if n == 7 {
-        return Why::Disordered(check_broken::broken_rule(p, chip, ct, bt, fst, bst));
+        return Why::Disordered(check_broken::broken_rule(p, chip, ct, bt, fst, bst, marks, stamps));
     }
     if n != 0 {
         return Why::Refused(reply);

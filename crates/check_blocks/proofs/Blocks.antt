@@ -2,7 +2,7 @@
 -- Assumes nothing.
 use mathlib.Core.Path.{refl, _∙_, _≡_}
 use mathlib.Core.Logic.{inl, inr, _⊎_}
-use mathlib.Core.Bool.{_&&_, cond, false, not, true, _||_}
+use mathlib.Core.Bool.{_&&_, Bool, cond, false, not, true, _||_}
 use mathlib.Core.List.{List}
 use Prim.Native.Nat.{_*_, _+_, _/_, _<_, ℕ}
 use native.Mathlib.Nat.{div-lt-iff-lt-mul}
@@ -11,7 +11,7 @@ use lib.Dec.{eqb, ltb}
 use borrow.Author.Tests.{eqb-true, ltb-true, ne-eqb}
 use Rattle.lists.proofs.Tests.{all-at, or-cases, so}
 use Rattle.rules.specs.declared.Params.{Params}
-use Rattle.rules.specs.Orderly.{blockRule, btRule}
+use Rattle.rules.specs.Orderly.{blockRule, btRule, stampsTo}
 use Rattle.rules.specs.Pages.{block, filled}
 use Rattle.rules.specs.Parameters.{frames}
 use Rattle.rules.specs.Tables.{Board, bstAt, btAt, btEntry, none}
@@ -55,9 +55,27 @@ frames-some p z chip bt bst r v = go (so (eqb n none)) (so (differs p bt r v)) (
     n = btAt p bt r v
 
     go : (eqb n none ≡ true) ⊎ (eqb n none ≡ false) → (differs p bt r v ≡ true) ⊎ (differs p bt r v ≡ false) → (eqb (bstAt bst n) 1 ≡ true) ⊎ (eqb (bstAt bst n) 1 ≡ false)
-        → not (eqb (cond (cond (eqb n none) true (differs p bt r v && (eqb (bstAt bst n) 1 && blockRule p r (block p chip n)))) (cond (eqb n none) (frames p) (filled p (block p chip n))) 0) 0)
-        ≡ cond (eqb n none) true (differs p bt r v && (eqb (bstAt bst n) 1 && blockRule p r (block p chip n)))
+        → not (eqb (cond (cond (eqb n none) true (differs p bt r v && (eqb (bstAt bst n) 1 && blockRule p r v (block p chip n)))) (cond (eqb n none) (frames p) (filled p (block p chip n))) 0) 0)
+        ≡ cond (eqb n none) true (differs p bt r v && (eqb (bstAt bst n) 1 && blockRule p r v (block p chip n)))
     go (inl x) d u = rw (x, ne-eqb (frames p) 0 (λ e. omega (arith, z .some, e)))
     go (inr x) (inr d) u = rw (x, d)
     go (inr x) (inl d) (inr u) = rw (x, d, u)
-    go (inr x) (inl d) (inl u) = rw (x, d, u) (used-some p r (block p chip n))
+    go (inr x) (inl d) (inl u) = rw (x, d, u) (used-some p r v (block p chip n))
+
+-- where nothing is counted the stamps do not matter; both tests of a block at once, and one after the other
+pub none-counted : (p : Params) (last : ℕ) (blk : List ℕ) → _≡_ {A = ℕ} 0 (cond (stampsTo p last blk) 0 0)
+none-counted p last blk = go (stampsTo p last blk)
+  where
+    go : (t : Bool) → _≡_ {A = ℕ} 0 (cond t 0 0)
+    go true = refl
+    go false = refl
+
+pub both-counted : (p : Params) (r v last : ℕ) (blk : List ℕ)
+    → cond (blockRule p r v blk && stampsTo p last blk) (filled p blk) 0 ≡ cond (stampsTo p last blk) (cond (blockRule p r v blk) (filled p blk) 0) 0
+both-counted p r v last blk = go (blockRule p r v blk) (stampsTo p last blk)
+  where
+    go : (a t : Bool) → cond (a && t) (filled p blk) 0 ≡ cond t (cond a (filled p blk) 0) 0
+    go true true = refl
+    go true false = refl
+    go false true = refl
+    go false false = refl

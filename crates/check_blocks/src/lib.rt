@@ -9,7 +9,7 @@ ghost use Rattle.rules.specs.Parameters.{allowed, chipBytes};
 ghost use Rattle.rules.specs.Tables.{bstAt};
 ghost use Rattle.rules.specs.Pages.{block, erased};
 ghost use Rattle.rules.specs.Orderly.{freeRule};
-ghost use Rattle.check_rules.specs.Check.{Lent, vblockFrames, tablesOk};
+ghost use Rattle.check_rules.specs.Check.{Lent, vblockFramesTo, tablesOk};
 use rules::Cluster;
 use rules::PBlock;
 use rules::Params;
@@ -48,14 +48,22 @@ pub fn frees_ok(p: Params, chip: &[u8], bst: &[u8]) -> bool
     true
 }
 
-// How many frames of virtual block v of region r are programmed, if its block is named once there, is used, and is a block of that region.
+// How many frames of virtual block v of region r are programmed, if its block is named once there, is used, and is a block of that region with stamps up to `last`.
 // All F if it has no block; 0 if its block is not so.
-pub fn vblock_frames(p: Params, chip: &[u8], bt: &[u16], bst: &[u8], r: usize, v: VBlock) -> usize
+pub fn vblock_frames(
+    p: Params,
+    chip: &[u8],
+    bt: &[u16],
+    bst: &[u8],
+    last: u32,
+    r: usize,
+    v: VBlock,
+) -> usize
     requires { ⌜ Lent p (now chip) (now bt) ⌝ }
     requires { ⌜ length (now bst) ≡ p .N ⌝ }
     requires { ⌜ r < p .mu ⌝ }
     requires { ⌜ v .0 < p .gamma ⌝ }
-    ensures { λ k. ⌜ k ≡ vblockFrames p (now (chip .entry)) (now (bt .entry)) (now (bst .entry)) r (v .0) ⌝ }
+    ensures { λ k. ⌜ k ≡ vblockFramesTo p (now (chip .entry)) (now (bt .entry)) (now (bst .entry)) last r (v .0) ⌝ }
 {
     let n = chip_tables::bt_at(p, bt, r, v);
     if n.0 == rules::NONE {
@@ -67,7 +75,7 @@ pub fn vblock_frames(p: Params, chip: &[u8], bt: &[u16], bst: &[u8], r: usize, v
     if chip_tables::bst_at(bst, n) != rules::USED {
         return 0;
     }
-    chip_blocks::used_frames(p, r, chip_blocks::block_of(p, chip, n))
+    chip_blocks::used_frames(p, r, v, last, chip_blocks::block_of(p, chip, n))
 }
 
 // The rules of the tables that look at no byte of the chip, and as many blocks used as named.

@@ -25,23 +25,23 @@ use Rattle.check_marks.specs.Shown.{CheckAsked, Mine}
 use Rattle.check_board.specs.Order.{BlocksAsked}
 
 -- a programmed frame of a block of region r is a good one
-pub good : (p : Params) (r : ℕ) (blk : List ℕ) → blockRule p r blk ≡ true → (f : ℕ) → f < frames p → programmed p (frame p blk f) ≡ true → GoodFrame p r (frame p blk f)
+pub good : (p : Params) (r v : ℕ) (blk : List ℕ) → blockRule p r v blk ≡ true → (f : ℕ) → f < frames p → programmed p (frame p blk f) ≡ true → GoodFrame p r v (frame p blk f)
 unfolding blockRule
-good p r blk h f low e = go (decLt f (filled p blk)) (up-to p r (filled p blk) blk (and-right (ltb 0 (filled p blk)) h))
+good p r v blk h f low e = go (decLt f (filled p blk)) (up-to p r v (filled p blk) blk (and-right (ltb 0 (filled p blk)) h))
   where
-    go : Dec (f < filled p blk) → UpTo p r (filled p blk) blk → GoodFrame p r (frame p blk f)
+    go : Dec (f < filled p blk) → UpTo p r v (filled p blk) blk → GoodFrame p r v (frame p blk f)
     go (yes a) u = u .front f a low
     go (no a) u = absurd (never e (erased-not p (frame p blk f) (u .rest f (omega arith) low)))
 
 -- and so is a whole one
-whole-good : (p : Params) (r : ℕ) (blk : List ℕ) → blockRule p r blk ≡ true → (f : ℕ) → f < frames p → whole p (frame p blk f) ≡ true → GoodFrame p r (frame p blk f)
+whole-good : (p : Params) (r v : ℕ) (blk : List ℕ) → blockRule p r v blk ≡ true → (f : ℕ) → f < frames p → whole p (frame p blk f) ≡ true → GoodFrame p r v (frame p blk f)
 unfolding blockRule
-whole-good p r blk h f low e =
-    let u = up-to p r (filled p blk) blk (and-right (ltb 0 (filled p blk)) h) in
-    u .front f (whole-front p r (filled p blk) blk u f low e) low
+whole-good p r v blk h f low e =
+    let u = up-to p r v (filled p blk) blk (and-right (ltb 0 (filled p blk)) h) in
+    u .front f (whole-front p r v (filled p blk) blk u f low e) low
 
 module _ (p : Params) (chip bt bst : List ℕ) (r v : ℕ) (ok : vblockOk p chip bt bst r v ≡ true) where
-  pub rule-of-block : (btAt p bt r v ≡ none → ⊥) → blockRule p r (block p chip (btAt p bt r v)) ≡ true
+  pub rule-of-block : (btAt p bt r v ≡ none → ⊥) → blockRule p r v (block p chip (btAt p bt r v)) ≡ true
   unfolding vblockOk
   rule-of-block ne =
       and-right (eqb (bstAt bst (btAt p bt r v)) 1) (and-right (differs p bt r v) (rw (ne-eqb (btAt p bt r v) none ne) at ok))
@@ -62,7 +62,7 @@ module _ (p : Params) (chip bt bst : List ℕ) (r v : ℕ) (ok : vblockOk p chip
       mine : (btAt p bt r v ≡ none → ⊥) → Mine p r (block p chip (btAt p bt r v))
       mine ne =
           record {
-            low = λ f h e. (whole-good p r (block p chip (btAt p bt r v)) (rule-of-block ne) f h e) .low;
-            region = λ f h e. (whole-good p r (block p chip (btAt p bt r v)) (rule-of-block ne) f h e) .mine;
-            kept = λ f h e. let g = whole-good p r (block p chip (btAt p bt r v)) (rule-of-block ne) f h e in (g .on, good-holds p (sizes p (a .lent .fine)) r _ g e);
+            low = λ f h e. (whole-good p r v (block p chip (btAt p bt r v)) (rule-of-block ne) f h e) .low;
+            region = λ f h e. (whole-good p r v (block p chip (btAt p bt r v)) (rule-of-block ne) f h e) .mine;
+            kept = λ f h e. let g = whole-good p r v (block p chip (btAt p bt r v)) (rule-of-block ne) f h e in (g .on, good-holds p (sizes p (a .lent .fine)) r v _ g e);
           }

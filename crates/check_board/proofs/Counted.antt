@@ -1,9 +1,9 @@
--- The check says exactly that the state is orderly, each mark included. Where there are as many marks as CT entries, each entry is met
+-- The check says exactly that the first ten rules hold, that of the marks included. Where there are as many marks as CT entries, each entry is met
 -- by the cluster of a marked frame, so its segment holds it; and a valid frame has the cluster of one of these, so it is that one.
 -- Assumes nothing.
 use mathlib.Core.Path.{_≡_, ap, ap₂, refl, sym, _∙_}
 use mathlib.Core.Logic.{_⊎_, inl, inr}
-use mathlib.Core.Bool.{_&&_, Bool, cond, false, not, true}
+use mathlib.Core.Bool.{_&&_, Bool, and-assoc, and-true, cond, false, not, true}
 use mathlib.Core.List.{List}
 use Prim.Native.Nat.{ℕ, _*_, _^_, _<_, _≤_}
 use native.Mathlib.Decide.{ℕ-discrete}
@@ -12,22 +12,23 @@ use native.Mathlib.Omega.{arith}
 use lib.Dec.{eqb}
 use lib.ListN.{length}
 use borrow.Author.Tests.{eq-eqb, eqb-true, ne-eqb, not-true}
-use Rattle.lists.specs.Below.{allBelow, countBelow}
+use Rattle.lists.specs.Below.{allBelow, allTrue, countBelow}
 use Rattle.lists.proofs.Counts.{each-met}
 use Rattle.lists.proofs.Ranks.{fewer}
 use Rattle.lists.proofs.Tests.{all-at, all-below-intro, and-intro, and-left, and-right, never, so}
 use Rattle.rules.specs.declared.Params.{Params}
 use Rattle.rules.specs.Numbers.{regionOf}
-use Rattle.rules.specs.Orderly.{blockRule, bstRule, btRule, freeRule, orderly}
+use Rattle.rules.specs.Orderly.{blockRule, bstRule, btRule, freeRule, marksRule, rulesOf}
 use Rattle.rules.specs.Pages.{block}
 use Rattle.rules.specs.Parameters.{frames}
 use Rattle.rules.specs.Regions.{view, viewOf}
 use Rattle.rules.specs.Tables.{Board, boardOf, btAt, ctAt, fstAt, none, marksLength, wordAt}
-use Rattle.rules.proofs.Admitted.{orderly-region}
+use Rattle.rules.proofs.Admitted.{nine-region}
+use Rattle.rules.proofs.TableFacts.{nineRules}
 use Rattle.rules.proofs.RegionFacts.{Entry, Neat, neat}
 use Rattle.rules.proofs.Sizes.{Sizes, sizes}
-use Rattle.check_rules.specs.Check.{Lengths, Lent, chipOk, clusterOk, clustersOk, fstOk, nineRules, regionOk, tablesOk, vblockFrames, vblockOk}
-use Rattle.check_rules.proofs.Agree.{check-agrees, orderly-is, same-truth}
+use Rattle.check_rules.specs.Check.{Lengths, Lent, chipOk, clusterOk, clustersOk, fstOk, regionOk, tablesOk, vblockFrames, vblockOk}
+use Rattle.check_rules.proofs.Agree.{check-agrees, same-truth}
 use Rattle.check_rules.proofs.Same.{Names}
 use Rattle.check_blocks.proofs.Blocks.{names-in}
 use Rattle.marks.specs.Marks.{markIn}
@@ -35,11 +36,16 @@ use Rattle.rules.specs.Marks.{marked, marksOf}
 use Rattle.rules.proofs.MarkFacts.{right, rule-of}
 use Rattle.marks.proofs.Tables.{mark-at, marks-are}
 use Rattle.check_marks.specs.Shown.{marksValid}
-use Rattle.check_board.specs.Order.{bitAt, blockHeld, countsOk, entryOk, framesOk, named, orderOk, regionHeld}
+use Rattle.check_board.specs.Order.{bitAt, blockHeld, countsOk, entryOk, framesOk, named, orderOk, regionHeld, tenRules}
 use Rattle.check_board.proofs.Blocks.{rule-of-block}
 use Rattle.check_board.proofs.Places.{bit-frame, bit-here, bit-in, bit-is, bit-mark, bit-region, bit-vblock, bitOf, frameAt, marks-in, marks-out, region-in, regionAt, vblock-in, vblockAt}
 use Rattle.check_board.proofs.Open.{frames-block, frames-of-rule, rule-of-frames}
 use Rattle.check_board.proofs.Held.{Held, clusterIn, entry-held, frameNamed, held-named, held-ok, held-one, marked-held, vblockNamed}
+
+-- the nine rules of document 01, and that of the marks
+pub ten-is : (p : Params) (b : Board) → tenRules p b ≡ nineRules p b && marksRule p b
+unfolding tenRules nineRules rulesOf allTrue
+ten-is p b = simp (and-assoc, and-true)
 
 -- BT's entries, where the tables' rules hold
 pub lent-in : (p : Params) (chip ct bt fst bst : List ℕ) → Lengths p chip ct bt fst bst → tablesOk p bt bst ≡ true → Lent p chip bt
@@ -55,7 +61,7 @@ module _ (p : Params) (b : Board) (l : Lengths p (b .chip) (b .ct) (b .bt) (b .f
   ns : Names p b
   ns = names-in p b (lent-in p (b .chip) (b .ct) (b .bt) (b .fst) (b .bst) l k)
 
-  rule : (r v : ℕ) → r < p .mu → v < p .gamma → (btAt p (b .bt) r v ≡ none → ⊥) → blockRule p r (block p (b .chip) (btAt p (b .bt) r v)) ≡ true
+  rule : (r v : ℕ) → r < p .mu → v < p .gamma → (btAt p (b .bt) r v ≡ none → ⊥) → blockRule p r v (block p (b .chip) (btAt p (b .bt) r v)) ≡ true
   rule r v hr hv = rule-of-block p (b .chip) (b .bt) (b .bst) r v (blocks r v hr hv)
 
   -- how many bits the table has; bit j as the validity rule has it, and the cluster of its frame
@@ -136,10 +142,10 @@ module _ (p : Params) (b : Board) (l : Lengths p (b .chip) (b .ct) (b .bt) (b .f
     marks-right : ((k : ℕ) → k < marksLength p → wordAt (b .marks) k < 2 ^ 64) → b .marks ≡ marksOf p b
     marks-right small = marks-are p b (b .marks) long small mark-same
 
-  -- ---- the state is orderly, each mark included
-  module _ (o : orderly p b ≡ true) where
+  -- ---- the ten rules hold
+  module _ (o : tenRules p b ≡ true) where
     mark-is : (r v f : ℕ) → r < p .mu → v < p .gamma → f < 256 → markIn p (b .marks) r v f ≡ marked p (view p b r) v f
-    mark-is r v f hr hv hf = rw (right p b long (and-right (nineRules p b) (sym (orderly-is p b) ∙ o))) (mark-at p b r v f hr hv hf)
+    mark-is r v f hr hv hf = rw (right p b long (and-right (nineRules p b) (sym (ten-is p b) ∙ o))) (mark-at p b r v f hr hv hf)
 
     bit-of-mark : (j : ℕ) → j < bits → bitAt (b .marks) j ≡ markedAt j
     bit-of-mark j h =
@@ -154,7 +160,7 @@ module _ (p : Params) (b : Board) (l : Lengths p (b .chip) (b .ct) (b .bt) (b .f
     entry-of c low e = go (nt .entries c low)
       where
         nt : Neat p (regionOf p c) (view p b (regionOf p c))
-        nt = neat p (regionOf p c) (view p b (regionOf p c)) (orderly-region p b o (regionOf p c) (mod-lt c (z .regions)))
+        nt = neat p (regionOf p c) (view p b (regionOf p c)) (nine-region p b (and-left (nineRules p b) _ (sym (ten-is p b) ∙ o)) (regionOf p c) (mod-lt c (z .regions)))
 
         go : ((view p b (regionOf p c)) .segOf c ≡ none) ⊎ Entry p (view p b (regionOf p c)) c → Entry p (view p b (regionOf p c)) c
         go (inl q) =
@@ -205,10 +211,10 @@ module _ (p : Params) (chip ct bt fst bst marks : List ℕ) (l : Lengths p chip 
   unfolding countsOk
   counts-are = rw (l .ctLength, long)
 
-  passes : orderOk p chip ct bt fst bst marks ≡ true → orderly p board ≡ true
+  passes : orderOk p chip ct bt fst bst marks ≡ true → tenRules p board ≡ true
   unfolding orderOk
   passes h =
-      orderly-is p board ∙ and-intro
+      ten-is p board ∙ and-intro
       (sym (check-agrees p chip ct bt fst bst l wear marks stamps) ∙ and-intro k (unfold chipOk in and-intro free (all-below-intro (p .mu) _ region)))
       (rule-of p board (marks-right p board l long k block sub few small))
     where
@@ -251,7 +257,7 @@ module _ (p : Params) (chip ct bt fst bst marks : List ℕ) (l : Lengths p chip 
           and-intro (all-below-intro (p .gamma) _ (λ v hv. block r v hr hv))
           (and-intro (entry r hr) (clusters-ok p board l long k block sub few r))
 
-  fails-not : orderly p board ≡ true → orderOk p chip ct bt fst bst marks ≡ true
+  fails-not : tenRules p board ≡ true → orderOk p chip ct bt fst bst marks ≡ true
   unfolding orderOk
   fails-not o =
       and-intro k
@@ -260,7 +266,7 @@ module _ (p : Params) (chip ct bt fst bst marks : List ℕ) (l : Lengths p chip 
       (counts-are ∙ eq-eqb (countBelow (p .C) (named ct)) (countBelow (64 * marksLength p) (bitAt marks)) (omega (arith, no-more p board l long k block o, no-fewer p board l long k block o)))))
     where
       both : tablesOk p bt bst && chipOk p chip ct bt fst bst ≡ true
-      both = check-agrees p chip ct bt fst bst l wear marks stamps ∙ and-left (nineRules p board) _ (sym (orderly-is p board) ∙ o)
+      both = check-agrees p chip ct bt fst bst l wear marks stamps ∙ and-left (nineRules p board) _ (sym (ten-is p board) ∙ o)
 
       k : tablesOk p bt bst ≡ true
       k = and-left (tablesOk p bt bst) _ both
@@ -289,6 +295,6 @@ module _ (p : Params) (chip ct bt fst bst marks : List ℕ) (l : Lengths p chip 
       region : (r : ℕ) → r < p .mu → regionHeld p chip ct bt fst bst marks r ≡ true
       region r hr = unfold regionHeld in and-intro ((frames-right r hr) .0) (all-below-intro (p .gamma) _ (λ v hv. held r v hr hv))
 
-  -- the tables, the free blocks, the regions and the counts are right exactly where the state is orderly
-  pub order-agrees : orderOk p chip ct bt fst bst marks ≡ orderly p board
-  order-agrees = same-truth (orderOk p chip ct bt fst bst marks) (orderly p board) passes fails-not
+  -- the tables, the free blocks, the regions and the counts are right exactly where the ten rules hold
+  pub order-agrees : orderOk p chip ct bt fst bst marks ≡ tenRules p board
+  order-agrees = same-truth (orderOk p chip ct bt fst bst marks) (tenRules p board) passes fails-not

@@ -50,7 +50,7 @@ pub record Held (p : Params) (b : Board) (r v f : ℕ) : Type 0 where
   pub entry : ctAt (b .ct) (clusterIn p b r v f) ≡ segmentOf p v f
 
 module _ (p : Params) (b : Board) (n : Names p b)
-    (rule : (r v : ℕ) → r < p .mu → v < p .gamma → (btAt p (b .bt) r v ≡ none → ⊥) → blockRule p r (block p (b .chip) (btAt p (b .bt) r v)) ≡ true) where
+    (rule : (r v : ℕ) → r < p .mu → v < p .gamma → (btAt p (b .bt) r v ≡ none → ⊥) → blockRule p r v (block p (b .chip) (btAt p (b .bt) r v)) ≡ true) where
   abbrev z : Sizes p
   z = n .fine
 
@@ -68,8 +68,8 @@ module _ (p : Params) (b : Board) (n : Names p b)
       has : btAt p (b .bt) r v ≡ none → ⊥
       has e = never m (unassigned-unmarked p (view p b r) v (assigned-no p b n r hr v hv e) f)
 
-      g : GoodFrame p r (frame p ((view p b r) .body v) f)
-      g = rw (body-is p b n r hr v hv has) (good p r _ (rule r v hr hv has) f low (rw (body-is p b n r hr v hv has) at (is .written)))
+      g : GoodFrame p r v (frame p ((view p b r) .body v) f)
+      g = rw (body-is p b n r hr v hv has) (good p r v _ (rule r v hr hv has) f low (rw (body-is p b n r hr v hv has) at (is .written)))
 
       seg : (view p b r) .segOf (clusterIn p b r v f) ≡ ctAt (b .ct) (clusterIn p b r v f)
       seg = unfold viewOf in rw (eq-eqb (regionOf p (clusterIn p b r v f)) r (g .mine))
@@ -98,7 +98,7 @@ module _ (p : Params) (b : Board) (n : Names p b)
 
   -- the blocks of a region have their first frames programmed
   fronts : (r : ℕ) → r < p .mu → Fronts p r (view p b r)
-  fronts r hr v hv a = rw (body-is p b n r hr v hv has) ((block-in p r _ (rule r v hr hv has)) .1)
+  fronts r hr v hv a = rw (body-is p b n r hr v hv has) ((block-in p r v _ (rule r v hr hv has)) .1)
     where
       has : btAt p (b .bt) r v ≡ none → ⊥
       has e = never a (assigned-no p b n r hr v hv e)

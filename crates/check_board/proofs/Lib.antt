@@ -3,3 +3,4 @@ pub mod Places
 pub mod Open
 pub mod Held
 pub mod Counted
+pub mod Stamped

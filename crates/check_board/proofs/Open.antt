@@ -2,7 +2,7 @@
 -- Assumes nothing.
 use mathlib.Core.Path.{_≡_, ap, refl, sym, _∙_}
 use mathlib.Core.Logic.{_⊎_, inl, inr}
-use mathlib.Core.Bool.{_&&_, Bool, cond, false, not, true}
+use mathlib.Core.Bool.{_&&_, Bool, cond, false, false≢true, not, true}
 use mathlib.Core.List.{List}
 use Prim.Native.Nat.{ℕ, _*_, _-_, _<_, _≤_}
 use native.Mathlib.Decide.{ℕ-discrete}
@@ -20,11 +20,17 @@ use Rattle.rules.specs.Tables.{btAt, none}
 use Rattle.rules.proofs.RegionFacts.{filled-le}
 use Rattle.rules.proofs.Sizes.{Sizes}
 use Rattle.check_tables.specs.Entries.{emptyAt}
-use Rattle.check_rules.specs.Check.{fullOk, openOk, vblockFrames, vblockOk}
+use Rattle.check_rules.specs.Check.{fullOk, openOk, vblockFrames, vblockFramesTo, vblockOk, vblockStamps}
 use Rattle.check_rules.proofs.Same.{last-full}
 use Rattle.check_blocks.proofs.Blocks.{frames-some, vblock-low}
 use Rattle.check_board.specs.Order.{entryOk, framesOk}
 use Rattle.check_board.proofs.Blocks.{rule-of-block}
+
+-- no frames are never right, so where they are right the test before them held
+pub framed : (p : Params) (sg v k : ℕ) (t : Bool) → framesOk p sg v (cond t k 0) ≡ true → (t ≡ true) × (framesOk p sg v k ≡ true)
+unfolding framesOk
+framed p sg v k true h = (refl, h)
+framed p sg v k false h = absurd (false≢true h)
 
 module _ (p : Params) (z : Sizes p) (chip bt bst : List ℕ) (r : ℕ) where
   abbrev n : ℕ → ℕ
@@ -49,6 +55,19 @@ module _ (p : Params) (z : Sizes p) (chip bt bst : List ℕ) (r : ℕ) where
   unfolding framesOk
   frames-block sg v h = sym (frames-some p z chip bt bst r v) ∙ and-left (not (eqb (k v) 0)) _ h
 
+  -- the same of the frames that are counted where the stamps are right too
+  pub to-le : (last v : ℕ) → vblockFramesTo p chip bt bst last r v ≤ frames p
+  unfolding vblockFramesTo
+  to-le last v = go (vblockStamps p chip bt last r v)
+    where
+      go : (t : Bool) → cond t (k v) 0 ≤ frames p
+      go true = frames-le v
+      go false = omega arith
+
+  pub to-block : (last sg v : ℕ) → framesOk p sg v (vblockFramesTo p chip bt bst last r v) ≡ true → vblockOk p chip bt bst r v ≡ true
+  unfolding vblockFramesTo
+  to-block last sg v h = frames-block sg v ((framed p sg v (k v) (vblockStamps p chip bt last r v) h) .1)
+
   module _ (blocks : (v : ℕ) → v < p .gamma → vblockOk p chip bt bst r v ≡ true) (sg : ℕ) where
     abbrev o : ℕ
     o = vblockOf p sg
@@ -66,7 +85,7 @@ module _ (p : Params) (z : Sizes p) (chip bt bst : List ℕ) (r : ℕ) where
 
     -- a block is full exactly if its last frame is programmed
     full-is : (v : ℕ) → v < p .gamma → (n v ≡ none → ⊥) → eqb (k v) (frames p) ≡ programmed p (frame p (block p chip (n v)) (frames p - 1))
-    full-is v h ne = rw (with-block v h ne) (last-full p z r (block p chip (n v)) (rule-of-block p chip bt bst r v (blocks v h) ne))
+    full-is v h ne = rw (with-block v h ne) (last-full p z r v (block p chip (n v)) (rule-of-block p chip bt bst r v (blocks v h) ne))
 
     abbrev Right : ℕ → Type 0
     Right v = cond (eqb v o) (eqb (segmentOf p v (k v - 1)) sg) (eqb (k v) (frames p)) ≡ true

@@ -7,15 +7,15 @@ use mathlib.Core.Bool.{_&&_, Bool, cond, not}
 use mathlib.Core.List.{List}
 use Prim.Native.Nat.{_*_, _-_, _/_, _%_, ℕ}
 use lib.Dec.{eqb, ltb}
-use lib.ListN.{length}
-use Rattle.lists.specs.Below.{allBelow, countBelow}
+use lib.ListN.{length, take}
+use Rattle.lists.specs.Below.{allBelow, allTrue, countBelow}
 use Rattle.rules.specs.declared.Params.{Params}
 use Rattle.rules.specs.Numbers.{segmentOf, vblockOf}
-use Rattle.rules.specs.Orderly.{freeRule}
+use Rattle.rules.specs.Orderly.{freeRule, rulesOf}
 use Rattle.rules.specs.Parameters.{frames}
-use Rattle.rules.specs.Tables.{btAt, ctAt, fstAt, none, marksLength, wordAt}
+use Rattle.rules.specs.Tables.{Board, btAt, ctAt, fstAt, none, marksLength, stampAt, wordAt}
 use Rattle.check_tables.specs.Entries.{emptyAt}
-use Rattle.check_rules.specs.Check.{Lent, tablesOk, vblockFrames}
+use Rattle.check_rules.specs.Check.{Lent, tablesOk, vblockFrames, vblockFramesTo}
 use Rattle.check_marks.specs.Shown.{bitIn, marksValid}
 
 -- segment sg, FST's entry of region r, is none exactly if the region has no block, and else one of a virtual block that has one
@@ -50,6 +50,26 @@ countsOk ct marks = eqb (countBelow (length ct) (named ct)) (countBelow (64 * le
 unfoldable pub orderOk : Params → List ℕ → List ℕ → List ℕ → List ℕ → List ℕ → List ℕ → Bool
 orderOk p chip ct bt fst bst marks =
     tablesOk p bt bst && (freeRule p chip bst && (allBelow (p .mu) (regionHeld p chip ct bt fst bst marks) && countsOk ct marks))
+
+-- ---- the same with stamps up to `last` in a block, and up to `last r` in region r
+
+unfoldable pub blockHeldTo : Params → List ℕ → List ℕ → List ℕ → List ℕ → List ℕ → ℕ → ℕ → ℕ → ℕ → Bool
+blockHeldTo p chip ct bt bst marks last r sg v = framesOk p sg v (vblockFramesTo p chip bt bst last r v) && marksValid p chip ct bt marks r v
+
+unfoldable pub regionHeldTo : Params → List ℕ → List ℕ → List ℕ → List ℕ → List ℕ → List ℕ → ℕ → ℕ → Bool
+regionHeldTo p chip ct bt fst bst marks last r = entryOk p bt r (fstAt fst r) && allBelow (p .gamma) (blockHeldTo p chip ct bt bst marks last r (fstAt fst r))
+
+unfoldable pub orderOkTo : Params → List ℕ → List ℕ → List ℕ → List ℕ → List ℕ → List ℕ → (ℕ → ℕ) → Bool
+orderOkTo p chip ct bt fst bst marks last =
+    tablesOk p bt bst && (freeRule p chip bst && (allBelow (p .mu) (λ r. regionHeldTo p chip ct bt fst bst marks (last r) r) && countsOk ct marks))
+
+-- the first ten rules, all but that of the stamps
+unfoldable pub tenRules : Params → Board → Bool
+tenRules p b = allTrue (take 10 (rulesOf p b))
+
+-- the bound of region r: its last stamp, or none where the stamps are not held to the table
+unfoldable pub boundOf : Bool → List ℕ → ℕ → ℕ
+boundOf bound stamps r = cond bound (stampAt stamps r) 4294967295
 
 -- the lent chip and tables but FST, of which every entry of BT is none or names a block
 pub record BlocksAsked (p : Params) (chip ct bt bst marks : List ℕ) : Type 0 where

@@ -11,7 +11,7 @@ ghost use Rattle.rules.specs.Orderly.{orderly};
 ghost use Rattle.rules.specs.Parameters.{allowed, frames};
 ghost use Rattle.rules.specs.Tables.{boardOf, marksLength};
 ghost use Rattle.check_rules.specs.Check.{Lengths};
-ghost use Rattle.check_board.specs.Order.{BlocksAsked, bitAt, blockHeld, countsOk, entryOk, framesOk, regionHeld};
+ghost use Rattle.check_board.specs.Order.{BlocksAsked, bitAt, blockHeldTo, boundOf, countsOk, entryOk, framesOk, orderOkTo, regionHeldTo, tenRules};
 use rules::Params;
 use rules::Segment;
 use rules::VBlock;
@@ -34,7 +34,7 @@ fn frames_ok(p: Params, sg: Segment, o: VBlock, v: VBlock, k: usize) -> bool
     rules::segment_of(p, v, k - 1).0 == sg.0
 }
 
-// Virtual block v of region r: its block is one of that region, with the right frames programmed,
+// Virtual block v of region r: its block is one of that region, with the right frames programmed and stamps up to `last`,
 // and each of its marks is that of a valid frame.
 fn vblock_ok(
     p: Params,
@@ -43,6 +43,7 @@ fn vblock_ok(
     bt: &[u16],
     bst: &[u8],
     marks: &[u64],
+    last: u32,
     r: usize,
     sg: Segment,
     o: VBlock,
@@ -52,9 +53,9 @@ fn vblock_ok(
     requires { ⌜ r < p .mu ⌝ }
     requires { ⌜ o .0 ≡ vblockOf p (sg .0) ⌝ }
     requires { ⌜ v .0 < p .gamma ⌝ }
-    ensures { λ ok. ⌜ ok ≡ blockHeld p (now (chip .entry)) (now (ct .entry)) (now (bt .entry)) (now (bst .entry)) (now (marks .entry)) r (sg .0) (v .0) ⌝ }
+    ensures { λ ok. ⌜ ok ≡ blockHeldTo p (now (chip .entry)) (now (ct .entry)) (now (bt .entry)) (now (bst .entry)) (now (marks .entry)) last r (sg .0) (v .0) ⌝ }
 {
-    let k = check_blocks::vblock_frames(p, chip, bt, bst, r, v);
+    let k = check_blocks::vblock_frames(p, chip, bt, bst, last, r, v);
     if !frames_ok(p, sg, o, v, k) {
         return false;
     }
@@ -70,19 +71,20 @@ fn vblocks_ok(
     bt: &[u16],
     bst: &[u8],
     marks: &[u64],
+    last: u32,
     r: usize,
     sg: Segment,
 ) -> bool
     requires { ⌜ BlocksAsked p (now chip) (now ct) (now bt) (now bst) (now marks) ⌝ }
     requires { ⌜ r < p .mu ⌝ }
     requires { ⌜ sg .0 < 65536 ⌝ }
-    ensures { λ ok. ⌜ ok ≡ allBelow (p .gamma) (blockHeld p (now (chip .entry)) (now (ct .entry)) (now (bt .entry)) (now (bst .entry)) (now (marks .entry)) r (sg .0)) ⌝ }
+    ensures { λ ok. ⌜ ok ≡ allBelow (p .gamma) (blockHeldTo p (now (chip .entry)) (now (ct .entry)) (now (bt .entry)) (now (bst .entry)) (now (marks .entry)) last r (sg .0)) ⌝ }
 {
     let o = rules::vblock_of(p, sg);
     let m = p.gamma;
     let mut v = 0;
     while v < m {
-        if !vblock_ok(p, chip, ct, bt, bst, marks, r, sg, o, VBlock(v)) {
+        if !vblock_ok(p, chip, ct, bt, bst, marks, last, r, sg, o, VBlock(v)) {
             return false;
         }
         v += 1;
@@ -118,21 +120,33 @@ fn region_ok(
     fst: &[u16],
     bst: &[u8],
     marks: &[u64],
+    last: u32,
     r: usize,
 ) -> bool
     requires { ⌜ BlocksAsked p (now chip) (now ct) (now bt) (now bst) (now marks) ⌝ }
     requires { ⌜ length (now fst) ≡ p .mu ⌝ }
     requires { ⌜ r < p .mu ⌝ }
-    ensures { λ ok. ⌜ ok ≡ regionHeld p (now (chip .entry)) (now (ct .entry)) (now (bt .entry)) (now (fst .entry)) (now (bst .entry)) (now (marks .entry)) r ⌝ }
+    ensures { λ ok. ⌜ ok ≡ regionHeldTo p (now (chip .entry)) (now (ct .entry)) (now (bt .entry)) (now (fst .entry)) (now (bst .entry)) (now (marks .entry)) last r ⌝ }
 {
     let sg = chip_tables::fst_at(fst, r);
     if !entry_ok(p, bt, r, sg) {
         return false;
     }
-    vblocks_ok(p, chip, ct, bt, bst, marks, r, sg)
+    vblocks_ok(p, chip, ct, bt, bst, marks, last, r, sg)
 }
 
-// The same of every region,
+// The largest stamp that region r may have: its last one, or any where the stamps are not held to the table.
+fn bound_of(bound: bool, stamps: &[u32], r: usize) -> u32
+    requires { ⌜ r < length (now stamps) ⌝ }
+    ensures { λ t. ⌜ t ≡ boundOf bound (now (stamps .entry)) r ⌝ }
+{
+    if bound {
+        return chip_tables::stamp_at(stamps, r);
+    }
+    rules::LAST_STAMP
+}
+
+// The same of every region, with the stamps that it may have,
 // up to the first that is not in order.
 fn regions_ok(
     p: Params,
@@ -142,15 +156,20 @@ fn regions_ok(
     fst: &[u16],
     bst: &[u8],
     marks: &[u64],
+    stamps: &[u32],
+    bound: bool,
 ) -> bool
     requires { ⌜ BlocksAsked p (now chip) (now ct) (now bt) (now bst) (now marks) ⌝ }
     requires { ⌜ length (now fst) ≡ p .mu ⌝ }
-    ensures { λ ok. ⌜ ok ≡ allBelow (p .mu) (regionHeld p (now (chip .entry)) (now (ct .entry)) (now (bt .entry)) (now (fst .entry)) (now (bst .entry)) (now (marks .entry))) ⌝ }
+    requires { ⌜ length (now stamps) ≡ p .mu ⌝ }
+    ensures { λ ok. ⌜ ok ≡ allBelow (p .mu) (λ r. regionHeldTo p (now (chip .entry)) (now (ct .entry)) (now (bt .entry)) (now (fst .entry)) (now (bst .entry)) (now (marks .entry))
+        (boundOf bound (now (stamps .entry)) r) r) ⌝ }
 {
     let m = p.mu;
     let mut r = 0;
     while r < m {
-        if !region_ok(p, chip, ct, bt, fst, bst, marks, r) {
+        let last = bound_of(bound, stamps, r);
+        if !region_ok(p, chip, ct, bt, fst, bst, marks, last, r) {
             return false;
         }
         r += 1;
@@ -183,7 +202,37 @@ fn counts_ok(ct: &[u16], marks: &[u64]) -> bool
     k == count_marked(marks)
 }
 
-// True if the state is orderly, each mark included; reply 7 if not. No rule looks at the wear.
+// True if the state is orderly, each mark included, and each stamp where they are held to the table. No rule looks at the wear.
+fn checked(
+    p: Params,
+    chip: &[u8],
+    ct: &[u16],
+    bt: &[u16],
+    fst: &[u16],
+    bst: &[u8],
+    marks: &[u64],
+    stamps: &[u32],
+    bound: bool,
+) -> bool
+    requires { ⌜ Lengths p (now chip) (now ct) (now bt) (now fst) (now bst) ⌝ }
+    requires { ⌜ length (now marks) ≡ marksLength p ⌝ }
+    requires { ⌜ length (now stamps) ≡ p .mu ⌝ }
+    ensures { λ ok. ⌜ ok ≡ orderOkTo p (now (chip .entry)) (now (ct .entry)) (now (bt .entry)) (now (fst .entry)) (now (bst .entry)) (now (marks .entry))
+        (boundOf bound (now (stamps .entry))) ⌝ }
+{
+    if !check_blocks::tables_ok(p, bt, bst) {
+        return false;
+    }
+    if !check_blocks::frees_ok(p, chip, bst) {
+        return false;
+    }
+    if !regions_ok(p, chip, ct, bt, fst, bst, marks, stamps, bound) {
+        return false;
+    }
+    counts_ok(ct, marks)
+}
+
+// True if the state is orderly; reply 7 if not.
 pub fn in_order(
     p: Params,
     chip: &[u8],
@@ -192,19 +241,33 @@ pub fn in_order(
     fst: &[u16],
     bst: &[u8],
     marks: &[u64],
+    stamps: &[u32],
 ) -> bool
     requires { ⌜ Lengths p (now chip) (now ct) (now bt) (now fst) (now bst) ⌝ }
     requires { ⌜ length (now marks) ≡ marksLength p ⌝ }
-    ensures { λ ok. ⌜ ((wear stamps : List ℕ) → ok ≡ orderly p (boardOf (now (chip .entry)) (now (ct .entry)) (now (bt .entry)) (now (fst .entry)) (now (bst .entry)) wear (now (marks .entry)) stamps)) ⌝ }
+    requires { ⌜ length (now stamps) ≡ p .mu ⌝ }
+    ensures { λ ok. ⌜ ((wear : List ℕ) → ok ≡ orderly p (boardOf (now (chip .entry)) (now (ct .entry)) (now (bt .entry)) (now (fst .entry)) (now (bst .entry)) wear
+        (now (marks .entry)) (now (stamps .entry)))) ⌝ }
 {
-    if !check_blocks::tables_ok(p, bt, bst) {
-        return false;
-    }
-    if !check_blocks::frees_ok(p, chip, bst) {
-        return false;
-    }
-    if !regions_ok(p, chip, ct, bt, fst, bst, marks) {
-        return false;
-    }
-    counts_ok(ct, marks)
+    checked(p, chip, ct, bt, fst, bst, marks, stamps, true)
+}
+
+// True if its first ten rules hold, all but that of the stamps.
+pub fn in_order_but_stamps(
+    p: Params,
+    chip: &[u8],
+    ct: &[u16],
+    bt: &[u16],
+    fst: &[u16],
+    bst: &[u8],
+    marks: &[u64],
+    stamps: &[u32],
+) -> bool
+    requires { ⌜ Lengths p (now chip) (now ct) (now bt) (now fst) (now bst) ⌝ }
+    requires { ⌜ length (now marks) ≡ marksLength p ⌝ }
+    requires { ⌜ length (now stamps) ≡ p .mu ⌝ }
+    ensures { λ ok. ⌜ ((wear : List ℕ) → ok ≡ tenRules p (boardOf (now (chip .entry)) (now (ct .entry)) (now (bt .entry)) (now (fst .entry)) (now (bst .entry)) wear
+        (now (marks .entry)) (now (stamps .entry)))) ⌝ }
+{
+    checked(p, chip, ct, bt, fst, bst, marks, stamps, false)
 }

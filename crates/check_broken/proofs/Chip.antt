@@ -24,12 +24,12 @@ module _ (p : Params) (b : Board) (t : Lent p (b .chip) (b .bt)) where
   names : Names p b
   names = names-in p b t
 
-  block-same : (r : ℕ) → r < p .mu → (v : ℕ) → v < p .gamma → blockOk p (b .chip) (b .bt) r v ≡ not (assigned (view p b r) v) || blockRule p r ((view p b r) .body v)
+  block-same : (r : ℕ) → r < p .mu → (v : ℕ) → v < p .gamma → blockOk p (b .chip) (b .bt) r v ≡ not (assigned (view p b r) v) || blockRule p r v ((view p b r) .body v)
   unfolding blockOk
   block-same r h v hv = go (ℕ-discrete (btAt p (b .bt) r v) none)
     where
-      go : Dec (btAt p (b .bt) r v ≡ none) → eqb (btAt p (b .bt) r v) none || blockRule p r (block p (b .chip) (btAt p (b .bt) r v)) ≡ not (assigned (view p b r) v) ||
-          blockRule p r ((view p b r) .body v)
+      go : Dec (btAt p (b .bt) r v ≡ none) → eqb (btAt p (b .bt) r v) none || blockRule p r v (block p (b .chip) (btAt p (b .bt) r v)) ≡ not (assigned (view p b r) v) ||
+          blockRule p r v ((view p b r) .body v)
       go (yes e) = rw (assigned-no p b names r h v hv e, eq-eqb (btAt p (b .bt) r v) none e)
       go (no e) = rw (assigned-yes p b names r h v hv e, body-is p b names r h v hv e, ne-eqb (btAt p (b .bt) r v) none e)
 
@@ -37,7 +37,7 @@ module _ (p : Params) (b : Board) (t : Lent p (b .chip) (b .bt)) where
   pub blocks-same : allBelow (p .mu) (regionBlocksOk p (b .chip) (b .bt)) ≡ blocksRule p b
   unfolding blocksRule regionBlocks regionBlocksOk
   blocks-same =
-      all-cong (p .mu) _ (λ r. allBelow (p .gamma) (λ v. not (assigned (view p b r) v) || blockRule p r ((view p b r) .body v)))
+      all-cong (p .mu) _ (λ r. allBelow (p .gamma) (λ v. not (assigned (view p b r) v) || blockRule p r v ((view p b r) .body v)))
       (λ r h. all-cong (p .gamma) (blockOk p (b .chip) (b .bt) r) _ (block-same r h))
 
   -- FST, where the used blocks are as they should be
@@ -45,10 +45,10 @@ module _ (p : Params) (b : Board) (t : Lent p (b .chip) (b .bt)) where
   unfolding fstRule regionBlocksOk blockOk
   fsts-same k = all-cong (p .mu) _ (λ r. regionFst p (view p b r)) (λ r h. sym (open-same p b names r h (used r h)))
     where
-      used : (r : ℕ) → r < p .mu → (v : ℕ) → v < p .gamma → (btAt p (b .bt) r v ≡ none → ⊥) → blockRule p r (block p (b .chip) (btAt p (b .bt) r v)) ≡ true
+      used : (r : ℕ) → r < p .mu → (v : ℕ) → v < p .gamma → (btAt p (b .bt) r v ≡ none → ⊥) → blockRule p r v (block p (b .chip) (btAt p (b .bt) r v)) ≡ true
       used r h v hv ne =
           rw (ne-eqb (btAt p (b .bt) r v) none ne) at
-          (all-at (p .gamma) (λ v. eqb (btAt p (b .bt) r v) none || blockRule p r (block p (b .chip) (btAt p (b .bt) r v))) (all-at (p .mu) (regionBlocksOk p (b .chip) (b .bt)) k r h) v hv)
+          (all-at (p .gamma) (λ v. eqb (btAt p (b .bt) r v) none || blockRule p r v (block p (b .chip) (btAt p (b .bt) r v))) (all-at (p .mu) (regionBlocksOk p (b .chip) (b .bt)) k r h) v hv)
 
   -- CT
   pub cts-same : allBelow (p .C) (λ c. clusterOk p (b .chip) (b .ct) (b .bt) (regionOf p c) c) ≡ ctRule p b

@@ -1,6 +1,6 @@
 -- The rule that is told fails, and every rule before it holds: the names are numbered in the order of the tests.
 -- Assumes nothing.
-use mathlib.Core.Path.{refl, sym, _≡_}
+use mathlib.Core.Path.{refl, sym, _∙_, _≡_}
 use mathlib.Core.Bool.{Bool, false, false≢true, not, true}
 use mathlib.Core.List.{List, [], _∷_}
 use Prim.Native.Nat.{_+_, _-_, suc, ℕ}
@@ -9,10 +9,13 @@ use lib.ListN.{length}
 use borrow.Author.Tests.{not-false, not-true}
 use Rattle.lists.specs.Below.{allTrue}
 use Rattle.rules.specs.declared.Params.{Params}
-use Rattle.rules.specs.Orderly.{orderly, rulesOf}
+use Rattle.rules.specs.Orderly.{marksRule, orderly, rulesOf}
 use Rattle.rules.specs.Tables.{Board}
+use Rattle.rules.proofs.TableFacts.{nineRules}
+use Rattle.check_board.specs.Order.{tenRules}
+use Rattle.check_board.proofs.Counted.{ten-is}
 use Rattle.check_broken.specs.declared.Rule.{Rule}
-use Rattle.check_broken.specs.declared.Rule.the-variants.{Marks}
+use Rattle.check_broken.specs.declared.Rule.the-variants.{Stamps}
 use Rattle.check_broken.specs.Broken.{FirstFails, brokenRule, firstOf, ruleNames, ruleNumber}
 
 -- the names are numbered one after the other, from k on
@@ -33,7 +36,7 @@ first-fails k (true ∷ ts) (r ∷ rs) l n e =
 
 numbered : Numbered 1 ruleNames
 unfolding Numbered ruleNames
-numbered = (refl, (refl, (refl, (refl, (refl, (refl, (refl, (refl, (refl, (refl, tt))))))))))
+numbered = (refl, (refl, (refl, (refl, (refl, (refl, (refl, (refl, (refl, (refl, (refl, tt)))))))))))
 
 as-many : (p : Params) (b : Board) → length (rulesOf p b) ≡ length ruleNames
 unfolding rulesOf ruleNames
@@ -57,8 +60,12 @@ pub here : (ts : List Bool) (rs : List Rule) (ok t : Bool) (r : Rule) → ok ≡
 unfolding firstOf
 here ts rs ok t r e k = rw (← e, not-true ok k)
 
--- and where the marks' alone is left, it is told without a look
-pub end : (t : Bool) → Marks ≡ firstOf (t ∷ []) (Marks ∷ [])
+-- and where the stamps' alone is left, it is told without a look
+pub end : (t : Bool) → Stamps ≡ firstOf (t ∷ []) (Stamps ∷ [])
 unfolding firstOf
 end true = refl
 end false = refl
+
+-- where the nine rules before that of the marks hold, a test of the ten is a test of the marks
+pub marks-test : (p : Params) (b : Board) (ok : Bool) → ok ≡ tenRules p b → nineRules p b ≡ true → ok ≡ marksRule p b
+marks-test p b ok e n = e ∙ ten-is p b ∙ rw n

@@ -1,4 +1,4 @@
--- The first rule of an orderly state that a board breaks, in document 01's order with T-06's rule last, and the number of each rule.
+-- The first rule of an orderly state that a board breaks, in document 01's order with T-06's and T-07's rules last, and the number of each rule.
 -- Assumes nothing.
 use Prim.Native.Nat.{ℕ}
 use mathlib.Core.Path.{_≡_}
@@ -10,9 +10,9 @@ use Rattle.rules.specs.declared.Params.{Params}
 use Rattle.rules.specs.Orderly.{rulesOf}
 use Rattle.rules.specs.Tables.{Board}
 use Rattle.check_broken.specs.declared.Rule.{Rule}
-use Rattle.check_broken.specs.declared.Rule.the-variants.{BstValues, BtRange, NamedTwice, UsedIfNamed, TooFewLeft, FreeErased, UsedBlock, Fst, Ct, Marks}
+use Rattle.check_broken.specs.declared.Rule.the-variants.{BstValues, BtRange, NamedTwice, UsedIfNamed, TooFewLeft, FreeErased, UsedBlock, Fst, Ct, Marks, Stamps}
 
--- the rules in the document's order, 1 to 9, and T-06's after them
+-- the rules in the document's order, 1 to 9, and T-06's and T-07's after them
 abbrev pub ruleNumber : Rule → ℕ
 ruleNumber BstValues = 1
 ruleNumber BtRange = 2
@@ -24,15 +24,16 @@ ruleNumber UsedBlock = 7
 ruleNumber Fst = 8
 ruleNumber Ct = 9
 ruleNumber Marks = 10
+ruleNumber Stamps = 11
 
 -- the names of the tests of `rulesOf`, in its order
 unfoldable pub ruleNames : List Rule
-ruleNames = BstValues ∷ BtRange ∷ NamedTwice ∷ UsedIfNamed ∷ TooFewLeft ∷ FreeErased ∷ UsedBlock ∷ Fst ∷ Ct ∷ Marks ∷ []
+ruleNames = BstValues ∷ BtRange ∷ NamedTwice ∷ UsedIfNamed ∷ TooFewLeft ∷ FreeErased ∷ UsedBlock ∷ Fst ∷ Ct ∷ Marks ∷ Stamps ∷ []
 
 -- the name of the first test that fails; the last name where the lists end
 unfoldable pub firstOf : List Bool → List Rule → Rule
-firstOf [] rs = Marks
-firstOf (t ∷ ts) [] = Marks
+firstOf [] rs = Stamps
+firstOf (t ∷ ts) [] = Stamps
 firstOf (t ∷ ts) (r ∷ rs) = cond t (firstOf ts rs) r
 
 -- the first rule that does not hold, of a board whose state is not orderly

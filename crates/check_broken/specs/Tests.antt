@@ -12,7 +12,7 @@ use Rattle.rules.specs.Tables.{btAt, none}
 
 -- virtual block v of region r has no block, or has a used block of that region
 unfoldable pub blockOk : Params → List ℕ → List ℕ → ℕ → ℕ → Bool
-blockOk p chip bt r v = eqb (btAt p bt r v) none || blockRule p r (block p chip (btAt p bt r v))
+blockOk p chip bt r v = eqb (btAt p bt r v) none || blockRule p r v (block p chip (btAt p bt r v))
 
 -- the same of every virtual block of region r
 unfoldable pub regionBlocksOk : Params → List ℕ → List ℕ → ℕ → Bool

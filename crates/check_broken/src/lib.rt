@@ -1,18 +1,19 @@
-// Which rule of an orderly state a board breaks: the first in document 01's order, T-06's rule of the marks last. Each rule is a test of its own and is looked
-// at only where those before it hold. It is asked only where a call is refused with 7.
+// Which rule of an orderly state a board breaks: the first in document 01's order, T-06's rule of the marks and T-07's of the stamps last. Each rule is
+// looked at only where those before it hold. It is asked only where a call is refused with 7.
 ghost use mathlib.Core.Path.{_≡_};
 ghost use mathlib.Core.Bool.{true, not};
 ghost use mathlib.Core.List.{List};
 ghost use Prim.Native.Nat.{ℕ, _<_};
+ghost use lib.ListN.{length};
 ghost use Rattle.lists.specs.Below.{allBelow};
-ghost use Rattle.rules.specs.Tables.{boardOf};
+ghost use Rattle.rules.specs.Tables.{boardOf, marksLength};
 ghost use Rattle.check_rules.specs.Check.{Lengths, Lent};
 ghost use Rattle.check_broken.specs.Broken.{ruleNumber, brokenRule};
 ghost use Rattle.check_broken.specs.Tests.{blockOk, regionBlocksOk};
 use rules::Params;
 use rules::VBlock;
 
-// The rules of an orderly state, in document 01's order, and T-06's after them.
+// The rules of an orderly state, in document 01's order, and T-06's and T-07's after them.
 pub enum Rule {
     BstValues,
     BtRange,
@@ -24,9 +25,10 @@ pub enum Rule {
     Fst,
     Ct,
     Marks,
+    Stamps,
 }
 
-// The place of a rule in that order, from 1 to 10.
+// The place of a rule in that order, from 1 to 11.
 pub fn rule_number(r: Rule) -> u32
     ensures { λ n. ⌜ n ≡ ruleNumber r ⌝ }
 {
@@ -41,6 +43,7 @@ pub fn rule_number(r: Rule) -> u32
         Rule::Fst => 8,
         Rule::Ct => 9,
         Rule::Marks => 10,
+        Rule::Stamps => 11,
     }
 }
 
@@ -55,7 +58,7 @@ fn block_ok(p: Params, chip: &[u8], bt: &[u16], r: usize, v: VBlock) -> bool
     if n.0 == rules::NONE {
         return true;
     }
-    chip_blocks::block_ok(p, r, chip_blocks::block_of(p, chip, n))
+    chip_blocks::block_ok(p, r, v, chip_blocks::block_of(p, chip, n))
 }
 
 // The same of every virtual block of region r.
@@ -92,10 +95,22 @@ fn blocks_ok(p: Params, chip: &[u8], bt: &[u16]) -> bool
 }
 
 // The first rule that does not hold, of a state that is not orderly: each is looked at only where those before it hold.
-// The last, that of the marks, needs no look: where the nine others hold it is the one.
-pub fn broken_rule(p: Params, chip: &[u8], ct: &[u16], bt: &[u16], fst: &[u16], bst: &[u8]) -> Rule
+// The last, that of the stamps, needs no look of its own: where the ten others hold it is the one.
+pub fn broken_rule(
+    p: Params,
+    chip: &[u8],
+    ct: &[u16],
+    bt: &[u16],
+    fst: &[u16],
+    bst: &[u8],
+    marks: &[u64],
+    stamps: &[u32],
+) -> Rule
     requires { ⌜ Lengths p (now chip) (now ct) (now bt) (now fst) (now bst) ⌝ }
-    ensures { λ k. ⌜ ((wear marks stamps : List ℕ) → k ≡ brokenRule p (boardOf (now (chip .entry)) (now (ct .entry)) (now (bt .entry)) (now (fst .entry)) (now (bst .entry)) wear marks stamps)) ⌝ }
+    requires { ⌜ length (now marks) ≡ marksLength p ⌝ }
+    requires { ⌜ length (now stamps) ≡ p .mu ⌝ }
+    ensures { λ k. ⌜ ((wear : List ℕ) → k ≡ brokenRule p (boardOf (now (chip .entry)) (now (ct .entry)) (now (bt .entry)) (now (fst .entry)) (now (bst .entry)) wear
+        (now (marks .entry)) (now (stamps .entry)))) ⌝ }
 {
     if !check_tables::bst_ok(p, bst) {
         return Rule::BstValues;
@@ -124,5 +139,8 @@ pub fn broken_rule(p: Params, chip: &[u8], ct: &[u16], bt: &[u16], fst: &[u16], 
     if !check_entries::cts_ok(p, chip, ct, bt) {
         return Rule::Ct;
     }
-    Rule::Marks
+    if !check_board::in_order_but_stamps(p, chip, ct, bt, fst, bst, marks, stamps) {
+        return Rule::Marks;
+    }
+    Rule::Stamps
 }

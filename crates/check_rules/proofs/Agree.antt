@@ -2,7 +2,7 @@
 -- Assumes nothing.
 use mathlib.Core.Path.{ap, refl, sym, _∙_, _≡_}
 use mathlib.Core.Logic.{inl, inr, _⊎_}
-use mathlib.Core.Bool.{_&&_, and-assoc, and-true, Bool, cond, false, not, true, _||_}
+use mathlib.Core.Bool.{_&&_, Bool, cond, false, not, true, _||_}
 use mathlib.Core.List.{List, []}
 use Prim.Native.Nat.{_%_, _*_, _+_, _/_, _<_, ℕ, _≤_}
 use native.Mathlib.Decide.{decLt, ℕ-discrete}
@@ -11,27 +11,27 @@ use native.Mathlib.Omega.{arith}
 use lib.Dec.{eqb, ltb}
 use lib.ListN.{length}
 use borrow.Author.Tests.{eq-eqb, eqb-false, eqb-true, leb-true, ltb-true, ne-eqb, not-true}
-use Rattle.lists.specs.Below.{allBelow, allTrue, countBelow}
+use Rattle.lists.specs.Below.{allBelow, countBelow}
 use Rattle.lists.proofs.Tests.{all-at, all-below-intro, all-true, and-intro, and-left, and-right, never, or-cases, truths}
 use Rattle.lists.proofs.Counts.{each-met}
 use Rattle.rules.specs.declared.Params.{Params}
 use Rattle.rules.specs.Numbers.{regionOf}
-use Rattle.rules.specs.Orderly.{blockRule, blocksRule, bstRule, btRule, clusterRule, ctRule, entryRule, freeRule, fstRule, marksRule, orderly, regionBlocks, regionFst, roomRule, rulesOf}
+use Rattle.rules.specs.Orderly.{blockRule, blocksRule, bstRule, btRule, clusterRule, ctRule, entryRule, freeRule, fstRule, regionBlocks, regionFst, roomRule, rulesOf}
 use Rattle.rules.specs.Pages.{block, erased, filled, frame, held}
 use Rattle.rules.specs.Parameters.{allowed}
 use Rattle.rules.specs.Regions.{assigned, view}
 use Rattle.rules.specs.Replies.{lengthsFit}
 use Rattle.rules.specs.Marks.{marksOf}
 use Rattle.rules.specs.Tables.{Board, boardOf, bstAt, btAt, btEntry, marksLength, none}
-use Rattle.rules.proofs.Admitted.{orderly-all, orderly-region}
+use Rattle.rules.proofs.Admitted.{nine-all, nine-region}
 use Rattle.rules.proofs.Isolation.{index-low}
-use Rattle.rules.proofs.MarkFacts.{rule-of, table-length}
+use Rattle.rules.proofs.MarkFacts.{table-length}
 use Rattle.rules.proofs.RegionFacts.{regionOrderly, up-to}
 use Rattle.rules.proofs.Sizes.{Sizes, sizes}
-use Rattle.rules.proofs.TableFacts.{Tables, chip-size, tables-in}
+use Rattle.rules.proofs.TableFacts.{Tables, chip-size, nineRules, tables-nine}
 use Rattle.rules.proofs.Totals.{used-total}
 use Rattle.check_tables.specs.Entries.{differs, usedOk}
-use Rattle.check_rules.specs.Check.{Lengths, chipOk, clusterOk, clustersOk, fstOk, nineRules, regionOk, tablesOk, vblockOk}
+use Rattle.check_rules.specs.Check.{Lengths, chipOk, clusterOk, clustersOk, fstOk, regionOk, tablesOk, vblockOk}
 use Rattle.check_rules.proofs.Same.{Names, assigned-no, assigned-yes, body-is, entry-other, entry-same, open-same}
 
 -- the region that the first page of block n tells
@@ -47,15 +47,15 @@ same-truth false false f g = refl
 index : (m k i : ℕ) → 1 ≤ k → i < m * k → (i / k < m) × (i % k < k) × (i / k * k + i % k ≡ i)
 index m k i h l = (div-lt-iff-lt-mul h .1 l, mod-lt i h, div-add-mod' i k)
 
-module _ (p : Params) (b : Board) (fine : Sizes p) (len : lengthsFit p b ≡ true) (own : b .marks ≡ marksOf p b) where
+module _ (p : Params) (b : Board) (fine : Sizes p) (len : lengthsFit p b ≡ true) where
   abbrev E : ℕ → ℕ → ℕ
   E r v = btAt p (b .bt) r v
 
   -- a block of region r tells it in its first page
-  block-home : (r n : ℕ) → blockRule p r (block p (b .chip) n) ≡ true → home p (b .chip) n ≡ r
+  block-home : (r v n : ℕ) → blockRule p r v (block p (b .chip) n) ≡ true → home p (b .chip) n ≡ r
   unfolding home blockRule
-  block-home r n h =
-      ((up-to p r (filled p (block p (b .chip) n)) (block p (b .chip) n) (and-right (ltb 0 (filled p (block p (b .chip) n))) h)) .front 0
+  block-home r v n h =
+      ((up-to p r v (filled p (block p (b .chip) n)) (block p (b .chip) n) (and-right (ltb 0 (filled p (block p (b .chip) n))) h)) .front 0
       (ltb-true 0 _ (and-left (ltb 0 (filled p (block p (b .chip) n))) _ h)) (fine .some)) .mine
 
   names-of : ((i : ℕ) → i < p .mu * p .gamma → (btEntry (b .bt) i ≡ none) ⊎ (btEntry (b .bt) i < p .N)) → Names p b
@@ -70,21 +70,21 @@ module _ (p : Params) (b : Board) (fine : Sizes p) (len : lengthsFit p b ≡ tru
   not-none n x h e k = omega (arith, fine .blocks)
 
   -- ---- what is orderly passes the check
-  module _ (o : orderly p b ≡ true) where
+  module _ (o : nineRules p b ≡ true) where
     t : Tables p b
-    t = tables-in p b len o
+    t = tables-nine p b len o
 
     nm : Names p b
     nm = names-of (t .names)
 
     region : (r : ℕ) → r < p .mu → regionOrderly p r (view p b r) ≡ true
-    region = orderly-region p b o
+    region = nine-region p b o
 
-    rule : (r v : ℕ) → r < p .mu → v < p .gamma → (E r v ≡ none → ⊥) → blockRule p r (block p (b .chip) (E r v)) ≡ true
+    rule : (r v : ℕ) → r < p .mu → v < p .gamma → (E r v ≡ none → ⊥) → blockRule p r v (block p (b .chip) (E r v)) ≡ true
     unfolding regionOrderly regionBlocks
     rule r v hr hv ne =
         rw (assigned-yes p b nm r hr v hv ne, body-is p b nm r hr v hv ne) at
-        (all-at (p .gamma) (λ v. not (assigned (view p b r) v) || blockRule p r ((view p b r) .body v)) ((truths _ (region r hr)) .0) v hv)
+        (all-at (p .gamma) (λ v. not (assigned (view p b r) v) || blockRule p r v ((view p b r) .body v)) ((truths _ (region r hr)) .0) v hv)
 
     apart : (r v : ℕ) → r < p .mu → v < p .gamma → (E r v ≡ none → ⊥) → differs p (b .bt) r v ≡ true
     unfolding differs btAt
@@ -125,7 +125,7 @@ module _ (p : Params) (b : Board) (fine : Sizes p) (len : lengthsFit p b ≡ tru
         and-intro (all-below-intro (p .gamma) _ (λ v k. vblock-ok r v h k)) (and-intro (sym (open-same p b nm r h (λ v hv ne. rule r v h hv ne)) ∙ (truths _ (region r h)) .1 .0) (clusters-ok r h))
 
     passes : tablesOk p (b .bt) (b .bst) && chipOk p (b .chip) (b .ct) (b .bt) (b .fst) (b .bst) ≡ true
-    unfolding tablesOk chipOk orderly rulesOf
+    unfolding tablesOk chipOk nineRules rulesOf
     passes =
         let k = truths _ o in
         and-intro (and-intro (k .0) (and-intro (k .1 .0) (and-intro (k .1 .1 .1 .1 .0) counted)))
@@ -169,7 +169,7 @@ module _ (p : Params) (b : Board) (fine : Sizes p) (len : lengthsFit p b ≡ tru
     ns = names-of entries
 
     -- a named block: named once in its region, used, of that region
-    vblock : (r v : ℕ) → r < p .mu → v < p .gamma → (E r v ≡ none → ⊥) → (differs p (b .bt) r v ≡ true) × (bstAt (b .bst) (E r v) ≡ 1) × (blockRule p r (block p (b .chip) (E r v)) ≡ true)
+    vblock : (r v : ℕ) → r < p .mu → v < p .gamma → (E r v ≡ none → ⊥) → (differs p (b .bt) r v ≡ true) × (bstAt (b .bst) (E r v) ≡ 1) × (blockRule p r v (block p (b .chip) (E r v)) ≡ true)
     unfolding regionOk vblockOk
     vblock r v hr hv ne =
         let w = rw (ne-eqb (E r v) none ne) at (all-at (p .gamma) (vblockOk p (b .chip) (b .bt) (b .bst) r)
@@ -191,8 +191,8 @@ module _ (p : Params) (b : Board) (fine : Sizes p) (len : lengthsFit p b ≡ tru
         let ej : E (j / p .gamma) (j % p .gamma) ≡ btEntry (b .bt) j = ap (λ (x : ℕ). btEntry (b .bt) x) (y .2) in
         let ni : E (i / p .gamma) (i % p .gamma) ≡ none → ⊥ = λ q. ne (sym ei ∙ q) in
         let nj : E (j / p .gamma) (j % p .gamma) ≡ none → ⊥ = λ q. ne (e ∙ sym ej ∙ q) in
-        let ri = block-home (i / p .gamma) (E (i / p .gamma) (i % p .gamma)) ((vblock (i / p .gamma) (i % p .gamma) (x .0) (x .1) ni) .2) in
-        let rj = block-home (j / p .gamma) (E (j / p .gamma) (j % p .gamma)) ((vblock (j / p .gamma) (j % p .gamma) (y .0) (y .1) nj) .2) in
+        let ri = block-home (i / p .gamma) (i % p .gamma) (E (i / p .gamma) (i % p .gamma)) ((vblock (i / p .gamma) (i % p .gamma) (x .0) (x .1) ni) .2) in
+        let rj = block-home (j / p .gamma) (j % p .gamma) (E (j / p .gamma) (j % p .gamma)) ((vblock (j / p .gamma) (j % p .gamma) (y .0) (y .1) nj) .2) in
         let same : E (i / p .gamma) (i % p .gamma) ≡ E (j / p .gamma) (j % p .gamma) = ei ∙ e ∙ sym ej in
         let r : i / p .gamma ≡ j / p .gamma = sym ri ∙ ap (home p (b .chip)) same ∙ rj in
         go (i / p .gamma) (j / p .gamma) (i % p .gamma) (j % p .gamma) r (x .0) (x .1) (y .1) same ni nj (x .2) (y .2) (decLt (i % p .gamma) (j % p .gamma)) (decLt (j % p .gamma) (i % p .gamma))
@@ -249,7 +249,7 @@ module _ (p : Params) (b : Board) (fine : Sizes p) (len : lengthsFit p b ≡ tru
     unfolding regionBlocks
     blocks r h = all-below-intro (p .gamma) _ (λ v hv. go v hv (ℕ-discrete (E r v) none))
       where
-        go : (v : ℕ) → v < p .gamma → Dec (E r v ≡ none) → not (assigned (view p b r) v) || blockRule p r ((view p b r) .body v) ≡ true
+        go : (v : ℕ) → v < p .gamma → Dec (E r v ≡ none) → not (assigned (view p b r) v) || blockRule p r v ((view p b r) .body v) ≡ true
         go v hv (yes e) = rw (assigned-no p b ns r h v hv e)
         go v hv (no e) = rw (assigned-yes p b ns r h v hv e, body-is p b ns r h v hv e) ((vblock r v h hv e) .2)
 
@@ -271,18 +271,13 @@ module _ (p : Params) (b : Board) (fine : Sizes p) (len : lengthsFit p b ≡ tru
     opens r h = open-same p b ns r h (λ v hv ne. (vblock r v h hv ne) .2) ∙ and-left (fstOk p (b .chip) (b .bt) (b .fst) r) _
         (and-right (allBelow (p .gamma) (vblockOk p (b .chip) (b .bt) (b .bst) r)) (l₁ r h))
 
-    is-orderly : orderly p b ≡ true
+    is-nine : nineRules p b ≡ true
     unfolding regionOrderly
-    is-orderly = orderly-all p b fine tables (λ r h. all-true _ (blocks r h, (opens r h, (clusters r h, tt)))) own
+    is-nine = nine-all p b fine tables (λ r h. all-true _ (blocks r h, (opens r h, (clusters r h, tt))))
 
-  agree : tablesOk p (b .bt) (b .bst) && chipOk p (b .chip) (b .ct) (b .bt) (b .fst) (b .bst) ≡ orderly p b
-  agree = same-truth (tablesOk p (b .bt) (b .bst) && chipOk p (b .chip) (b .ct) (b .bt) (b .fst) (b .bst)) (orderly p b)
-      (λ h. is-orderly (and-left (tablesOk p (b .bt) (b .bst)) _ h) (and-right (tablesOk p (b .bt) (b .bst)) h)) passes
-
--- the state is orderly if the nine rules hold and each mark is right
-pub orderly-is : (p : Params) (b : Board) → orderly p b ≡ nineRules p b && marksRule p b
-unfolding orderly nineRules rulesOf allTrue
-orderly-is p b = simp (and-assoc, and-true)
+  agree : tablesOk p (b .bt) (b .bst) && chipOk p (b .chip) (b .ct) (b .bt) (b .fst) (b .bst) ≡ nineRules p b
+  agree = same-truth (tablesOk p (b .bt) (b .bst) && chipOk p (b .chip) (b .ct) (b .bt) (b .fst) (b .bst)) (nineRules p b)
+      (λ h. is-nine (and-left (tablesOk p (b .bt) (b .bst)) _ h) (and-right (tablesOk p (b .bt) (b .bst)) h)) passes
 
 -- lengths that fit, as the check asks for them, and back
 pub lengths-in : (p : Params) (b : Board) → allowed p ≡ true → lengthsFit p b ≡ true → Lengths p (b .chip) (b .ct) (b .bt) (b .fst) (b .bst)
@@ -325,5 +320,5 @@ pub check-agrees : (p : Params) (chip ct bt fst bst : List ℕ) → Lengths p ch
 check-agrees p chip ct bt fst bst z wear marks stamps =
     let own = marksOf p (boardOf chip ct bt fst bst [] [] []) in
     let b = boardOf chip ct bt fst bst bst own fst in
-    agree p b (sizes p (z .fine)) (lengths-out p chip ct bt fst bst own fst z (table-length p _) (z .fstLength)) refl ∙ orderly-is p b ∙ rw (rule-of p b refl, and-true)
-    (nine-same p chip ct bt fst bst bst wear own marks fst stamps)
+    agree p b (sizes p (z .fine)) (lengths-out p chip ct bt fst bst own fst z (table-length p _) (z .fstLength))
+    ∙ (nine-same p chip ct bt fst bst bst wear own marks fst stamps)

@@ -40,11 +40,11 @@ pub record Names (p : Params) (b : Board) : Type 0 where
   pub low : (r v : ℕ) → r < p .mu → v < p .gamma → (btAt p (b .bt) r v ≡ none → ⊥) → btAt p (b .bt) r v < p .N
 
 -- a used block is full exactly if its last frame is programmed
-pub last-full : (p : Params) → Sizes p → (r : ℕ) (blk : List ℕ) → blockRule p r blk ≡ true → eqb (filled p blk) (frames p) ≡ programmed p (frame p blk (frames p - 1))
+pub last-full : (p : Params) → Sizes p → (r v : ℕ) (blk : List ℕ) → blockRule p r v blk ≡ true → eqb (filled p blk) (frames p) ≡ programmed p (frame p blk (frames p - 1))
 unfolding blockRule
-last-full p z r blk h = go (up-to p r (filled p blk) blk (and-right (ltb 0 (filled p blk)) h)) (ℕ-discrete (filled p blk) (frames p))
+last-full p z r v blk h = go (up-to p r v (filled p blk) blk (and-right (ltb 0 (filled p blk)) h)) (ℕ-discrete (filled p blk) (frames p))
   where
-    go : UpTo p r (filled p blk) blk → Dec (filled p blk ≡ frames p) → eqb (filled p blk) (frames p) ≡ programmed p (frame p blk (frames p - 1))
+    go : UpTo p r v (filled p blk) blk → Dec (filled p blk ≡ frames p) → eqb (filled p blk) (frames p) ≡ programmed p (frame p blk (frames p - 1))
     go u (yes e) =
         rw (eq-eqb (filled p blk) (frames p) e)
         (sym ((u .front (frames p - 1) (omega (arith, z .some)) (omega (arith, z .some))) .on))
@@ -80,7 +80,7 @@ module _ (p : Params) (b : Board) (t : Names p b) (r : ℕ) (region : r < p .mu)
 
   -- the region's blocks pass their rule
   abbrev pub Used : Type 0
-  Used = (v : ℕ) → v < p .gamma → (btAt p (b .bt) r v ≡ none → ⊥) → blockRule p r (block p (b .chip) (btAt p (b .bt) r v)) ≡ true
+  Used = (v : ℕ) → v < p .gamma → (btAt p (b .bt) r v ≡ none → ⊥) → blockRule p r v (block p (b .chip) (btAt p (b .bt) r v)) ≡ true
 
   full-same : Used → (o v : ℕ) → v < p .gamma → vblockOf p ((view p b r) .lastSeg) ≡ o → fullRule p (view p b r) v ≡ fullOk p (b .chip) (b .bt) r o v
   unfolding fullRule fullOk
@@ -91,7 +91,7 @@ module _ (p : Params) (b : Board) (t : Names p b) (r : ℕ) (region : r < p .mu)
           (cond (eqb (btAt p (b .bt) r v) none) true (programmed p (frame p (block p (b .chip) (btAt p (b .bt) r v)) (frames p - 1))))
       go (inl a) d = rw a
       go (inr a) (yes d) = rw (a, assigned-no v h d, eq-eqb (btAt p (b .bt) r v) none d)
-      go (inr a) (no d) = rw (a, assigned-yes v h d, ne-eqb (btAt p (b .bt) r v) none d, body-is v h d) (last-full p (t .fine) r _ (used v h d))
+      go (inr a) (no d) = rw (a, assigned-yes v h d, ne-eqb (btAt p (b .bt) r v) none d, body-is v h d) (last-full p (t .fine) r v _ (used v h d))
 
   last-rest : (sg : ℕ) → (x : Bool) → vblockOf p sg < p .gamma → (x ≡ allBelow (p .gamma) (fullOk p (b .chip) (b .bt) r (vblockOf p sg))) → Dec (btAt p (b .bt) r (vblockOf p sg) ≡ none)
       → assigned (view p b r) (vblockOf p sg) && (eqb sg (segmentOf p (vblockOf p sg) (filled p ((view p b r) .body (vblockOf p sg)) - 1)) && (x && true))

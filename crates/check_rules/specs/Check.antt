@@ -5,25 +5,33 @@ use mathlib.Core.Bool.{_&&_, Bool, cond, not, true}
 use mathlib.Core.List.{List}
 use Prim.Native.Nat.{_*_, _-_, ℕ}
 use lib.Dec.{eqb, ltb}
-use lib.ListN.{length, take}
-use Rattle.lists.specs.Below.{allBelow, allTrue}
+use lib.ListN.{length}
+use Rattle.lists.specs.Below.{allBelow}
 use Rattle.rules.specs.declared.Params.{Params}
 use Rattle.rules.specs.Numbers.{placeOf, regionOf, segmentOf, vblockOf}
-use Rattle.rules.specs.Orderly.{blockRule, bstRule, btRule, freeRule, roomRule, rulesOf}
+use Rattle.rules.specs.Orderly.{blockRule, bstRule, btRule, freeRule, roomRule, stampsTo}
 use Rattle.rules.specs.Pages.{block, filled, frame, lastIn, programmed}
 use Rattle.rules.specs.Parameters.{allowed, chipBytes, frames}
-use Rattle.rules.specs.Tables.{Board, bstAt, btAt, ctAt, fstAt, none}
+use Rattle.rules.specs.Tables.{bstAt, btAt, ctAt, fstAt, none}
 use Rattle.check_tables.specs.Entries.{differs, emptyAt, usedOk}
 
 -- a named block is named once in its region, is used, and is a block of that region
 unfoldable pub vblockOk : Params → List ℕ → List ℕ → List ℕ → ℕ → ℕ → Bool
 vblockOk p chip bt bst r v =
     cond (eqb (btAt p bt r v) none) true
-    (differs p bt r v && (eqb (bstAt bst (btAt p bt r v)) 1 && blockRule p r (block p chip (btAt p bt r v))))
+    (differs p bt r v && (eqb (bstAt bst (btAt p bt r v)) 1 && blockRule p r v (block p chip (btAt p bt r v))))
 
 -- how many of its frames are programmed, where it is so: all of them where there is no block; 0 where it is not so
 unfoldable pub vblockFrames : Params → List ℕ → List ℕ → List ℕ → ℕ → ℕ → ℕ
 vblockFrames p chip bt bst r v = cond (vblockOk p chip bt bst r v) (cond (eqb (btAt p bt r v) none) (frames p) (filled p (block p chip (btAt p bt r v)))) 0
+
+-- no frame of its block has a stamp larger than `last`
+unfoldable pub vblockStamps : Params → List ℕ → List ℕ → ℕ → ℕ → ℕ → Bool
+vblockStamps p chip bt last r v = cond (eqb (btAt p bt r v) none) true (stampsTo p last (block p chip (btAt p bt r v)))
+
+-- how many of its frames are programmed, where it is so too
+unfoldable pub vblockFramesTo : Params → List ℕ → List ℕ → List ℕ → ℕ → ℕ → ℕ → ℕ
+vblockFramesTo p chip bt bst last r v = cond (vblockStamps p chip bt last r v) (vblockFrames p chip bt bst r v) 0
 
 -- virtual block v is the open block, or has no block, or is full: its frames are programmed in order, so the last one tells
 unfoldable pub fullOk : Params → List ℕ → List ℕ → ℕ → ℕ → ℕ → Bool
@@ -67,10 +75,6 @@ tablesOk p bt bst = bstRule p bst && (btRule p bt && (roomRule p bst && usedOk p
 -- the rules that look at the chip
 unfoldable pub chipOk : Params → List ℕ → List ℕ → List ℕ → List ℕ → List ℕ → Bool
 chipOk p chip ct bt fst bst = freeRule p chip bst && allBelow (p .mu) (regionOk p chip ct bt fst bst)
-
--- the nine rules that look at no mark
-unfoldable pub nineRules : Params → Board → Bool
-nineRules p b = allTrue (take 9 (rulesOf p b))
 
 -- the lent chip and tables, of the right lengths
 pub record Lengths (p : Params) (chip ct bt fst bst : List ℕ) : Type 0 where

@@ -9,17 +9,18 @@ use native.Mathlib.Omega.{arith}
 use lib.Dec.{eqb}
 use lib.ListN.{drop, length, length-drop, take}
 use lib.Seq.{take-all}
-use borrow.Author.Tests.{eq-eqb, le-ltb, lt-ltb, ne-eqb}
+use borrow.Author.Tests.{eq-eqb, le-leb, le-ltb, lt-leb, lt-ltb, ne-eqb}
 use Rattle.lists.specs.Below.{allBelow, allTrue, lastBelow}
 use Rattle.lists.specs.Parts.{sameList}
 use Rattle.lists.proofs.Parts.{in-place, next, over-place, under-place}
 use Rattle.rules.specs.declared.Params.{Params}
 use Rattle.rules.specs.Orderly.{goodFrame}
-use Rattle.rules.specs.Pages.{block, frame, held, holds, lastIn, programmed}
+use Rattle.rules.specs.Pages.{block, frame, held, holds, lastIn, programmed, stampOf}
 use Rattle.rules.specs.Parameters.{blockBytes, chipBytes, frameBytes, frames, pageBytes}
 use Rattle.rules.specs.Tables.{none}
 use Rattle.rules.proofs.Sizes.{Sizes}
 use Rattle.rules.proofs.TableFacts.{chip-size}
+use Rattle.chip_blocks.specs.First.{fitFrame}
 use Rattle.loops.proofs.Below.{last-skip}
 use Rattle.loops.proofs.Lent.{lent-part}
 
@@ -48,13 +49,28 @@ frame-lent p blk f w e = lent-part w f blk ∙ rw e
 
 -- ---- a good frame
 
-pub good-high : (p : Params) (r : ℕ) (fr : List ℕ) (c : ℕ) → c ≡ held p fr → p .C ≤ c → false ≡ goodFrame p r fr
+pub good-high : (p : Params) (r v : ℕ) (fr : List ℕ) (c : ℕ) → c ≡ held p fr → p .C ≤ c → false ≡ goodFrame p r v fr
 unfolding goodFrame allTrue
-good-high p r fr c e h = rw (← e, le-ltb c (p .C) h) (sym (and-false (programmed p fr)))
+good-high p r v fr c e h = rw (← e, le-ltb c (p .C) h) (sym (and-false (programmed p fr)))
 
-pub good-other : (p : Params) (r : ℕ) (fr : List ℕ) (c : ℕ) → c ≡ held p fr → c < p .C → (c % p .mu ≡ r → ⊥) → false ≡ goodFrame p r fr
+pub good-other : (p : Params) (r v : ℕ) (fr : List ℕ) (c : ℕ) → c ≡ held p fr → c < p .C → (c % p .mu ≡ r → ⊥) → false ≡ goodFrame p r v fr
 unfolding goodFrame allTrue
-good-other p r fr c e h n = rw (← e, lt-ltb c (p .C) h, ne-eqb (c % p .mu) r n) (sym (and-false (programmed p fr)))
+good-other p r v fr c e h n = rw (← e, lt-ltb c (p .C) h, ne-eqb (c % p .mu) r n) (sym (and-false (programmed p fr)))
+
+-- and one that fits: with a stamp up to `last`
+module _ (p : Params) (r v last : ℕ) (fr : List ℕ) where
+  pub fit-not : false ≡ goodFrame p r v fr → false ≡ fitFrame p r v last fr
+  unfolding fitFrame
+  fit-not e = rw (← e)
+
+  module _ (t : ℕ) (e : t ≡ stampOf p fr) where
+    pub fit-late : last < t → false ≡ fitFrame p r v last fr
+    unfolding fitFrame
+    fit-late h = rw (← e, lt-leb t last h) (sym (and-false (goodFrame p r v fr)))
+
+    pub fit-is : (x : Bool) → t ≤ last → x ≡ goodFrame p r v fr → x ≡ fitFrame p r v last fr
+    unfolding fitFrame
+    fit-is x h g = rw (← e, le-leb t last h) (g ∙ sym (and-true (goodFrame p r v fr)))
 
 -- ---- the last frame of a place
 

@@ -8,11 +8,13 @@ ghost use Rattle.lists.specs.Below.{allBelow};
 ghost use Rattle.lists.specs.Parts.{allAre, sameList};
 ghost use Rattle.rules.specs.Parameters.{allowed, frames, pageBytes, frameBytes, blockBytes, chipBytes};
 ghost use Rattle.rules.specs.Pages.{block, frame, programmed, holds, filled, lastIn, programmedDownTo, spare, spareBytes};
-ghost use Rattle.rules.specs.Orderly.{goodFrame, blockRule};
-ghost use Rattle.chip_blocks.specs.First.{FirstFrames};
+ghost use Rattle.rules.specs.Orderly.{blockRule, stampsTo};
+ghost use Rattle.chip_blocks.specs.First.{FirstFrames, fitFrame};
 use rules::Cluster;
+use rules::Label;
 use rules::PBlock;
 use rules::Params;
+use rules::VBlock;
 
 // Block n of the chip.
 pub fn block_of(p: Params, chip: &[u8], n: PBlock) -> &[u8]
@@ -56,16 +58,16 @@ fn only_begun(p: Params, fr: &[u8], j: usize) -> bool
     chip_erased::is_erased(&fr[a..])
 }
 
-// True if every page of a frame has the spare bytes of cluster c: the loop over most pages of a board, so it answers nothing else.
-fn all_right(p: Params, fr: &[u8], c: Cluster) -> bool
+// True if every page of a frame has the spare bytes that the label says: the loop over most pages of a board, so it answers nothing else.
+fn all_right(p: Params, fr: &[u8], of: Label) -> bool
     requires { ⌜ allowed p ≡ true ⌝ }
     requires { ⌜ length (now fr) ≡ frameBytes p ⌝ }
-    ensures { λ ok. ⌜ ok ≡ allBelow (p .alpha) (λ j. sameList (spare p (now (fr .entry)) j) (spareBytes (c .0) j)) ⌝ }
+    ensures { λ ok. ⌜ ok ≡ allBelow (p .alpha) (λ j. sameList (spare p (now (fr .entry)) j) (spareBytes (of .cluster .0) j (of .stamp) (of .vblock))) ⌝ }
 {
     let m = p.alpha;
     let mut j = 0;
     while j < m {
-        if !chip_spares::spare_right(p, fr, c, j) {
+        if !chip_spares::spare_right(p, fr, of, j) {
             return false;
         }
         j += 1;
@@ -73,18 +75,18 @@ fn all_right(p: Params, fr: &[u8], c: Cluster) -> bool
     true
 }
 
-// How many pages of a frame, from the first on, have the spare bytes of cluster c: up to the first that has not.
-fn right_pages(p: Params, fr: &[u8], c: Cluster) -> usize
+// How many pages of a frame, from the first on, have the spare bytes that the label says: up to the first that has not.
+fn right_pages(p: Params, fr: &[u8], of: Label) -> usize
     requires { ⌜ allowed p ≡ true ⌝ }
     requires { ⌜ length (now fr) ≡ frameBytes p ⌝ }
     ensures { λ k. ⌜ k ≤ p .alpha ⌝ }
-    ensures { λ k. ⌜ allBelow k (λ j. sameList (spare p (now (fr .entry)) j) (spareBytes (c .0) j)) ≡ true ⌝ }
-    ensures { λ k. ⌜ (k < p .alpha → sameList (spare p (now (fr .entry)) k) (spareBytes (c .0) k) ≡ false) ⌝ }
+    ensures { λ k. ⌜ allBelow k (λ j. sameList (spare p (now (fr .entry)) j) (spareBytes (of .cluster .0) j (of .stamp) (of .vblock))) ≡ true ⌝ }
+    ensures { λ k. ⌜ (k < p .alpha → sameList (spare p (now (fr .entry)) k) (spareBytes (of .cluster .0) k (of .stamp) (of .vblock)) ≡ false) ⌝ }
 {
     let m = p.alpha;
     let mut j = 0;
     while j < m {
-        if !chip_spares::spare_right(p, fr, c, j) {
+        if !chip_spares::spare_right(p, fr, of, j) {
             return j;
         }
         j += 1;
@@ -92,11 +94,12 @@ fn right_pages(p: Params, fr: &[u8], c: Cluster) -> usize
     j
 }
 
-// True if a frame is as programming leaves it, whole or in its first pages, with a cluster of region r.
-fn good_frame(p: Params, r: usize, fr: &[u8]) -> bool
+// True if a frame is as programming leaves it, whole or in its first pages, with a cluster of region r, in virtual block v, and with a stamp up to `last`.
+fn good_frame(p: Params, r: usize, v: VBlock, last: u32, fr: &[u8]) -> bool
     requires { ⌜ allowed p ≡ true ⌝ }
+    requires { ⌜ v .0 < p .gamma ⌝ }
     requires { ⌜ length (now fr) ≡ frameBytes p ⌝ }
-    ensures { λ ok. ⌜ ok ≡ goodFrame p r (now (fr .entry)) ⌝ }
+    ensures { λ ok. ⌜ ok ≡ fitFrame p r (v .0) last (now (fr .entry)) ⌝ }
 {
     let c = chip_spares::cluster_in(p, fr);
     if c.0 >= p.C {
@@ -105,8 +108,17 @@ fn good_frame(p: Params, r: usize, fr: &[u8]) -> bool
     if rules::region_of(p, c) != r {
         return false;
     }
-    if !all_right(p, fr, c) {
-        return only_begun(p, fr, right_pages(p, fr, c));
+    let t = chip_spares::stamp_in(p, fr);
+    if t > last {
+        return false;
+    }
+    let of = Label {
+        cluster: c,
+        stamp: t,
+        vblock: v.0 as u8,
+    };
+    if !all_right(p, fr, of) {
+        return only_begun(p, fr, right_pages(p, fr, of));
     }
     true
 }
@@ -170,18 +182,19 @@ pub fn is_full(p: Params, blk: &[u8]) -> bool
     chip_spares::is_programmed(p, frame_of(p, blk, f))
 }
 
-// How many frames, from the first on, are good frames of region r: up to the first that is not.
-fn good_frames(p: Params, r: usize, blk: &[u8]) -> usize
+// How many frames, from the first on, are such frames: up to the first that is not.
+fn good_frames(p: Params, r: usize, v: VBlock, last: u32, blk: &[u8]) -> usize
     requires { ⌜ allowed p ≡ true ⌝ }
+    requires { ⌜ v .0 < p .gamma ⌝ }
     requires { ⌜ length (now blk) ≡ blockBytes p ⌝ }
     ensures { λ k. ⌜ k ≤ frames p ⌝ }
-    ensures { λ k. ⌜ allBelow k (λ f. goodFrame p r (frame p (now (blk .entry)) f)) ≡ true ⌝ }
-    ensures { λ k. ⌜ (k < frames p → goodFrame p r (frame p (now (blk .entry)) k) ≡ false) ⌝ }
+    ensures { λ k. ⌜ allBelow k (λ f. fitFrame p r (v .0) last (frame p (now (blk .entry)) f)) ≡ true ⌝ }
+    ensures { λ k. ⌜ (k < frames p → fitFrame p r (v .0) last (frame p (now (blk .entry)) k) ≡ false) ⌝ }
 {
     let n = chip_sizes::frames(p);
     let mut f = 0;
     while f < n {
-        if !good_frame(p, r, frame_of(p, blk, f)) {
+        if !good_frame(p, r, v, last, frame_of(p, blk, f)) {
             return f;
         }
         f += 1;
@@ -201,13 +214,14 @@ fn rest_erased(p: Params, blk: &[u8], k: usize) -> bool
     chip_erased::is_erased(&blk[a..])
 }
 
-// How many frames of the block are programmed, if it is a used block of region r; 0 if it is not one.
-pub fn used_frames(p: Params, r: usize, blk: &[u8]) -> usize
+// How many frames of the block are programmed, if it is a used block of region r and virtual block v with stamps up to `last`; 0 if it is not one.
+pub fn used_frames(p: Params, r: usize, v: VBlock, last: u32, blk: &[u8]) -> usize
     requires { ⌜ allowed p ≡ true ⌝ }
+    requires { ⌜ v .0 < p .gamma ⌝ }
     requires { ⌜ length (now blk) ≡ blockBytes p ⌝ }
-    ensures { λ k. ⌜ k ≡ cond (blockRule p r (now (blk .entry))) (filled p (now (blk .entry))) 0 ⌝ }
+    ensures { λ k. ⌜ k ≡ cond (blockRule p r (v .0) (now (blk .entry)) && stampsTo p last (now (blk .entry))) (filled p (now (blk .entry))) 0 ⌝ }
 {
-    let k = good_frames(p, r, blk);
+    let k = good_frames(p, r, v, last, blk);
     if k == 0 {
         return 0;
     }
@@ -217,13 +231,14 @@ pub fn used_frames(p: Params, r: usize, blk: &[u8]) -> usize
     k
 }
 
-// True if the block is a used block of region r.
-pub fn block_ok(p: Params, r: usize, blk: &[u8]) -> bool
+// True if the block is a used block of region r and virtual block v, whatever its stamps.
+pub fn block_ok(p: Params, r: usize, v: VBlock, blk: &[u8]) -> bool
     requires { ⌜ allowed p ≡ true ⌝ }
+    requires { ⌜ v .0 < p .gamma ⌝ }
     requires { ⌜ length (now blk) ≡ blockBytes p ⌝ }
-    ensures { λ ok. ⌜ ok ≡ blockRule p r (now (blk .entry)) ⌝ }
+    ensures { λ ok. ⌜ ok ≡ blockRule p r (v .0) (now (blk .entry)) ⌝ }
 {
-    used_frames(p, r, blk) != 0
+    used_frames(p, r, v, rules::LAST_STAMP, blk) != 0
 }
 
 // Where a search ended, and how many spare areas of programmed frames it looked at on its way.

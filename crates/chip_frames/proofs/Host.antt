@@ -8,7 +8,7 @@ use native.Mathlib.Numerals.{add-one}
 use native.Mathlib.Omega.{arith}
 use native.Mathlib.Nat.{mod-eq-of-lt, le-mul-of-pos-right}
 use lib.Dec.{leb, ltb}
-use lib.ListN.{length, take, drop, replicate, length-append, length-take, length-drop, length-replicate, take-append-drop}
+use lib.ListN.{length, take, drop, replicate, length-append, length-take, length-drop, length-replicate}
 use borrow.Author.Tests.{leb-true, ltb-true}
 use Rattle.chip_pages.specs.Asked.{Blank, CopyAsked}
 use Rattle.loops.proofs.Lent.{width}
@@ -33,9 +33,12 @@ given-fits s off j count bytes e z =
 pub given-length : (s i : ℕ) (bytes : List ℕ) → i * s + s ≤ length bytes → length (take (i * s + s - i * s) (drop (i * s) bytes)) ≡ s
 given-length s i bytes h = rw width (unfold part in part-length s i bytes h)
 
-module _ (chip : List ℕ) (s q : ℕ) (kept : Bool) (old j off count : ℕ) (bytes : List ℕ) (c : ℕ) (f : PageAsked chip s q kept old j off count bytes c) where
+module _ (chip : List ℕ) (s q : ℕ) (kept : Bool) (old j off count : ℕ) (bytes : List ℕ) (f : PageAsked chip s q kept old j off count bytes) (c t v : ℕ) where
   pub blank : Blank chip (s + 16) q
   blank = record { small = omega (arith, f .small); fits = f .fits; clean = f .clean }
+
+  pub from-asked : CopyAsked chip (s + 16) old q
+  from-asked = record { page = blank; source = f .source }
 
   place-is : j % 256 ≡ j
   place-is = mod-eq-of-lt (f .low)
@@ -45,28 +48,28 @@ module _ (chip : List ℕ) (s q : ℕ) (kept : Bool) (old j off count : ℕ) (by
 
   pub given-done : (u : List ℕ) → leb off j && ltb j (off + count) ≡ true
       → u ≡ putPart (length (take ((j - off) * s + s - (j - off) * s) (drop ((j - off) * s) bytes)) + 16) q
-      (take ((j - off) * s + s - (j - off) * s) (drop ((j - off) * s) bytes) ++ spareBytes c (j % 256)) chip
-      → u ≡ putPart (s + 16) q (hostPage s off count bytes (pageSector s kept old chip) c j) chip
+      (take ((j - off) * s + s - (j - off) * s) (drop ((j - off) * s) bytes) ++ spareBytes c (j % 256) t v) chip
+      → u ≡ putPart (s + 16) q (hostPage s off count bytes (pageSector s kept old chip) c j t v) chip
   unfolding hostPage part
   given-done u e g = g ∙ rw (given-length s (j - off) bytes (given-fits s off j count bytes e (f .given)), width, place-is, e)
 
-  pub kept-done : (u : List ℕ) → leb off j && ltb j (off + count) ≡ false → kept ≡ true → u ≡ putPart (s + 16) q (part (s + 16) old chip) chip
-      → u ≡ putPart (s + 16) q (hostPage s off count bytes (pageSector s kept old chip) c j) chip
+  pub kept-done : (u : List ℕ) → leb off j && ltb j (off + count) ≡ false → kept ≡ true → u ≡ putPart (s + 16) q (take s (part (s + 16) old chip) ++ spareBytes c (j % 256) t v) chip
+      → u ≡ putPart (s + 16) q (hostPage s off count bytes (pageSector s kept old chip) c j t v) chip
   unfolding hostPage pageSector
-  kept-done u e k g = g ∙ rw (e, k, ← f .spares k, take-append-drop s (part (s + 16) old chip))
+  kept-done u e k g = g ∙ rw (e, k, place-is)
 
-  pub blank-done : (u : List ℕ) → leb off j && ltb j (off + count) ≡ false → kept ≡ false → u ≡ putPart (s + 16) q (replicate s 255 ++ spareBytes c (j % 256)) chip
-      → u ≡ putPart (s + 16) q (hostPage s off count bytes (pageSector s kept old chip) c j) chip
+  pub blank-done : (u : List ℕ) → leb off j && ltb j (off + count) ≡ false → kept ≡ false → u ≡ putPart (s + 16) q (replicate s 255 ++ spareBytes c (j % 256) t v) chip
+      → u ≡ putPart (s + 16) q (hostPage s off count bytes (pageSector s kept old chip) c j t v) chip
   unfolding hostPage pageSector
   blank-done u e k g = g ∙ rw (e, k, place-is)
 
 -- ---- the frame
 
-spare-length : (c j : ℕ) → length (spareBytes c j) ≡ 16
+spare-length : (c j t v : ℕ) → length (spareBytes c j t v) ≡ 16
 unfolding spareBytes bytes32
-spare-length c j = refl
+spare-length c j t v = refl
 
-module _ (chip : List ℕ) (s n to : ℕ) (kept : Bool) (old off count : ℕ) (bytes : List ℕ) (c : ℕ) (f : HostAsked chip s n to kept old off count bytes c) where
+module _ (chip : List ℕ) (s n to : ℕ) (kept : Bool) (old off count : ℕ) (bytes : List ℕ) (f : HostAsked chip s n to kept old off count bytes) (c t v : ℕ) where
   was-length : (j : ℕ) → j < n → length (sectorsOf s n kept old chip j) ≡ s
   unfolding sectorsOf
   was-length j h = go kept
@@ -78,22 +81,22 @@ module _ (chip : List ℕ) (s n to : ℕ) (kept : Bool) (old off count : ℕ) (b
       go true = simp length-take (omega (arith, page-length))
       go false = length-replicate s 255
 
-  pub page-whole : (j : ℕ) → j < n → length (hostPage s off count bytes (sectorsOf s n kept old chip j) c j) ≡ s + 16
+  pub page-whole : (j : ℕ) → j < n → length (hostPage s off count bytes (sectorsOf s n kept old chip j) c j t v) ≡ s + 16
   unfolding hostPage
   page-whole j h = go (leb off j && ltb j (off + count)) refl
     where
-      go : (t : Bool) → leb off j && ltb j (off + count) ≡ t → length (cond t (part s (j - off) bytes) (sectorsOf s n kept old chip j) ++ spareBytes c j) ≡ s + 16
+      go : (g : Bool) → leb off j && ltb j (off + count) ≡ g → length (cond g (part s (j - off) bytes) (sectorsOf s n kept old chip j) ++ spareBytes c j t v) ≡ s + 16
       go true e = rw (length-append, spare-length, part-length s (j - off) bytes (given-fits s off j count bytes e (f .given)))
       go false e = rw (length-append, spare-length, was-length j h)
 
   abbrev pub sheet : List ℕ
-  sheet = hostFrame s n off count bytes (sectorsOf s n kept old chip) c
+  sheet = hostFrame s n off count bytes (sectorsOf s n kept old chip) c t v
 
   pub frame-whole : length sheet ≡ n * (s + 16)
   unfolding hostFrame
   frame-whole = join-length (s + 16) n _ page-whole
 
-  page-is : (j : ℕ) → j < n → part (s + 16) j sheet ≡ hostPage s off count bytes (sectorsOf s n kept old chip j) c j
+  page-is : (j : ℕ) → j < n → part (s + 16) j sheet ≡ hostPage s off count bytes (sectorsOf s n kept old chip j) c j t v
   unfolding hostFrame
   page-is j h = join-part (s + 16) n _ page-whole j h
 
@@ -113,7 +116,7 @@ module _ (chip : List ℕ) (s n to : ℕ) (kept : Bool) (old off count : ℕ) (b
   old-page : (k : ℕ) → k < n → kept ≡ true → part (s + 16) (old * n + k) (written k) ≡ part (s + 16) k (part (n * (s + 16)) old chip)
   old-page k h e = run-other (s + 16) n to sheet chip (f .fits) frame-whole old k k (omega arith) h (f .apart e)
 
-  pub page-asked : (l : List ℕ) (k : ℕ) → k < n → l ≡ written k → PageAsked l s (to * n + k) kept (old * n + k) k off count bytes c
+  pub page-asked : (l : List ℕ) (k : ℕ) → k < n → l ≡ written k → PageAsked l s (to * n + k) kept (old * n + k) k off count bytes
   page-asked l k h e =
       let z : length l ≡ length chip = ap length e ∙ written-length k (omega arith) in
       record {
@@ -124,7 +127,6 @@ module _ (chip : List ℕ) (s n to : ℕ) (kept : Bool) (old off count : ℕ) (b
         clean = rw e (run-next (s + 16) n to sheet chip (f .fits) frame-whole k h ∙ rw (f .clean) (part-replicate (s + 16) k (n * (s + 16)) 255 (next (s + 16) k n h)));
         given = f .given;
         source = omega (arith, z, next (s + 16) k n h, f .source);
-        spares = λ t. rw (e, old-page k h t) (f .spares t k h);
       }
 
   sector-is : (l : List ℕ) (k : ℕ) → k < n → l ≡ written k → pageSector s kept (old * n + k) l ≡ sectorsOf s n kept old chip k
@@ -136,7 +138,7 @@ module _ (chip : List ℕ) (s n to : ℕ) (kept : Bool) (old off count : ℕ) (b
       go false t = refl
 
   pub page-done : (l u : List ℕ) (k : ℕ) → k < n → l ≡ written k
-      → u ≡ putPart (s + 16) (to * n + k) (hostPage s off count bytes (pageSector s kept (old * n + k) l) c k) l → u ≡ written (k + 1)
+      → u ≡ putPart (s + 16) (to * n + k) (hostPage s off count bytes (pageSector s kept (old * n + k) l) c k t v) l → u ≡ written (k + 1)
   page-done l u k h e g =
       g ∙ run-more (s + 16) n to sheet chip (f .fits) frame-whole l k _ e (rw (sector-is l k h e) (sym (page-is k h)))
 

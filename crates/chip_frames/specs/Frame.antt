@@ -4,7 +4,7 @@ use mathlib.Core.Path.{_≡_}
 use mathlib.Core.Bool.{Bool, true, false, _&&_, cond}
 use mathlib.Core.List.{List, [], _∷_, _++_}
 use Prim.Native.Nat.{ℕ, _+_, _-_, _*_, _≤_, _<_}
-use lib.ListN.{length, take, drop, replicate}
+use lib.ListN.{length, take, replicate}
 use lib.Dec.{leb, ltb}
 use Rattle.lists.specs.Below.{joinBelow}
 use Rattle.lists.specs.Parts.{part, putPart}
@@ -29,13 +29,13 @@ unfoldable pub sectorsOf : ℕ → ℕ → Bool → ℕ → List ℕ → ℕ →
 sectorsOf s n kept old chip j = cond kept (take s (part (s + 16) j (part (n * (s + 16)) old chip))) (replicate s 255)
 
 -- page j of the new cluster, with the sector `was` where none is given; and its frame
-unfoldable pub hostPage : ℕ → ℕ → ℕ → List ℕ → List ℕ → ℕ → ℕ → List ℕ
-hostPage s off count bytes was c j = cond (leb off j && ltb j (off + count)) (part s (j - off) bytes) was ++ spareBytes c j
+unfoldable pub hostPage : ℕ → ℕ → ℕ → List ℕ → List ℕ → ℕ → ℕ → ℕ → ℕ → List ℕ
+hostPage s off count bytes was c j t v = cond (leb off j && ltb j (off + count)) (part s (j - off) bytes) was ++ spareBytes c j t v
 
-unfoldable pub hostFrame : ℕ → ℕ → ℕ → ℕ → List ℕ → (ℕ → List ℕ) → ℕ → List ℕ
-hostFrame s n off count bytes was c = joinBelow n (λ j. hostPage s off count bytes (was j) c j)
+unfoldable pub hostFrame : ℕ → ℕ → ℕ → ℕ → List ℕ → (ℕ → List ℕ) → ℕ → ℕ → ℕ → List ℕ
+hostFrame s n off count bytes was c t v = joinBelow n (λ j. hostPage s off count bytes (was j) c j t v)
 
-pub record PageAsked (chip : List ℕ) (s q : ℕ) (kept : Bool) (old j off count : ℕ) (bytes : List ℕ) (c : ℕ) : Type 0 where
+pub record PageAsked (chip : List ℕ) (s q : ℕ) (kept : Bool) (old j off count : ℕ) (bytes : List ℕ) : Type 0 where
   pub small : s ≤ 512
   pub low : j < 256
   pub inside : off + count ≤ 256
@@ -43,10 +43,9 @@ pub record PageAsked (chip : List ℕ) (s q : ℕ) (kept : Bool) (old j off coun
   pub clean : part (s + 16) q chip ≡ replicate (s + 16) 255
   pub given : length bytes ≡ count * s
   pub source : old * (s + 16) + (s + 16) ≤ length chip
-  pub spares : kept ≡ true → drop s (part (s + 16) old chip) ≡ spareBytes c j
 
--- frame `to` is erased; the given sectors lie in the cluster; frame `old`, where it is kept, is another and has the cluster's spare bytes
-pub record HostAsked (chip : List ℕ) (s n to : ℕ) (kept : Bool) (old off count : ℕ) (bytes : List ℕ) (c : ℕ) : Type 0 where
+-- frame `to` is erased; the given sectors lie in the cluster; frame `old`, where it is kept, is another
+pub record HostAsked (chip : List ℕ) (s n to : ℕ) (kept : Bool) (old off count : ℕ) (bytes : List ℕ) : Type 0 where
   pub small : s ≤ 512
   pub few : n ≤ 256
   pub fits : to * (n * (s + 16)) + n * (s + 16) ≤ length chip
@@ -55,4 +54,3 @@ pub record HostAsked (chip : List ℕ) (s n to : ℕ) (kept : Bool) (old off cou
   pub clean : part (n * (s + 16)) to chip ≡ replicate (n * (s + 16)) 255
   pub source : old * (n * (s + 16)) + n * (s + 16) ≤ length chip
   pub apart : kept ≡ true → old ≡ to → ⊥
-  pub spares : kept ≡ true → (j : ℕ) → j < n → drop s (part (s + 16) j (part (n * (s + 16)) old chip)) ≡ spareBytes c j

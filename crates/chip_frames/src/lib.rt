@@ -7,7 +7,7 @@ ghost use lib.ListN.{length, take, drop, replicate};
 ghost use Rattle.rules.specs.Parameters.{allowed, frames};
 ghost use Rattle.chip_frames.specs.Frame.{FrameAsked, PageAsked, HostAsked, hostPage, pageSector, hostFrame, sectorsOf};
 ghost use Rattle.lists.specs.Parts.{part, putPart};
-use rules::Cluster;
+use rules::Label;
 use rules::PBlock;
 use rules::Params;
 
@@ -47,24 +47,25 @@ fn host_page(
     off: usize,
     count: usize,
     bytes: &[u8],
-    c: Cluster,
+    of: Label,
 )
-    requires { ⌜ PageAsked (now chip) s q kept old j off count (now bytes) (c .0) ⌝ }
-    ensures { λ _. ⌜ now (chip .exit) ≡ putPart (s + 16) q (hostPage s off count (now (bytes .entry)) (pageSector s kept old (now (chip .entry))) (c .0) j) (now (chip .entry)) ⌝ }
+    requires { ⌜ PageAsked (now chip) s q kept old j off count (now bytes) ⌝ }
+    ensures { λ _. ⌜ now (chip .exit) ≡ putPart (s + 16) q (hostPage s off count (now (bytes .entry)) (pageSector s kept old (now (chip .entry)))
+        (of .cluster .0) j (of .stamp) (of .vblock)) (now (chip .entry)) ⌝ }
 {
     let end = off + count;
     let given = (off <= j) & (j < end);
     if given {
         let a = (j - off) * s;
         let b = a + s;
-        chip_pages::program_at(chip, q, &bytes[a..b], c, (j % 256) as u8);
+        chip_pages::program_at(chip, q, &bytes[a..b], of, (j % 256) as u8);
         return;
     }
     if kept {
-        chip_pages::copy_at(chip, s + rules::SPARE_BYTES, old, q);
+        chip_pages::program_from(chip, s, old, q, of, (j % 256) as u8);
         return;
     }
-    chip_pages::program_blank_at(chip, q, s, c, (j % 256) as u8);
+    chip_pages::program_blank_at(chip, q, s, of, (j % 256) as u8);
 }
 
 // Frame `to` is programmed with a cluster: the given sectors from `off` on, and for the others those of frame `old`, 255 where there is none.
@@ -78,16 +79,17 @@ pub fn host_frame(
     off: usize,
     count: usize,
     bytes: &[u8],
-    c: Cluster,
+    of: Label,
 )
-    requires { ⌜ HostAsked (now chip) s n to kept old off count (now bytes) (c .0) ⌝ }
-    ensures { λ _. ⌜ now (chip .exit) ≡ putPart (n * (s + 16)) to (hostFrame s n off count (now (bytes .entry)) (sectorsOf s n kept old (now (chip .entry))) (c .0)) (now (chip .entry)) ⌝ }
+    requires { ⌜ HostAsked (now chip) s n to kept old off count (now bytes) ⌝ }
+    ensures { λ _. ⌜ now (chip .exit) ≡ putPart (n * (s + 16)) to (hostFrame s n off count (now (bytes .entry)) (sectorsOf s n kept old (now (chip .entry)))
+        (of .cluster .0) (of .stamp) (of .vblock)) (now (chip .entry)) ⌝ }
 {
     let x = old * n;
     let y = to * n;
     let mut k: usize = 0;
     while k < n {
-        host_page(chip, s, y + k, kept, x + k, k, off, count, bytes, c);
+        host_page(chip, s, y + k, kept, x + k, k, off, count, bytes, of);
         k += 1;
     }
 }

@@ -1,17 +1,17 @@
 -- Where a page stands on the chip; an erased page and what is put into it.
 -- Assumes nothing.
-use mathlib.Core.Path.{_≡_, sym, ap, _∙_}
+use mathlib.Core.Path.{_≡_, refl, sym, ap, _∙_}
 use mathlib.Core.List.{List, [], _++_, append-nil}
 use Prim.Native.Nat.{ℕ, _+_, _*_, _-_, _≤_, _<_}
 use native.Mathlib.Omega.{arith}
-use lib.ListN.{length, take, drop, replicate, length-append, length-replicate, replicate-append-replicate, drop-of-length-le}
-use lib.Seq.{drop-at, take-at}
+use lib.ListN.{length, take, drop, replicate, length-append, length-drop, length-replicate, length-take, replicate-append-replicate, drop-of-length-le}
+use lib.Seq.{drop-at, take-at, take-take}
 use Rattle.lists.specs.Parts.{part}
 use Rattle.lists.proofs.Parts.{next, part-length}
 use Rattle.rules.specs.declared.Params.{Params}
 use Rattle.rules.specs.Parameters.{pages, pageBytes, chipBytes}
 use Rattle.rules.specs.Traces.{pageAt}
-use Rattle.loops.proofs.Lent.{lent-part}
+use Rattle.loops.proofs.Lent.{lent, lent-part}
 
 -- ---- the end of a page
 
@@ -58,9 +58,31 @@ put-whole x page e =
     let d : drop (length x) page ≡ [] = drop-of-length-le page {i = length x} (omega (arith, e)) in
     rw (d, append-nil)
 
+-- what a buffer holds once bytes are put at its head
+pub put-held : (x rest r : List ℕ) → r ≡ x ++ rest → take (length x) r ≡ x
+put-held x rest r e = rw e (take-at x rest (length x) refl)
+
 -- what is held of a part
 pub held-part : (l r : List ℕ) (i w : ℕ) → i * w + w ≤ length l
     → take (length (take (i * w + w - i * w) (drop (i * w) l))) r ≡ take (i * w + w - i * w) (drop (i * w) l) → take w r ≡ part w i l
 held-part l r i w h e =
     let f : take (length (part w i l)) r ≡ part w i l = rw (lent-part w i l) at e in
     rw (part-length w i l h) at f
+
+-- what is held of the data bytes of a page
+module _ (l r : List ℕ) (i s : ℕ) (fits : i * (s + 16) + (s + 16) ≤ length l)
+    (e : take (length (take (i * (s + 16) + s - i * (s + 16)) (drop (i * (s + 16)) l))) r ≡ take (i * (s + 16) + s - i * (s + 16)) (drop (i * (s + 16)) l)) where
+  data-length : length (take s (drop (i * (s + 16)) l)) ≡ s
+  data-length = simp (length-take, length-drop) (omega arith)
+
+  data-is : take s r ≡ take s (drop (i * (s + 16)) l)
+  data-is =
+      let f : take (length (take s (drop (i * (s + 16)) l))) r ≡ take s (drop (i * (s + 16)) l) = rw (lent (i * (s + 16)) s l) at e in
+      rw data-length at f
+
+  pub held-data : take s r ≡ take s (part (s + 16) i l)
+  unfolding part
+  held-data = data-is ∙ sym (take-take s (s + 16) (drop (i * (s + 16)) l) (omega arith))
+
+  pub held-length : length (take s r) ≡ s
+  held-length = rw data-is data-length

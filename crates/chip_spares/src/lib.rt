@@ -1,31 +1,36 @@
 // The spare bytes of a page: what a program writes there, and what those of a frame say.
 ghost use mathlib.Core.Path.{_≡_};
 ghost use mathlib.Core.Bool.{true};
-ghost use Prim.Native.Nat.{_-_, _<_};
-ghost use lib.ListN.{length};
+ghost use Prim.Native.Nat.{ℕ, _-_, _<_};
+ghost use lib.ListN.{length, drop, take};
 ghost use Rattle.lists.specs.Parts.{sameList};
 ghost use Rattle.rules.specs.Parameters.{allowed, frameBytes};
-ghost use Rattle.rules.specs.Pages.{le32, spare, spareBytes, held, programmed, whole};
+ghost use Rattle.chip_words.specs.Words.{le};
+ghost use Rattle.rules.specs.Pages.{le32, spare, spareBytes, held, programmed, stampOf, whole};
 use rules::Cluster;
+use rules::Label;
 use rules::Params;
 
-// The spare bytes of a programmed page: its cluster, low byte first, and the sector's place in it; byte 5 stays 255, byte 6 is zero.
-pub fn spare_bytes(c: Cluster, place: u8) -> [u8; rules::SPARE_BYTES]
-    ensures { λ b. ⌜ b ≡ spareBytes (c .0) place ⌝ }
+// The spare bytes of a programmed page: its cluster, low byte first, and the sector's place in it; byte 5 stays 255, byte 6 is zero; then the stamp, low byte
+// first, and the virtual block.
+pub fn spare_bytes(of: Label, place: u8) -> [u8; rules::SPARE_BYTES]
+    ensures { λ b. ⌜ b ≡ spareBytes (of .cluster .0) place (of .stamp) (of .vblock) ⌝ }
 {
+    let c = of.cluster.0;
+    let t = of.stamp;
     [
-        (c.0 % 256) as u8,
-        (c.0 / 256 % 256) as u8,
-        (c.0 / 65536 % 256) as u8,
-        (c.0 / 16777216 % 256) as u8,
+        (c % 256) as u8,
+        (c / 256 % 256) as u8,
+        (c / 65536 % 256) as u8,
+        (c / 16777216 % 256) as u8,
         place,
         255,
         0,
-        255,
-        255,
-        255,
-        255,
-        255,
+        (t % 256) as u8,
+        (t / 256 % 256) as u8,
+        (t / 65536 % 256) as u8,
+        (t / 16777216 % 256) as u8,
+        of.vblock,
         255,
         255,
         255,
@@ -33,14 +38,20 @@ pub fn spare_bytes(c: Cluster, place: u8) -> [u8; rules::SPARE_BYTES]
     ]
 }
 
-// True if these 16 bytes and those are the same: two words each.
-fn same(a: &[u8], b: &[u8]) -> bool
-    requires { ⌜ length (now a) ≡ 16 ⌝ }
-    requires { ⌜ length (now b) ≡ 16 ⌝ }
-    ensures { λ ok. ⌜ ok ≡ sameList (now (a .entry)) (now (b .entry)) ⌝ }
+// Bytes 0 to 7 of these spare bytes as one number, low byte first: so many pages are compared with them that they are not written out as bytes there.
+fn first_word(of: Label, place: usize) -> usize
+    requires { ⌜ place < 256 ⌝ }
+    ensures { λ n. ⌜ n ≡ le (take 8 (spareBytes (of .cluster .0) place (of .stamp) (of .vblock))) ⌝ }
 {
-    (chip_words::word(a, 0) == chip_words::word(b, 0))
-        & (chip_words::word(a, 8) == chip_words::word(b, 8))
+    of.cluster.0 % 4294967296 + 4294967296 * (place + 65280 + 16777216 * (of.stamp % 256) as usize)
+}
+
+// Bytes 8 to 15, which are the same for every place.
+fn second_word(of: Label) -> usize
+    ensures { λ n. ⌜ ((c j : ℕ) → n ≡ le (take 8 (drop 8 (spareBytes c j (of .stamp) (of .vblock))))) ⌝ }
+    ensures { λ _. ⌜ of .vblock < 256 ⌝ }
+{
+    (of.stamp / 256) as usize + 16777216 * of.vblock as usize + 18446744069414584320
 }
 
 // The cluster that a frame's first page names.
@@ -52,6 +63,15 @@ pub fn cluster_in(p: Params, frame: &[u8]) -> Cluster
 {
     let n = chip_words::half(frame, p.s);
     Cluster(n)
+}
+
+// The stamp that a frame's first page has.
+pub fn stamp_in(p: Params, frame: &[u8]) -> u32
+    requires { ⌜ allowed p ≡ true ⌝ }
+    requires { ⌜ length (now frame) ≡ frameBytes p ⌝ }
+    ensures { λ t. ⌜ t ≡ stampOf p (now (frame .entry)) ⌝ }
+{
+    chip_words::half(frame, p.s + 7) as u32
 }
 
 // True if a frame is programmed.
@@ -85,16 +105,15 @@ pub fn is_whole(p: Params, frame: &[u8]) -> bool
     frame[a] == 0
 }
 
-// True if page j of a frame has the spare bytes of cluster c.
-pub fn spare_right(p: Params, frame: &[u8], c: Cluster, j: usize) -> bool
+// True if page j of a frame has the spare bytes that the label says.
+pub fn spare_right(p: Params, frame: &[u8], of: Label, j: usize) -> bool
     requires { ⌜ allowed p ≡ true ⌝ }
     requires { ⌜ length (now frame) ≡ frameBytes p ⌝ }
     requires { ⌜ j < p .alpha ⌝ }
-    ensures { λ ok. ⌜ ok ≡ sameList (spare p (now (frame .entry)) j) (spareBytes (c .0) j) ⌝ }
+    ensures { λ ok. ⌜ ok ≡ sameList (spare p (now (frame .entry)) j) (spareBytes (of .cluster .0) j (of .stamp) (of .vblock)) ⌝ }
 {
     let w = chip_sizes::page_bytes(p);
     let a = j * w + p.s;
-    let b = a + rules::SPARE_BYTES;
-    let m = spare_bytes(c, j as u8);
-    same(&frame[a..b], &m)
+    (chip_words::word(frame, a) == first_word(of, j))
+        & (chip_words::word(frame, a + 8) == second_word(of))
 }

@@ -76,7 +76,7 @@ bytes-drop n l p i = rw getD-drop (p (n + i))
 
 -- ---- eight bytes that are all 255
 
-ones-are-bytes : (n : ℕ) → Bytes (replicate n 255)
+pub ones-are-bytes : (n : ℕ) → Bytes (replicate n 255)
 ones-are-bytes zero i = omega arith
 ones-are-bytes (suc n) zero = omega arith
 ones-are-bytes (suc n) (suc i) = ones-are-bytes n i

@@ -13,7 +13,7 @@ use Rattle.rules.specs.declared.Params.{Params}
 use Rattle.rules.specs.declared.Reply.{Reply}
 use Rattle.rules.specs.declared.Reply.the-variants.{Accepted, BadAddress, TooFewBlocks}
 use Rattle.rules.specs.Tables.{Board, marksLength}
-use Rattle.rules.specs.Orderly.{blocksRule, ctRule, fstRule, marksRule, orderly, rulesOf}
+use Rattle.rules.specs.Orderly.{blocksRule, ctRule, fstRule, marksRule, orderly, rulesOf, stampRule}
 use Rattle.rules.specs.Traces.{Op}
 use Rattle.rules.specs.Requests.{Call, Request, format, lent, read, release, requestCluster, requestRegion, write}
 use Rattle.rules.specs.Format.{formatOps, formatted}
@@ -41,8 +41,8 @@ same-lengths p b long =
     (eqb (length (b .marks)) (marksLength p)) (eqb (length (b .stamps)) (p .mu) ∷ []) (eq-eqb _ _ long)
 
 same-order : (p : Params) (b : Board) → marksRule p b ≡ true → orderly p b ≡ oldOrderly p (oldOf b)
-unfolding orderly oldOrderly rulesOf blocksRule fstRule ctRule
-same-order p b right = passes (take 9 (rulesOf p b)) (marksRule p b) [] right
+unfolding orderly oldOrderly rulesOf blocksRule fstRule ctRule stampRule
+same-order p b right = passes (take 9 (rulesOf p b)) (marksRule p b) (stampRule p b ∷ []) right
 
 module _ (p : Params) (b : Board) (long : length (b .marks) ≡ marksLength p) where
   format-row : replyOf p b format ≡ oldReply p (oldOf b) (row (tooFewBlocks p (withoutMarks (oldOf b))) TooFewBlocks ∷ [])
@@ -83,7 +83,7 @@ unfolding looksAt
 same-looks p b q = refl
 
 plan-ops : (p : Params) (b : Board) (r : ℕ) (q : Request) (pl : Plan) → planOps p b r q pl ≡ planOps p (withoutMarks (oldOf b)) r q pl
-unfolding planOps roomOps planBlock eraseOps
+unfolding planOps roomOps planBlock eraseOps nextStamp
 plan-ops p b r q (continues v f) = refl
 plan-ops p b r q (opens v) = refl
 plan-ops p b r q (reclaims v) = refl

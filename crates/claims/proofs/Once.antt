@@ -30,7 +30,7 @@ not-blank p n q x h = go (so (allAre 255 x))
   where
     go : (allAre 255 x ≡ true) ⊎ (allAre 255 x ≡ false) → allAre 255 x ≡ false
     go (inl t) =
-        let z : _≡_ {A = ℕ} 0 255 = sym (((h .3) .2) .six) ∙ allAre-at 255 (drop (p .s) x) 6 (allAre-drop 255 (p .s) x t) in
+        let z : _≡_ {A = ℕ} 0 255 = sym (((h .3) .5) .six) ∙ allAre-at 255 (drop (p .s) x) 6 (allAre-drop 255 (p .s) x t) in
         absurd (omega arith)
     go (inr t) = t
 

@@ -23,20 +23,20 @@ use Rattle.rules.specs.declared.Reply.the-variants.{Accepted}
 use Rattle.rules.specs.Parameters.{frameBytes, frames, pageBytes, pages}
 use Rattle.rules.specs.Numbers.{regionOf}
 use Rattle.rules.specs.Tables.{Board, none}
-use Rattle.rules.specs.Pages.{bytes32, filled, frame, held, page, programmed, spare, spareBytes}
+use Rattle.rules.specs.Pages.{bytes32, filled, frame, held, page, programmed, spare, spareBytes, stampOf}
 use Rattle.rules.specs.Regions.{assigned, valid, validFrames, view}
 use Rattle.rules.specs.Traces.{erase, frameOps, framesOps, program}
 use Rattle.rules.specs.Format.{bad, formatOps}
-use Rattle.rules.specs.Write.{planErases, Plan, continues, copies, eraseOps, hasRoom, lowestUnassigned, newFrame, opens, planBlock, planFrame, planOf, planOps, planVBlock, reclaims, roomOps, writeOps}
+use Rattle.rules.specs.Write.{planErases, Plan, continues, copies, eraseOps, hasRoom, lowestUnassigned, newFrame, opens, planBlock, planFrame, planOf, planOps, planVBlock, reclaims, roomOps, writeOps, nextStamp}
 use Rattle.rules.specs.Replies.{replyOf}
 use Rattle.rules.specs.Words.{SpareListed}
 use Rattle.rules.specs.Requests.{Request, write, requestCluster, requestRegion}
-use Rattle.rules.proofs.Admitted.{admitted, write-checks}
+use Rattle.rules.proofs.Admitted.{admitted, write-checks, stamp-left}
 use Rattle.rules.proofs.Continues.{Makes}
 use Rattle.rules.proofs.Frames.{erased-not}
 use Rattle.rules.proofs.FramePut.{Sheet}
 use Rattle.rules.proofs.NewFrames.{host-sheet}
-use Rattle.rules.proofs.RegionFacts.{Neat, neat, good-all}
+use Rattle.rules.proofs.RegionFacts.{Neat, neat, good-all, good-stamp}
 use Rattle.rules.proofs.Replays.{one-fits}
 use Rattle.rules.proofs.Sizes.{Sizes}
 use Rattle.rules.proofs.TableFacts.{Tables}
@@ -60,12 +60,16 @@ format-fits p chip = fit-join p (p .N) _ (λ n h. go n h (bad p chip n))
 
 -- ---- a frame's programs
 
--- a whole frame whose pages all have the spare bytes of one cluster of the board
+-- a whole frame whose pages all have the spare bytes of one cluster of the board, one stamp and one virtual block
 pub record Whole (p : Params) (x : List ℕ) : Type 0 where
   pub whole : length x ≡ frameBytes p
   pub cluster : ℕ
   pub low : cluster < p .C
-  pub spares : (j : ℕ) → j < p .alpha → spare p x j ≡ spareBytes cluster j
+  pub stamp : ℕ
+  pub early : stamp < 4294967296
+  pub vblock : ℕ
+  pub mine : vblock < p .gamma
+  pub spares : (j : ℕ) → j < p .alpha → spare p x j ≡ spareBytes cluster j stamp vblock
 
 module _ (p : Params) (z : Sizes p) (n : ℕ) (low : n < p .N) where
   frame-fits : (f : ℕ) (x : List ℕ) → f < frames p → Whole p x → AllFit p (frameOps p n f x (p .alpha))
@@ -75,14 +79,14 @@ module _ (p : Params) (z : Sizes p) (n : ℕ) (low : n < p .N) where
       place : (j : ℕ) → j < p .alpha → (f * p .alpha + j) % p .alpha ≡ j
       place j k = rw mul-add-mod-self-right (mod-eq-of-lt k)
 
-      listed : (j : ℕ) → j < p .alpha → SpareListed (m .cluster) ((f * p .alpha + j) % p .alpha) (drop (p .s) (page p x j))
-      listed j k = rw (place j k) (unfold spare in (spares-exactly (m .cluster) j (omega (arith, m .low, z .clusters)) (spare p x j)) .0 (m .spares j k))
+      listed : (j : ℕ) → j < p .alpha → SpareListed (m .cluster) ((f * p .alpha + j) % p .alpha) (m .stamp) (m .vblock) (drop (p .s) (page p x j))
+      listed j k = rw (place j k) (unfold spare in (spares-exactly (m .cluster) j (m .stamp) (m .vblock) (omega (arith, m .low, z .clusters)) (m .early) (spare p x j)) .0 (m .spares j k))
 
       long : (j : ℕ) → j < p .alpha → length (page p x j) ≡ p .s + 16
       long j k = unfold page pageBytes in part-length (pageBytes p) j x (rw (m .whole) (unfold frameBytes in next (pageBytes p) j (p .alpha) k))
 
       one : (j : ℕ) → j < p .alpha → Fits p (program n (f * p .alpha + j) (page p x j))
-      one j k = (low, unfold pages in omega (arith, next (p .alpha) f (frames p) h), long j k, (m .cluster, m .low, listed j k))
+      one j k = (low, unfold pages in omega (arith, next (p .alpha) f (frames p) h), long j k, (m .cluster, m .stamp, m .vblock, m .low, m .mine, listed j k))
 
   frames-fit : (xs : List (List ℕ)) (to : ℕ) → to + length xs ≤ frames p → ((i : ℕ) → i < length xs → Whole p (getD xs i [])) → AllFit p (framesOps p n to xs)
   unfolding framesOps
@@ -116,7 +120,11 @@ module _ (p : Params) (z : Sizes p) (b : Board) (t : Tables p b) (r : ℕ) (regi
                     (one-fits p ((view p b r) .body v) f (body-size p z b t r v region mine a) h);
                 cluster = held p (frame p ((view p b r) .body v) f);
                 low = g .low;
-                spares = good-all p z r (frame p ((view p b r) .body v) f) g _ (valid-holds p z (view p b r) v f h w);
+                stamp = stampOf p (frame p ((view p b r) .body v) f);
+                early = good-stamp p z r v (frame p ((view p b r) .body v) f) g;
+                vblock = v;
+                mine = mine;
+                spares = good-all p z r v (frame p ((view p b r) .body v) f) g _ (valid-holds p z (view p b r) v f h w);
               }
           pick (no k) = absurd (never (w .written) (erased-not p _ ((nt .blocks v mine a) .1 .rest f (omega arith) h)))
 
@@ -175,8 +183,18 @@ write-fits p b q e =
     let nt = neat p r (view p b r) (acc .tidy r region) in
     let pl = planOf p (view p b r) in
     let m : Makes p b r pl = makes p (acc .sized) b (acc .tables) r region nt in
-    let sh : Sheet p (requestCluster p q) (newFrame p (view p b r) q) =
-    host-sheet p (acc .sized) (view p b r) (λ v h a. body-size p (acc .sized) b (acc .tables) r v region h a) q (acc .asked) (nt .entries (requestCluster p q) (acc .asked .cluster)) in
+    let sh : Sheet p (planVBlock pl) (requestCluster p q) (newFrame p (view p b r) q (nextStamp b r) (planVBlock pl)) =
+    host-sheet p (acc .sized) (view p b r) (λ v h a. body-size p (acc .sized) b (acc .tables) r v region h a) q (acc .asked) (nt .entries (requestCluster p q) (acc .asked .cluster))
+    (nextStamp b r) (planVBlock pl) (stamp-left p b q e) in
     fit-append p (roomOps p b r pl) _ (room-fits p (acc .sized) b (acc .tables) r region nt pl refl m)
-    (frame-fits p (acc .sized) (planBlock p b r pl) (m .room .low) (planFrame p (view p b r) pl) (newFrame p (view p b r) q) (m .base .ready .low)
-    (record { whole = sh .whole; cluster = requestCluster p q; low = acc .asked .cluster; spares = sh .spares }))
+    (frame-fits p (acc .sized) (planBlock p b r pl) (m .room .low) (planFrame p (view p b r) pl) (newFrame p (view p b r) q (nextStamp b r) (planVBlock pl)) (m .base .ready .low)
+    (record {
+      whole = sh .whole;
+      cluster = requestCluster p q;
+      low = acc .asked .cluster;
+      stamp = sh .stamp;
+      early = sh .early;
+      vblock = planVBlock pl;
+      mine = m .base .ready .mine;
+      spares = sh .spares;
+    }))

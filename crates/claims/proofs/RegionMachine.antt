@@ -19,7 +19,7 @@ use Rattle.rules.specs.Tables.{Board, stampAt}
 use Rattle.rules.specs.Regions.{View, looksAt, looksIn, sector, sectorIn, view}
 use Rattle.rules.specs.Traces.{erasesIn, programsIn}
 use Rattle.rules.specs.Requests.{Call, Request, format, queue, read, release, requestCluster, requestOf, requestRegion, write}
-use Rattle.rules.specs.Write.{planErases, copies, planOf}
+use Rattle.rules.specs.Write.{copies, nextStamp, planErases, planOf}
 use Rattle.rules.specs.Machine.{viewAfter, without}
 use Rattle.rules.specs.Replies.{OrderlyBoard, accessRows, badCount, isAccepted, replyOf, wrongData}
 use Rattle.rules.specs.Calls.{Outcome, Part, answerOf, outcomeOf, readBytes}
@@ -71,7 +71,7 @@ stateBy : Params → State → Call → State
 stateBy p st format = st
 stateBy p st (read q) = st
 stateBy p st (release c) = cond (isAccepted (clusterReply p c)) (record { vw = without (st .vw) c; stamp = st .stamp }) st
-stateBy p st (write q) = cond (isAccepted (writeReply p (st .stamp) q)) (record { vw = viewAfter p (st .vw) q; stamp = st .stamp + 1 }) st
+stateBy p st (write q) = cond (isAccepted (writeReply p (st .stamp) q)) (record { vw = viewAfter p (st .vw) (st .stamp + 1) q; stamp = st .stamp + 1 }) st
 stateBy p st (queue l) = st
 
 -- over a list of requests
@@ -129,7 +129,7 @@ module _ (p : Params) (b : Board) (ordered : OrderlyBoard p b) where
       go (inr e) = rw e (refused-told (write q) (writeReply p (stampAt (b .stamps) r) q) e reply)
 
   write-own : (r : ℕ) (q : Request) → r < p .mu → requestRegion p q ≡ r → stateOf p (leaves p b (write q)) r ≡ stateBy p (stateOf p b r) (write q)
-  unfolding stateBy
+  unfolding stateBy stampAt nextStamp
   write-own r q low is = go (reply-cases (writeReply p (stampAt (b .stamps) r) q))
     where
       reply : replyOf p b (write q) ≡ writeReply p (stampAt (b .stamps) r) q

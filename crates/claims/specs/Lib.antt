@@ -3,3 +3,4 @@ pub mod Conditions
 pub mod Requests
 pub mod OldForm
 pub mod Frames
+pub mod Stamps

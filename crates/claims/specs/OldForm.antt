@@ -6,7 +6,7 @@ use mathlib.Core.Path.{_≡_}
 use mathlib.Core.Bool.{Bool, true, not, cond}
 use mathlib.Core.List.{List, [], _∷_, _++_}
 use lib.Dec.{eqb}
-use lib.ListN.{length, take}
+use lib.ListN.{drop, length, take}
 use Rattle.lists.specs.Below.{allTrue}
 use Rattle.rules.specs.declared.Params.{Params}
 use Rattle.rules.specs.declared.Reply.{Reply}
@@ -40,9 +40,9 @@ oldOf b = record { chip = b .chip; ct = b .ct; bt = b .bt; fst = b .fst; bst = b
 abbrev pub withoutMarks : OldBoard → Board
 withoutMarks o = boardOf (o .chip) (o .ct) (o .bt) (o .fst) (o .bst) (o .wear) [] (o .stamps)
 
--- the nine rules, the lengths and the rows without it
+-- the other ten rules, the lengths and the rows without it
 unfoldable pub oldOrderly : Params → OldBoard → Bool
-oldOrderly p o = allTrue (take 9 (rulesOf p (withoutMarks o)))
+oldOrderly p o = allTrue (take 9 (rulesOf p (withoutMarks o)) ++ drop 10 (rulesOf p (withoutMarks o)))
 
 unfoldable pub oldLengths : Params → OldBoard → Bool
 oldLengths p o =

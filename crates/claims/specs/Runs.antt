@@ -96,9 +96,10 @@ erasesBlock n (program m q x ∷ os) = erasesBlock n os
 erasesBlock n (erase m ∷ os) = eqb m n || erasesBlock n os
 
 -- an operation fits the chip: a program is of a page of the chip, and of a whole page with the spare bytes that document 01 lists, for a cluster of the
--- board and the page's place in its frame; an erase is of a block of the chip
+-- board, the page's place in its frame, a stamp and a virtual block; an erase is of a block of the chip
 abbrev pub Fits : Params → Op → Type 0
-Fits p (program n q x) = (n < p .N) × (q < pages p) × (length x ≡ p .s + 16) × ((c : ℕ) × (c < p .C) × SpareListed c (q % p .alpha) (drop (p .s) x))
+Fits p (program n q x) = (n < p .N) × (q < pages p) × (length x ≡ p .s + 16)
+    × ((c : ℕ) × (t : ℕ) × (v : ℕ) × (c < p .C) × (v < p .gamma) × SpareListed c (q % p .alpha) t v (drop (p .s) x))
 Fits p (erase n) = n < p .N
 
 abbrev pub AllFit : Params → List Op → Type 0

@@ -40,7 +40,7 @@ module _ (p : Params) (z : Sizes p) (r : ℕ) (vw : View) (neat : Neat p r vw) (
   unfolding frameAt validFrames
   nth i h = keep-nth (frames p) (valid p vw (i / m)) (i % m) 0 (omega (arith, least (i / m) (block-low i h), keep-length (frames p) (valid p vw (i / m)), mod-lt i some))
 
-  good : (i : ℕ) → i < p .gamma * m → GoodFrame p r (frame p (vw .body (i / m)) (frameAt i))
+  good : (i : ℕ) → i < p .gamma * m → GoodFrame p r (i / m) (frame p (vw .body (i / m)) (frameAt i))
   good i h = good-at p z vw r neat full every (i / m) (frameAt i) (block-low i h) ((nth i h) .0)
 
   same : (i j : ℕ) → i < p .gamma * m → j < p .gamma * m → clusterAt i ≡ clusterAt j → i ≡ j

@@ -24,11 +24,11 @@ use Rattle.rules.specs.Regions.{View, assigned, validFrames, view}
 use Rattle.rules.specs.Requests.{Request, format, requestCluster, requestRegion, write}
 use Rattle.rules.specs.Format.{formatted}
 use Rattle.rules.specs.Release.{released}
-use Rattle.rules.specs.Write.{Plan, hasRoom, lowestUnassigned, newFrame, planErases, planFrame, planOf, planVBlock, victim, written}
+use Rattle.rules.specs.Write.{Plan, hasRoom, lowestUnassigned, newFrame, planErases, planFrame, planOf, planVBlock, victim, written, nextStamp}
 use Rattle.rules.specs.Machine.{viewAfter, withFrame, withRoom, without}
 use Rattle.rules.specs.Replies.{replyOf}
 use Rattle.rules.specs.Words.{OpensListed, PlanListed, ReclaimsListed}
-use Rattle.rules.proofs.Admitted.{Admitted, admitted, write-checks}
+use Rattle.rules.proofs.Admitted.{Admitted, admitted, write-checks, stamp-left}
 use Rattle.rules.proofs.Continues.{Makes}
 use Rattle.rules.proofs.FormatPromise.{lacks}
 use Rattle.rules.proofs.FramePut.{Sheet, body-old}
@@ -120,21 +120,24 @@ module _ (p : Params) (b : Board) (q : Request) (e : replyOf p b (write q) ≡ A
   low : f < frames p
   low = made .base .ready .low
 
-  sheet : Sheet p (requestCluster p q) (newFrame p before q)
-  sheet = own-sheet p b q acc
+  abbrev x : List ℕ
+  x = newFrame p before q (nextStamp b r) v
 
-  is-put : after ≡ withFrame p (withRoom p before plan) v f (requestCluster p q) (newFrame p before q)
+  sheet : Sheet p v (requestCluster p q) x
+  sheet = own-sheet p b q acc (nextStamp b r) v (stamp-left p b q e)
+
+  is-put : after ≡ withFrame p (withRoom p before plan) v f (requestCluster p q) x
   unfolding viewAfter
   is-put = (write-promise p b q e) .own
 
   -- the frames up to the new one are programmed in its block, and every other block is as it was
   here : filled p (after .body v) ≡ suc f
-  here = rw is-put (filled-new p (acc .sized) r (withRoom p before plan) v f (requestCluster p q) (newFrame p before q) (made .base) sheet (acc .asked .cluster) refl)
+  here = rw is-put (filled-new p (acc .sized) r (withRoom p before plan) v f (requestCluster p q) x (made .base) sheet (acc .asked .cluster) refl)
 
   elsewhere : (u : ℕ) → (u ≡ v → ⊥) → after .body u ≡ before .body u
   elsewhere u ne =
       rw is-put
-      (body-old p (acc .sized) (withRoom p before plan) v f (requestCluster p q) (newFrame p before q) (made .base .ready) sheet u ne ∙ made .room .bodyElse u ne)
+      (body-old p (acc .sized) (withRoom p before plan) v f (requestCluster p q) x (made .base .ready) sheet u ne ∙ made .room .bodyElse u ne)
 
   -- so the room changes by what its block's does
   one-block : room p after + (frames p - filled p (before .body v)) ≡ room p before + (frames p - filled p (after .body v))

@@ -32,14 +32,14 @@ pub marked-valid : (p : Params) (vw : View) (v f : ℕ) → f < frames p → mar
 unfolding marked
 marked-valid p vw v f h = rw (lt-ltb f (frames p) h)
 
-module _ (p : Params) (z : Sizes p) (vw : View) (v f c : ℕ) (x : List ℕ) (ready : Ready p vw v f) (sheet : Sheet p c x) where
+module _ (p : Params) (z : Sizes p) (vw : View) (v f c : ℕ) (x : List ℕ) (ready : Ready p vw v f) (sheet : Sheet p v c x) where
   held-new : held p (frame p ((withFrame p vw v f c x) .body v) f) ≡ c
-  held-new = rw (frame-new p z vw v f c x ready sheet) (right-held p x c (sheet .spares 0 (z .sectors)) (sheet .small))
+  held-new = rw (frame-new p z vw v f c x ready sheet) (right-held p x c (sheet .stamp) v (sheet .spares 0 (z .sectors)) (sheet .small))
 
   new-valid : Valid p (withFrame p vw v f c x) v f
   new-valid =
       record {
-        written = rw (frame-new p z vw v f c x ready sheet) (right-programmed p x c (sheet .spares 0 (z .sectors)));
+        written = rw (frame-new p z vw v f c x ready sheet) (right-programmed p x c (sheet .stamp) v (sheet .spares 0 (z .sectors)));
         names = rw held-new (seg-new p z vw v f c x ready sheet);
         last = rw held-new (last-new p z vw v f c x ready sheet);
       }

@@ -11,8 +11,8 @@ use Rattle.rules.specs.declared.Reply.the-variants.{Accepted}
 use Rattle.rules.specs.Regions.{View, view}
 use Rattle.rules.specs.Replies.{replyOf}
 use Rattle.rules.specs.Tables.{Board}
-use Rattle.rules.specs.Write.{Plan, newFrame, planFrame, planOf, planVBlock, written}
-use Rattle.rules.proofs.Admitted.{Admitted, admitted, write-checks}
+use Rattle.rules.specs.Write.{Plan, newFrame, planFrame, planOf, planVBlock, written, nextStamp}
+use Rattle.rules.proofs.Admitted.{Admitted, admitted, write-checks, stamp-left}
 use Rattle.rules.proofs.Continues.{Makes}
 use Rattle.rules.proofs.FramePut.{Sheet}
 use Rattle.rules.proofs.NewFrames.{host-sheet}
@@ -51,8 +51,9 @@ module _ (p : Params) (b : Board) (q : Request) (e : replyOf p b (write q) ≡ A
   makes-room : Makes p b r pl
   makes-room = makes p (acc .sized) b (acc .tables) r region tidy
 
-  sheet : Sheet p (requestCluster p q) (newFrame p vw q)
+  sheet : Sheet p (planVBlock pl) (requestCluster p q) (newFrame p vw q (nextStamp b r) (planVBlock pl))
   sheet = host-sheet p (acc .sized) vw (λ v h a. body-size p (acc .sized) b (acc .tables) r v region h a) q (acc .asked) (tidy .entries (requestCluster p q) (acc .asked .cluster))
+      (nextStamp b r) (planVBlock pl) (stamp-left p b q e)
 
   mark-at : (r′ v f : ℕ) → r′ < p .mu → v < p .gamma → marksOn p (written p b q) r′ v f ≡ writtenMarks p b q (marksOn p b) r′ v f
   unfolding marksIn writtenMarks putMark
@@ -68,7 +69,7 @@ module _ (p : Params) (b : Board) (q : Request) (e : replyOf p b (write q) ≡ A
                 (base-fronts p (acc .sized) r (withRoom p vw pl) (planVBlock pl) (planFrame p vw pl) (makes-room .base)) (makes-room .base .entries (requestCluster p q) (acc .asked .cluster)) v f low
                 (room-marks p (acc .sized) b (acc .tables) r region tidy (marksOn p b) v f refl),
           )
-          (unfold viewAfter in frame-marks p (acc .sized) (withRoom p vw pl) (planVBlock pl) (planFrame p vw pl) (requestCluster p q) (newFrame p vw q) (makes-room .base .ready) sheet v f)
+          (unfold viewAfter in frame-marks p (acc .sized) (withRoom p vw pl) (planVBlock pl) (planFrame p vw pl) (requestCluster p q) (newFrame p vw q (nextStamp b r) (planVBlock pl)) (makes-room .base .ready) sheet v f)
       go (no k) =
           rw ((write-promise p b q e) .isolated r′ h k, ne-eqb r′ r k)
           (sym (old-elsewhere p (acc .sized) (withRoom p vw pl) r (requestCluster p q) (roomMarks p vw r pl (marksOn p b)) r′ v f k ∙ room-elsewhere p vw r pl (marksOn p b) r′ v f k))

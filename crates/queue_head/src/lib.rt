@@ -43,7 +43,7 @@ pub fn head_of(
             items: 0,
         };
     }
-    let state = replies::state_reply(p, chip, ct, bt, fst, bst, marks);
+    let state = replies::state_reply(p, chip, ct, bt, fst, bst, marks, stamps);
     Head {
         reply: board,
         ordered: rules::number(state) == 0,

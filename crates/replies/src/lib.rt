@@ -53,13 +53,15 @@ pub fn state_reply(
     fst: &[u16],
     bst: &[u8],
     marks: &[u64],
+    stamps: &[u32],
 ) -> Reply
     requires { ⌜ Lengths p (now chip) (now ct) (now bt) (now fst) (now bst) ⌝ }
     requires { ⌜ length (now marks) ≡ marksLength p ⌝ }
-    ensures { λ r. ⌜ ((wear stamps : List ℕ) → r ≡ firstRow Reply.Accepted
-        (orderRow p (boardOf (now (chip .entry)) (now (ct .entry)) (now (bt .entry)) (now (fst .entry)) (now (bst .entry)) wear (now (marks .entry)) stamps))) ⌝ }
+    requires { ⌜ length (now stamps) ≡ p .mu ⌝ }
+    ensures { λ r. ⌜ ((wear : List ℕ) → r ≡ firstRow Reply.Accepted
+        (orderRow p (boardOf (now (chip .entry)) (now (ct .entry)) (now (bt .entry)) (now (fst .entry)) (now (bst .entry)) wear (now (marks .entry)) (now (stamps .entry))))) ⌝ }
 {
-    if check_board::in_order(p, chip, ct, bt, fst, bst, marks) {
+    if check_board::in_order(p, chip, ct, bt, fst, bst, marks, stamps) {
         return Reply::Accepted;
     }
     Reply::NotOrderly
@@ -90,7 +92,7 @@ pub fn read_reply(
     if rules::number(asked) != 0 {
         return asked;
     }
-    state_reply(p, chip, ct, bt, fst, bst, marks)
+    state_reply(p, chip, ct, bt, fst, bst, marks, stamps)
 }
 
 // The reply to a write of them: a read's, and 9 where its region has no stamp left.
@@ -152,7 +154,7 @@ pub fn release_reply(
     if reply_rows::bad_cluster(p, c) {
         return Reply::BadAddress;
     }
-    state_reply(p, chip, ct, bt, fst, bst, marks)
+    state_reply(p, chip, ct, bt, fst, bst, marks, stamps)
 }
 
 // The reply to the question why a sector reads so.
@@ -177,7 +179,7 @@ pub fn why_reply(
     if reply_rows::bad_address(p, lba) {
         return Reply::BadAddress;
     }
-    state_reply(p, chip, ct, bt, fst, bst, marks)
+    state_reply(p, chip, ct, bt, fst, bst, marks, stamps)
 }
 
 // The reply to a format.

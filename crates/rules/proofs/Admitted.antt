@@ -19,7 +19,7 @@ use Rattle.rules.specs.Numbers.{regionOf, sectorOf}
 use Rattle.rules.specs.Tables.{Board, stampAt}
 use Rattle.rules.specs.Regions.{view, viewOf}
 use Rattle.rules.specs.Marks.{marksOf}
-use Rattle.rules.specs.Orderly.{blocksRule, clusterRule, ctRule, fstRule, orderly, regionBlocks, regionFst, rulesOf}
+use Rattle.rules.specs.Orderly.{blocksRule, clusterRule, ctRule, fstRule, orderly, regionBlocks, regionFst, rulesOf, stampRule}
 use Rattle.rules.specs.Format.{goodBlocks}
 use Rattle.rules.specs.Replies.{
   Row,
@@ -42,16 +42,18 @@ use Rattle.rules.specs.Replies.{
   wrongData,
   wrongLength,
 }
+use Rattle.rules.specs.Write.{nextStamp}
 use Rattle.rules.specs.Requests.{Request, requestCluster, requestRegion, format, read, release, write}
 use Rattle.rules.proofs.RegionFacts.{regionOrderly}
 use Rattle.rules.proofs.Sizes.{Sizes, sizes}
-use Rattle.rules.proofs.TableFacts.{Tables, orderly-out, tables-in}
+use Rattle.rules.proofs.Stamps.{Bounded, stamps-in}
+use Rattle.rules.proofs.TableFacts.{Tables, nine-in, nine-out, nineRules, orderly-nine, tables-in}
 
 -- ---- the rules of one region, and of all
 
-pub orderly-region : (p : Params) (b : Board) → orderly p b ≡ true → (r : ℕ) → r < p .mu → regionOrderly p r (view p b r) ≡ true
-unfolding orderly rulesOf blocksRule fstRule ctRule regionOrderly
-orderly-region p b h r low =
+pub nine-region : (p : Params) (b : Board) → nineRules p b ≡ true → (r : ℕ) → r < p .mu → regionOrderly p r (view p b r) ≡ true
+unfolding nineRules rulesOf blocksRule fstRule ctRule regionOrderly
+nine-region p b h r low =
     all-true _ (
       all-at (p .mu) (λ r. regionBlocks p r (view p b r)) ((truths _ h) .1 .1 .1 .1 .1 .1 .0) r low,
       (all-at (p .mu) (λ r. regionFst p (view p b r)) ((truths _ h) .1 .1 .1 .1 .1 .1 .1 .0) r low, (all-below-intro (p .C) _ (λ c k. cluster c k (ℕ-discrete (regionOf p c) r)), tt)),
@@ -61,14 +63,20 @@ orderly-region p b h r low =
     cluster c k (yes e) = rw e at (all-at (p .C) (λ c. clusterRule p (view p b (regionOf p c)) c) ((truths _ h) .1 .1 .1 .1 .1 .1 .1 .1 .0) c k)
     cluster c k (no e) = unfold clusterRule viewOf in rw (ne-eqb (regionOf p c) r e)
 
-pub orderly-all : (p : Params) (b : Board) → Sizes p → Tables p b → ((r : ℕ) → r < p .mu → regionOrderly p r (view p b r) ≡ true) → b .marks ≡ marksOf p b → orderly p b ≡ true
+pub orderly-region : (p : Params) (b : Board) → orderly p b ≡ true → (r : ℕ) → r < p .mu → regionOrderly p r (view p b r) ≡ true
+orderly-region p b h r low = nine-region p b (nine-in p b h) r low
+
+pub nine-all : (p : Params) (b : Board) → Sizes p → Tables p b → ((r : ℕ) → r < p .mu → regionOrderly p r (view p b r) ≡ true) → nineRules p b ≡ true
 unfolding blocksRule fstRule ctRule regionOrderly
-orderly-all p b z t h m =
-    orderly-out p b t
+nine-all p b z t h =
+    nine-out p b t
     (all-below-intro (p .mu) _ (λ r k. (truths _ (h r k)) .0))
     (all-below-intro (p .mu) _ (λ r k. (truths _ (h r k)) .1 .0))
     (all-below-intro (p .C) _ (λ c k. all-at (p .C) (clusterRule p (view p b (regionOf p c))) ((truths _ (h (regionOf p c) (mod-lt c (z .regions)))) .1 .1 .0) c k))
-    m
+
+pub orderly-all : (p : Params) (b : Board) → Sizes p → Tables p b → ((r : ℕ) → r < p .mu → regionOrderly p r (view p b r) ≡ true) → b .marks ≡ marksOf p b
+    → stampRule p b ≡ true → orderly p b ≡ true
+orderly-all p b z t h m s = orderly-nine p b (nine-all p b z t h) m s
 
 -- ---- the reply table
 
@@ -91,6 +99,7 @@ pub record Admitted (p : Params) (b : Board) (q : Request) : Type 0 where
   pub lengths : lengthsFit p b ≡ true
   pub tables : Tables p b
   pub tidy : (r : ℕ) → r < p .mu → regionOrderly p r (view p b r) ≡ true
+  pub stamped : (r : ℕ) → r < p .mu → Bounded p (view p b r) (stampAt (b .stamps) r)
   pub asked : Asked p q
 
 pub asked-in : (p : Params) (q : Request) → Sizes p → badCount p q ≡ false → badAddress p (q .lba) ≡ false → wrongData p q ≡ false → Asked p q
@@ -141,7 +150,11 @@ write-checks p b q e = (rows-checks p b q (stampRow p b q) e) .0
 -- its region has a stamp left
 pub write-left : (p : Params) (b : Board) (q : Request) → replyOf p b (write q) ≡ Accepted → stampAt (b .stamps) (requestRegion p q) < 4294967295
 unfolding replyOf rowsOf stampRow firstRow noStampLeft
-write-left p b q e = leb-false _ _ ((passed (noStampLeft b (requestRegion p q)) _ _ (λ x. omega arith) ((rows-checks p b q (stampRow p b q) e) .1)) .0)
+write-left p b q e = leb-false _ _ ((passed (noStampLeft (stampAt (b .stamps) (requestRegion p q))) _ _ (λ x. omega arith) ((rows-checks p b q (stampRow p b q) e) .1)) .0)
+
+pub stamp-left : (p : Params) (b : Board) (q : Request) → replyOf p b (write q) ≡ Accepted → nextStamp b (requestRegion p q) < 4294967296
+unfolding nextStamp
+stamp-left p b q e = omega (arith, write-left p b q e)
 
 pub admitted : (p : Params) (b : Board) (q : Request) → Checks p b q → Admitted p b q
 admitted p b q c =
@@ -152,6 +165,7 @@ admitted p b q c =
       lengths = c .lengths;
       tables = tables-in p b (c .lengths) (c .tidy);
       tidy = orderly-region p b (c .tidy);
+      stamped = stamps-in p b (c .tidy);
       asked = asked-in p q z (c .count) (c .address) (c .given);
     }
 

@@ -28,7 +28,7 @@ use Rattle.rules.specs.Format.{bad, badMark, formatted}
 use Rattle.rules.specs.Write.{Plan, planOf, written}
 use Rattle.rules.specs.Replies.{OrderlyBoard, replyOf}
 use Rattle.rules.specs.Requests.{Request, format, requestCluster, requestRegion, write}
-use Rattle.rules.proofs.Admitted.{Admitted, admitted, format-admitted, orderly-region, write-checks}
+use Rattle.rules.proofs.Admitted.{Admitted, admitted, format-admitted, orderly-region, write-checks, stamp-left}
 use Rattle.rules.proofs.Continues.{Makes}
 use Rattle.rules.proofs.FormatPromise.{format-bad, format-good}
 use Rattle.rules.proofs.Opens.{fresh-all, fresh-size}
@@ -68,24 +68,24 @@ module _ (p : Params) (blk : List ℕ) (whole : length blk ≡ blockBytes p) whe
   frame-spare f j h = ap (drop (p .s)) (part-part (pageBytes p) (p .alpha) f j blk h)
 
   -- and in each page of a block whose first k frames are programmed and whose rest is erased: by its frame and its place there
-  frame-fifth : (r k : ℕ) → UpTo p r k blk → (f j : ℕ) → f < frames p → j < p .alpha → f * p .alpha + j < pages p → getD (spare p blk (f * p .alpha + j)) 5 0 ≡ 255
-  frame-fifth r k u f j lf lj h = go (decLt f k)
+  frame-fifth : (r v k : ℕ) → UpTo p r v k blk → (f j : ℕ) → f < frames p → j < p .alpha → f * p .alpha + j < pages p → getD (spare p blk (f * p .alpha + j)) 5 0 ≡ 255
+  frame-fifth r v k u f j lf lj h = go (decLt f k)
     where
       go : Dec (f < k) → getD (spare p blk (f * p .alpha + j)) 5 0 ≡ 255
       go (yes a) = used (u .front f a lf) (decLt j (usedPages p (frame p blk f)))
         where
-          used : GoodFrame p r (frame p blk f) → Dec (j < usedPages p (frame p blk f)) → getD (spare p blk (f * p .alpha + j)) 5 0 ≡ 255
+          used : GoodFrame p r v (frame p blk f) → Dec (j < usedPages p (frame p blk f)) → getD (spare p blk (f * p .alpha + j)) 5 0 ≡ 255
           used g (yes m) = rw (← frame-spare f j lj, g .spares j m lj) (unfold spareBytes bytes32 in refl)
           used g (no m) = erased-fifth (f * p .alpha + j) h (rw (← frame-spare f j lj) (unfold spare in allAre-drop 255 (p .s) _ (g .blank j (omega arith) lj)))
       go (no a) = erased-fifth (f * p .alpha + j) h (rw (← frame-spare f j lj)
           (unfold spare page in allAre-drop 255 (p .s) _ (allAre-part 255 (pageBytes p) j (frame p blk f) (u .rest f (omega arith) lf))))
 
   -- by its number
-  used-fifth : Sizes p → (r k : ℕ) → UpTo p r k blk → (q : ℕ) → q < pages p → getD (spare p blk q) 5 0 ≡ 255
-  used-fifth z r k u q h =
+  used-fifth : Sizes p → (r v k : ℕ) → UpTo p r v k blk → (q : ℕ) → q < pages p → getD (spare p blk q) 5 0 ≡ 255
+  used-fifth z r v k u q h =
       let e : q / p .alpha * p .alpha + q % p .alpha ≡ q = div-add-mod' q (p .alpha) in
       let low : q / p .alpha < frames p = div-lt-iff-lt-mul (z .sectors) .1 (unfold pages in omega arith) in
-      rw e at (frame-fifth r k u (q / p .alpha) (q % p .alpha) low (mod-lt q (z .sectors)) (rw e h))
+      rw e at (frame-fifth r v k u (q / p .alpha) (q % p .alpha) low (mod-lt q (z .sectors)) (rw e h))
 
 -- ---- bad blocks
 
@@ -128,7 +128,7 @@ module _ (p : Params) (b : Board) (o : OrderlyBoard p b) where
       go (inl a) =
           let u = (neat p r (view p b r) (orderly-region p b (o .tidy) r region)) .blocks v low a in
           let body = body-some p z b tables r v region low some in
-          fifths-good p (b .chip) n z (used-fifth p (block p (b .chip) n) (whole n h) z r _ (rw (body, e) at (u .1)))
+          fifths-good p (b .chip) n z (used-fifth p (block p (b .chip) n) (whole n h) z r v _ (rw (body, e) at (u .1)))
       go (inr a) = absurd (some (no-block p z b tables r v region low (z .some) a))
 
   -- so is one that BT names
@@ -189,7 +189,7 @@ module _ (p : Params) (b : Board) (q : Request) (e : replyOf p b (write q) ≡ A
       after = let w = write-promise p b q e in record { fine = acc .fine; lengths = w .lengths; tidy = w .orderlyLeft }
 
       go : Dec (bstAt (b .bst) n ≡ 2) → bad p ((written p b q) .chip) n ≡ bad p (b .chip) n
-      go (yes k) = bytes-bad p (b .chip) ((written p b q) .chip) n (reserved-bytes p b q acc (requestRegion p q) refl plan room n h k)
+      go (yes k) = bytes-bad p (b .chip) ((written p b q) .chip) n (reserved-bytes p b q acc (requestRegion p q) refl plan room (stamp-left p b q e) n h k)
       go (no k) =
-          unreserved-good p (written p b q) after n h (eqb-false _ _ (sym (reserved-same p b q acc (requestRegion p q) refl plan room n h) ∙ ne-eqb (bstAt (b .bst) n) 2 k))
+          unreserved-good p (written p b q) after n h (eqb-false _ _ (sym (reserved-same p b q acc (requestRegion p q) refl plan room (stamp-left p b q e) n h) ∙ ne-eqb (bstAt (b .bst) n) 2 k))
           ∙ sym (unreserved-good p b before n h k)

@@ -47,7 +47,7 @@ pub record Put (p : Params) (b b′ : Board) (r v n f c : ℕ) (x chip₁ ct₁ 
   pub fst : b′ .fst ≡ set (b .fst) r (segmentOf p v f)
 
 module _ (p : Params) (z : Sizes p) (b b′ : Board) (t : Tables p b) (r v n f c : ℕ) (x chip₁ ct₁ : List ℕ) (vw₁ : View) (room : Room p b r v n chip₁ ct₁ vw₁)
-    (put : Put p b b′ r v n f c x chip₁ ct₁) (region : r < p .mu) (cluster : c < p .C) (mine : regionOf p c ≡ r) (ready : Ready p vw₁ v f) (sheet : Sheet p c x) where
+    (put : Put p b b′ r v n f c x chip₁ ct₁) (region : r < p .mu) (cluster : c < p .C) (mine : regionOf p c ≡ r) (ready : Ready p vw₁ v f) (sheet : Sheet p v c x) where
   chip-fits : n * blockBytes p + blockBytes p ≤ length chip₁
   chip-fits = rw (room .chipLength) (next (blockBytes p) n (p .N) (room .low))
 

@@ -7,7 +7,7 @@ use mathlib.Core.List.{List, [], _∷_}
 use Rattle.lists.specs.Parts.{sameList}
 use Rattle.lists.proofs.Tests.{and-left, and-right}
 use Rattle.lists.proofs.Joins.{sameList→eq}
-use Rattle.rules.specs.BoardT.{sessionT, outputT, markedCases, asSaid, begunCases, begunSaid, sameLists}
+use Rattle.rules.specs.BoardT.{sessionT, outputT, markedCases, asSaid, sixthSpares, sixthSaid, begunCases, begunSaid, sameLists}
 use Rattle.rules.proofs.Names.{all-boardT}
 
 sameLists→eq : (x y : List (List ℕ)) → sameLists x y ≡ true → x ≡ y
@@ -25,6 +25,14 @@ marked-test = refl
 -- (a) to (j)
 pub marked-cases : markedCases ≡ asSaid
 marked-cases = sameLists→eq markedCases asSaid marked-test
+
+sixth-test : sameLists sixthSpares sixthSaid ≡ true
+unfolding all-boardT
+sixth-test = refl
+
+-- T-07: the spare bytes of the sixth write's frames
+pub sixth-spares : sixthSpares ≡ sixthSaid
+sixth-spares = sameLists→eq sixthSpares sixthSaid sixth-test
 
 begun-test : sameLists begunCases begunSaid ≡ true
 unfolding all-boardT

@@ -22,10 +22,10 @@ use Rattle.rules.specs.Pages.{block, frame, page}
 use Rattle.rules.specs.Regions.{View, assigned, validFrames, view}
 use Rattle.rules.specs.Traces.{Op, erase, frameOps, framesOps, onChip, program, replayChip}
 use Rattle.rules.specs.Requests.{Request, requestCluster, requestRegion}
-use Rattle.rules.specs.Write.{copies, eraseOps, freeBlock, hasRoom, newFrame, planBlock, planErases, planFrame, planOf, planOps, planVBlock, reclaims, roomOps, writeOps}
+use Rattle.rules.specs.Write.{copies, eraseOps, freeBlock, hasRoom, newFrame, nextStamp, planBlock, planErases, planFrame, planOf, planOps, planVBlock, reclaims, roomOps, writeOps}
 use Rattle.rules.specs.Machine.{withRoom}
 use Rattle.rules.specs.Words.{CopiesStand, PlanListed}
-use Rattle.rules.proofs.Admitted.{admitted, write-checks}
+use Rattle.rules.proofs.Admitted.{admitted, stamp-left, write-checks}
 use Rattle.rules.proofs.Chip.{block-other, frame-put, replay-append, run-length}
 use Rattle.rules.proofs.Continues.{Makes}
 use Rattle.rules.proofs.Isolation.{index-low}
@@ -151,7 +151,8 @@ no-room p vw v e = go (so (hasRoom p vw))
     go (inr h) = h
 
 module _ (p : Params) (z : Sizes p) (b : Board) (t : Tables p b) (r : ℕ) (region : r < p .mu) (nt : Neat p r (view p b r)) (full : hasRoom p (view p b r) ≡ false)
-    (every : (u : ℕ) → u < p .gamma → assigned (view p b r) u ≡ true) (v : ℕ) (m : Makes p b r (reclaims v)) (q : Request) (whole : length (newFrame p (view p b r) q) ≡ frameBytes p) where
+    (every : (u : ℕ) → u < p .gamma → assigned (view p b r) u ≡ true) (v : ℕ) (m : Makes p b r (reclaims v)) (q : Request)
+    (whole : length (newFrame p (view p b r) q (nextStamp b r) v) ≡ frameBytes p) where
   -- the block that is taken, and the victim's
   new : ℕ
   new = freeBlock p (b .bst) (b .wear)
@@ -182,7 +183,7 @@ module _ (p : Params) (z : Sizes p) (b : Board) (t : Tables p b) (r : ℕ) (regi
   making = roomOps p b r (reclaims v)
 
   adding : List Op
-  adding = frameOps p new (length (validFrames p (view p b r) v)) (newFrame p (view p b r) q) (p .alpha)
+  adding = frameOps p new (length (validFrames p (view p b r) v)) (newFrame p (view p b r) q (nextStamp b r) v) (p .alpha)
 
   -- these are the plan's operations
   making-is : making ≡ copying ++ erase old ∷ []
@@ -190,7 +191,7 @@ module _ (p : Params) (z : Sizes p) (b : Board) (t : Tables p b) (r : ℕ) (regi
   making-is = refl
 
   all-is : planOps p b r q (reclaims v) ≡ making ++ adding
-  unfolding making adding new planOps planBlock planFrame
+  unfolding making adding new planOps planBlock planFrame planVBlock
   all-is = refl
 
   -- valid frame i of the victim stands on a chip, where it was or as its copy
@@ -234,7 +235,7 @@ module _ (p : Params) (z : Sizes p) (b : Board) (t : Tables p b) (r : ℕ) (regi
       fits = unfold making in rw (m .room .chipLength) (next (blockBytes p) new (p .N) (unfold new in (free-block p z b t) .0))
 
       from : AllFrom p new (length (validFrames p (view p b r) v)) adding
-      from = unfold adding in frame-from p new _ (length (validFrames p (view p b r) v)) (newFrame p (view p b r) q) (omega arith) few whole (p .alpha) (omega arith)
+      from = unfold adding in frame-from p new _ (length (validFrames p (view p b r) v)) (newFrame p (view p b r) q (nextStamp b r) v) (omega arith) few whole (p .alpha) (omega arith)
 
   -- so at any time
   plan-stands : (k i : ℕ) → i < length (validFrames p (view p b r) v) → Stands (replayChip p (b .chip) (take k (planOps p b r q (reclaims v)))) i
@@ -258,5 +259,5 @@ copies-stand p b q e v is k i l =
     let nt = neat p r (view p b r) (a .tidy r region) in
     let m : Makes p b r (reclaims v) = rw is at (makes p z b (a .tables) r region nt) in
     let listed : PlanListed p (view p b r) (reclaims v) = rw is at (plan-exactly p b (record { fine = c .fine; lengths = c .lengths; tidy = c .tidy }) r region) in
-    let sh = host-sheet p z (view p b r) (λ u h s. body-size p z b (a .tables) r u region h s) q (a .asked) (nt .entries (requestCluster p q) (a .asked .cluster)) in
+    let sh = host-sheet p z (view p b r) (λ u h s. body-size p z b (a .tables) r u region h s) q (a .asked) (nt .entries (requestCluster p q) (a .asked .cluster)) (nextStamp b r) v (stamp-left p b q e) in
     rw is (unfold old new in plan-stands p z b (a .tables) r region nt (no-room p (view p b r) v is) (listed .every) v m q (sh .whole) k i l)

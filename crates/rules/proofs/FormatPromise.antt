@@ -22,7 +22,7 @@ use Rattle.rules.specs.Pages.{block}
 use Rattle.rules.specs.Regions.{assigned, bodyAt, sector, sectorIn, view, viewOf}
 use Rattle.rules.specs.Marks.{marksOf}
 use Rattle.rules.specs.Requests.{format}
-use Rattle.rules.specs.Orderly.{orderly}
+use Rattle.rules.specs.Orderly.{orderly, stampRule}
 use Rattle.rules.specs.Traces.{erase, replayChip}
 use Rattle.rules.specs.Format.{bad, formatOps, formatted, goodBlocks}
 use Rattle.rules.specs.Replies.{lengthsFit, replyOf}
@@ -33,6 +33,7 @@ use Rattle.rules.proofs.Opens.{fresh-all}
 use Rattle.rules.proofs.RegionFacts.{neat-none, regionOrderly}
 use Rattle.rules.proofs.Replays.{erase-ran}
 use Rattle.rules.proofs.Sizes.{Sizes, sizes}
+use Rattle.rules.proofs.Stamps.{programmed-has, stamps-out}
 use Rattle.rules.proofs.TableFacts.{Lengths, Tables, lengths-in, lengths-out}
 use Rattle.rules.proofs.Writes.{wear-length}
 
@@ -160,8 +161,12 @@ module _ (p : Params) (b : Board) (e : replyOf p b format ≡ Accepted) where
   unfolding formatted
   format-marks = refl
 
+  -- no frame is programmed, so none has a stamp
+  format-stamps : stampRule p (formatted p b) ≡ true
+  format-stamps = stamps-out p (formatted p b) (λ r hr v f hv hf w. absurd (never (programmed-has p (view p (formatted p b) r) v f w) (lacks r v)))
+
   pub format-orderly : orderly p (formatted p b) ≡ true
-  format-orderly = orderly-all p (formatted p b) z tables (λ r h. empty-region r) format-marks
+  format-orderly = orderly-all p (formatted p b) z tables (λ r h. empty-region r) format-marks format-stamps
 
   pub format-lengths : lengthsFit p (formatted p b) ≡ true
   format-lengths = lengths-out p (formatted p b) tables format-marks

@@ -18,10 +18,10 @@ use Rattle.rules.specs.declared.Params.{Params}
 use Rattle.rules.specs.Parameters.{blockBytes, frameBytes, frames}
 use Rattle.rules.specs.Numbers.{placeOf, segmentOf, vblockOf}
 use Rattle.rules.specs.Tables.{none}
-use Rattle.rules.specs.Pages.{frame, held, holds, lastIn, page, spare, spareBytes, whole}
+use Rattle.rules.specs.Pages.{frame, held, holds, lastIn, page, spare, spareBytes, stampOf, whole}
 use Rattle.rules.specs.Regions.{View, frameOf, sectorIn}
 use Rattle.rules.specs.Machine.{withFrame}
-use Rattle.rules.proofs.Frames.{erased-holds, right-cluster, right-held, right-used, seg-low, seg-place, seg-vblock}
+use Rattle.rules.proofs.Frames.{erased-holds, right-cluster, right-held, right-stamp, right-used, seg-low, seg-place, seg-vblock}
 use Rattle.rules.proofs.Sizes.{Sizes}
 
 -- frame f of virtual block v is the next to be written
@@ -31,15 +31,21 @@ pub record Ready (p : Params) (vw : View) (v f : ℕ) : Type 0 where
   pub size : length (vw .body v) ≡ blockBytes p
   pub rest : (g : ℕ) → f ≤ g → g < frames p → allAre 255 (frame p (vw .body v) g) ≡ true
 
--- a whole frame with the spare bytes of cluster c
-pub record Sheet (p : Params) (c : ℕ) (x : List ℕ) : Type 0 where
+-- a whole frame with the spare bytes of cluster c, in virtual block v, and one stamp
+pub record Sheet (p : Params) (v c : ℕ) (x : List ℕ) : Type 0 where
   pub whole : length x ≡ frameBytes p
   pub small : c < 4294967296
-  pub spares : (j : ℕ) → j < p .alpha → spare p x j ≡ spareBytes c j
+  pub stamp : ℕ
+  pub early : stamp < 4294967296
+  pub spares : (j : ℕ) → j < p .alpha → spare p x j ≡ spareBytes c j stamp v
 
-module _ (p : Params) (z : Sizes p) (c : ℕ) (x : List ℕ) (sheet : Sheet p c x) where
+module _ (p : Params) (z : Sizes p) (v c : ℕ) (x : List ℕ) (sheet : Sheet p v c x) where
   pub sheet-held : held p x ≡ c
-  sheet-held = right-held p x c (sheet .spares 0 (z .sectors)) (sheet .small)
+  sheet-held = right-held p x c (sheet .stamp) v (sheet .spares 0 (z .sectors)) (sheet .small)
+
+  pub sheet-stamp : stampOf p x ≡ sheet .stamp
+  unfolding stampOf
+  sheet-stamp = right-stamp p x 0 c (sheet .stamp) v (sheet .spares 0 (z .sectors)) (sheet .early)
 
   last-page : p .alpha - 1 < p .alpha
   last-page = omega (arith, z .sectors)
@@ -48,8 +54,8 @@ module _ (p : Params) (z : Sizes p) (c : ℕ) (x : List ℕ) (sheet : Sheet p c 
   unfolding holds whole
   sheet-holds d =
       rw (
-        right-used p x (p .alpha - 1) c (sheet .spares (p .alpha - 1) last-page),
-        right-cluster p x (p .alpha - 1) c (sheet .spares (p .alpha - 1) last-page) (sheet .small),
+        right-used p x (p .alpha - 1) c (sheet .stamp) v (sheet .spares (p .alpha - 1) last-page),
+        right-cluster p x (p .alpha - 1) c (sheet .stamp) v (sheet .spares (p .alpha - 1) last-page) (sheet .small),
       )
 
 -- the cluster's CT entry, if any, names a segment that holds it
@@ -64,7 +70,7 @@ last-holds p z blk k c h =
     let t = (last-passes none (frames p) (λ f. eqb (f / p .beta) k && holds p (frame p blk f) c) (λ n. omega (arith, z .short))) .0 in
     (eqb-true _ k (and-left (eqb (lastIn p blk k c / p .beta) k) _ t), and-right (eqb (lastIn p blk k c / p .beta) k) t)
 
-module _ (p : Params) (z : Sizes p) (vw : View) (v f c : ℕ) (x : List ℕ) (ready : Ready p vw v f) (sheet : Sheet p c x) where
+module _ (p : Params) (z : Sizes p) (vw : View) (v f c : ℕ) (x : List ℕ) (ready : Ready p vw v f) (sheet : Sheet p v c x) where
   fits : f * frameBytes p + frameBytes p ≤ length (vw .body v)
   unfolding blockBytes
   fits = rw (ready .size) (next (frameBytes p) f (frames p) (ready .low))
@@ -82,7 +88,7 @@ module _ (p : Params) (z : Sizes p) (vw : View) (v f c : ℕ) (x : List ℕ) (re
   unfolding lastIn
   last-new =
       last-is none (frames p) _ f (ready .low)
-      (rw (frame-new, eq-eqb (f / p .beta) (f / p .beta) refl, sheet-holds p z c x sheet c, eq-eqb c c refl))
+      (rw (frame-new, eq-eqb (f / p .beta) (f / p .beta) refl, sheet-holds p z v c x sheet c, eq-eqb c c refl))
       (λ g a b. rw (frame-old g (omega arith), erased-holds p (frame p (vw .body v) g) c (ready .rest g (omega arith) b)) (none-pass (eqb (g / p .beta) (f / p .beta))))
     where
       none-pass : (t : Bool) → t && false ≡ false
@@ -96,7 +102,7 @@ module _ (p : Params) (z : Sizes p) (vw : View) (v f c : ℕ) (x : List ℕ) (re
     where
       go : Dec (g ≡ f) → holds p (frame p ((withFrame p vw v f c x) .body v) g) c′ ≡ holds p (frame p (vw .body v) g) c′
       go (yes e) =
-          rw (e, frame-new, erased-holds p (frame p (vw .body v) f) c′ (ready .rest f (omega arith) (ready .low)), sheet-holds p z c x sheet c′) (ne-eqb c c′ (λ k. ne (sym k)))
+          rw (e, frame-new, erased-holds p (frame p (vw .body v) f) c′ (ready .rest f (omega arith) (ready .low)), sheet-holds p z v c x sheet c′) (ne-eqb c c′ (λ k. ne (sym k)))
       go (no e) = rw (frame-old g e)
 
   pub last-old : (c′ : ℕ) → (c′ ≡ c → ⊥) → (k : ℕ) → lastIn p ((withFrame p vw v f c x) .body v) k c′ ≡ lastIn p (vw .body v) k c′

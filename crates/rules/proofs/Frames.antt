@@ -2,7 +2,7 @@
 -- Assumes nothing.
 use mathlib.Core.Path.{_≡_, sym, ap, _∙_}
 use Prim.Native.Nat.{ℕ, _+_, _-_, _*_, _/_, _%_, _<_}
-use native.Mathlib.Nat.{mul-add-div-right, div-eq-of-lt, div-lt-iff-lt-mul, mul-add-mod-self-right, mod-eq-of-lt, add-zero, div-div-eq-div-mul, div-add-mod'}
+use native.Mathlib.Nat.{mul-add-div-right, div-eq-of-lt, div-lt-iff-lt-mul, mul-add-mod-self-right, mod-eq-of-lt, add-zero, div-div-eq-div-mul, div-add-mod', mod-lt}
 use native.Mathlib.Omega.{arith}
 use mathlib.Core.Bool.{true, false, _&&_}
 use mathlib.Core.List.{List}
@@ -13,7 +13,7 @@ use Rattle.lists.proofs.Parts.{next}
 use Rattle.rules.specs.declared.Params.{Params}
 use Rattle.rules.specs.Parameters.{frames, pageBytes}
 use Rattle.rules.specs.Numbers.{placeOf, segmentOf, vblockOf}
-use Rattle.rules.specs.Pages.{bytes32, held, holds, le32, page, pageUsed, programmed, spare, spareBytes, whole}
+use Rattle.rules.specs.Pages.{bytes32, held, holds, le32, page, pageUsed, programmed, spare, spareBytes, stampOf, whole}
 use Rattle.rules.proofs.Sizes.{Sizes}
 
 -- ---- segments
@@ -45,8 +45,18 @@ le-bytes c h =
     (div-add-mod' c 256) (div-add-mod' (c / 256) 256) (div-add-mod' (c / 256 / 256) 256) h in
     rw (e₁, e₂, mod-eq-of-lt (r .0)) (r .1)
 
--- a page with the spare bytes of cluster c
-module _ (p : Params) (x : List ℕ) (j c : ℕ) (marked : spare p x j ≡ spareBytes c j) where
+-- four bytes make a number of 32 bits
+pub le-small : (t : ℕ) → le32 (bytes32 t) < 4294967296
+unfolding bytes32 le32
+le-small t =
+    let a : t % 256 < 256 = mod-lt t (omega arith) in
+    let b : t / 256 % 256 < 256 = mod-lt (t / 256) (omega arith) in
+    let c : t / 65536 % 256 < 256 = mod-lt (t / 65536) (omega arith) in
+    let d : t / 16777216 % 256 < 256 = mod-lt (t / 16777216) (omega arith) in
+    omega (arith, a, b, c, d)
+
+-- a page with the spare bytes of cluster c, stamp t and virtual block v
+module _ (p : Params) (x : List ℕ) (j c t v : ℕ) (marked : spare p x j ≡ spareBytes c j t v) where
   pub right-used : pageUsed p x j ≡ true
   unfolding pageUsed spareBytes bytes32
   right-used = rw marked
@@ -55,14 +65,22 @@ module _ (p : Params) (x : List ℕ) (j c : ℕ) (marked : spare p x j ≡ spare
   unfolding spareBytes bytes32 le32
   right-cluster h = rw marked (le-bytes c h)
 
-module _ (p : Params) (x : List ℕ) (c : ℕ) (marked : spare p x 0 ≡ spareBytes c 0) where
+  pub right-stamp-is : le32 (drop 7 (spare p x j)) ≡ le32 (bytes32 t)
+  unfolding spareBytes bytes32 le32
+  right-stamp-is = rw marked
+
+  pub right-stamp : t < 4294967296 → le32 (drop 7 (spare p x j)) ≡ t
+  unfolding bytes32 le32
+  right-stamp h = right-stamp-is ∙ le-bytes t h
+
+module _ (p : Params) (x : List ℕ) (c t v : ℕ) (marked : spare p x 0 ≡ spareBytes c 0 t v) where
   pub right-programmed : programmed p x ≡ true
   unfolding programmed
-  right-programmed = right-used p x 0 c marked
+  right-programmed = right-used p x 0 c t v marked
 
   pub right-held : c < 4294967296 → held p x ≡ c
   unfolding held
-  right-held h = right-cluster p x 0 c marked h
+  right-held h = right-cluster p x 0 c t v marked h
 
 -- an erased page is not programmed
 pub page-not : (p : Params) (fr : List ℕ) (j : ℕ) → allAre 255 (page p fr j) ≡ true → pageUsed p fr j ≡ false

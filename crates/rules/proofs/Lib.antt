@@ -14,6 +14,7 @@ pub mod Isolation
 pub mod Views
 pub mod BoardPut
 pub mod RegionFacts
+pub mod Stamps
 pub mod Admitted
 pub mod RegionKept
 pub mod NewFrames

@@ -51,7 +51,7 @@ module _ (p : Params) (z : Sizes p) (r : ℕ) (vw : View) (nt : Neat p r vw) (c 
   v-low : v < p .gamma
   v-low = div-lt-iff-lt-mul (z .segments) .1 (e .low)
 
-  up : UpTo p r k blk
+  up : UpTo p r v k blk
   up = (nt .blocks v v-low (e .has)) .1
 
   written : (f : ℕ) → f < k → programmed p (frame p blk f) ≡ true

@@ -4,7 +4,7 @@ use Rattle.lists.specs.Below.{allBelow, allTrue, countBelow, firstBelow, lastBe
 use Rattle.lists.specs.Parts.{part, putPart, allAre, sameList}
 use Rattle.rules.specs.Parameters.{frames, pages, pageBytes, frameBytes, blockBytes, chipBytes, perRegion, within, allowed}
 use Rattle.rules.specs.Tables.{ctAt, btEntry, btAt, fstAt, bstAt, wearAt, wordAt, stampAt}
-use Rattle.rules.specs.Pages.{block, frame, page, spare, le32, bytes32, spareBytes, held, pageUsed, programmed, whole, holds, filled, lastIn, programmedDownTo}
+use Rattle.rules.specs.Pages.{block, frame, page, spare, le32, bytes32, spareBytes, held, stampOf, pageUsed, programmed, whole, holds, filled, lastIn, programmedDownTo}
 use Rattle.rules.specs.Regions.{bodyAt, viewOf, assigned, valid, validFrames, frameOf, sectorIn, sector, looksIn, looksAt}
 use Rattle.rules.specs.Marks.{wordOf, entryOf, tableOf, marked, marksIn}
 use Rattle.rules.specs.Orderly.{
@@ -30,6 +30,9 @@ use Rattle.rules.specs.Orderly.{
   clusterRule,
   ctRule,
   marksRule,
+  stampsTo,
+  regionStamps,
+  stampRule,
   rulesOf,
   orderly,
 }
@@ -107,6 +110,9 @@ use Rattle.rules.specs.BoardT.{
   paramsJ,
   markedCases,
   asSaid,
+  sixthSpares,
+  spareT,
+  sixthSaid,
   begunT,
   begunCases,
   begunSaid,
@@ -116,9 +122,9 @@ use Rattle.rules.specs.BoardT.{
 -- what the calls are defined by
 unfoldable pub all-rules : Unit {0}
 unfolding allBelow allTrue countBelow firstBelow lastBelow leastBelow keepBelow joinBelow listBelow bitsBelow updated part putPart allAre sameList frames pages pageBytes
-    frameBytes blockBytes chipBytes perRegion within allowed ctAt btEntry btAt fstAt bstAt wearAt wordAt stampAt block frame page spare le32 bytes32 spareBytes held pageUsed programmed whole holds
+    frameBytes blockBytes chipBytes perRegion within allowed ctAt btEntry btAt fstAt bstAt wearAt wordAt stampAt block frame page spare le32 bytes32 spareBytes held stampOf pageUsed programmed whole holds
     filled lastIn programmedDownTo bodyAt viewOf assigned valid validFrames frameOf sectorIn sector looksIn looksAt wordOf entryOf tableOf marked marksIn bstRule btRule
-    onceRule named usedRule roomRule freeRule usedPages goodPages goodFrame goodUpTo blockRule regionBlocks blocksRule fullRule openRule regionFst fstRule entryRule clusterRule ctRule marksRule
+    onceRule named usedRule roomRule freeRule usedPages goodPages goodFrame goodUpTo blockRule regionBlocks blocksRule fullRule openRule regionFst fstRule entryRule clusterRule ctRule marksRule stampsTo regionStamps stampRule
     rulesOf orderly onChip onWear replayChip replayWear clean isErase programsIn erasesIn frameOps framesOps lies itemRequest itemRequests lent lentAnswers badMark bad
     goodBlocks formatOps formatted hasRoom lowestUnassigned victim planOf planVBlock copies planFrame planErases newSector newPage newFrame freeBlock planBlock eraseOps
     roomOps planOps followCt planBst nextStamp writtenBy writeOps written released isAccepted lengthsFit badParameter wrongLength badCount badAddress badCluster wrongData tooFewBlocks
@@ -129,5 +135,5 @@ all-rules = tt
 -- and Board T
 unfoldable pub all-boardT : Unit {0}
 unfolding all-rules paramsT boardT blankT asks W R inputT counted printed sessionFrom sessionT outputT boardFrom after plannedT formatsT readsT reclaimAfter paramsJ
-    markedCases asSaid begunT begunCases begunSaid sameLists
+    markedCases asSaid sixthSpares spareT sixthSaid begunT begunCases begunSaid sameLists
 all-boardT = tt

@@ -1,6 +1,6 @@
 -- The frame that a write programs.
 -- Assumes nothing.
-use mathlib.Core.Path.{_≡_}
+use mathlib.Core.Path.{_≡_, refl}
 use mathlib.Core.Logic.{_⊎_, inl, inr}
 use Prim.Native.Nat.{ℕ, _+_, _-_, _*_, _≤_, _<_}
 use native.Mathlib.Nat.{div-lt-iff-lt-mul}
@@ -73,22 +73,30 @@ module _ (p : Params) (z : Sizes p) (vw : View) (whole : Whole p vw) where
             rw e (part-length (p .s) (j - sectorOf p (q .lba)) (q .bytes) (rw (ask .bytes) (next (p .s) (j - sectorOf p (q .lba)) (q .count) (omega arith))))
         go (inr e) = rw e (sector-length (requestCluster p q) j h entry)
 
-    page-length : (j : ℕ) → j < p .alpha → length (newPage p vw q j) ≡ pageBytes p
-    unfolding newPage pageBytes spareBytes bytes32
-    page-length j h = rw (length-append, new-length j h)
+    -- with stamp t, in virtual block v
+    module _ (t v : ℕ) where
+      page-length : (j : ℕ) → j < p .alpha → length (newPage p vw q t v j) ≡ pageBytes p
+      unfolding newPage pageBytes spareBytes bytes32
+      page-length j h = rw (length-append, new-length j h)
 
-    pub page-new : (j : ℕ) → j < p .alpha → page p (newFrame p vw q) j ≡ newPage p vw q j
-    unfolding page newFrame
-    page-new j h = join-part (pageBytes p) (p .alpha) (newPage p vw q) page-length j h
+      pub page-new : (j : ℕ) → j < p .alpha → page p (newFrame p vw q t v) j ≡ newPage p vw q t v j
+      unfolding page newFrame
+      page-new j h = join-part (pageBytes p) (p .alpha) (newPage p vw q t v) page-length j h
 
-    -- what is read from it
-    pub data-new : (j : ℕ) → j < p .alpha → take (p .s) (page p (newFrame p vw q) j) ≡ newSector p vw q j
-    data-new j h = rw (page-new j h) (unfold newPage in take-at (newSector p vw q j) _ (p .s) (new-length j h))
+      -- what is read from it
+      pub data-new : (j : ℕ) → j < p .alpha → take (p .s) (page p (newFrame p vw q t v) j) ≡ newSector p vw q j
+      data-new j h = rw (page-new j h) (unfold newPage in take-at (newSector p vw q j) _ (p .s) (new-length j h))
 
-    pub host-sheet : Sheet p (requestCluster p q) (newFrame p vw q)
-    host-sheet =
-        record {
-          whole = unfold newFrame frameBytes in join-length (pageBytes p) (p .alpha) (newPage p vw q) page-length;
-          small = omega (arith, ask .cluster, z .clusters);
-          spares = λ j h. unfold spare in rw (page-new j h) (unfold newPage in drop-at (newSector p vw q j) _ (p .s) (new-length j h));
-        }
+      pub host-sheet : t < 4294967296 → Sheet p v (requestCluster p q) (newFrame p vw q t v)
+      host-sheet early =
+          record {
+            whole = unfold newFrame frameBytes in join-length (pageBytes p) (p .alpha) (newPage p vw q t v) page-length;
+            small = omega (arith, ask .cluster, z .clusters);
+            stamp = t;
+            early = early;
+            spares = λ j h. unfold spare in rw (page-new j h) (unfold newPage in drop-at (newSector p vw q j) _ (p .s) (new-length j h));
+          }
+
+      pub host-stamp : (early : t < 4294967296) → (host-sheet early) .stamp ≡ t
+      unfolding host-sheet
+      host-stamp early = refl

@@ -18,13 +18,15 @@ use Rattle.rules.specs.declared.Params.{Params}
 use Rattle.rules.specs.Parameters.{blockBytes, frameBytes, frames}
 use Rattle.rules.specs.Numbers.{placeOf, vblockOf}
 use Rattle.rules.specs.Tables.{Board, bstAt, btAt, ctAt, none}
-use Rattle.rules.specs.Pages.{block, filled, frame, held}
+use Rattle.rules.specs.Pages.{block, filled, frame, held, programmed}
 use Rattle.rules.specs.Regions.{View, assigned, frameOf, sectorIn, view}
 use Rattle.rules.specs.Traces.{clean, framesOps, replayChip}
 use Rattle.rules.specs.Write.{copies, eraseOps, followCt, freeBlock, hasRoom, opens, planBlock, planBst, planFrame, planVBlock, roomOps}
 use Rattle.rules.specs.Machine.{erasedBlock, withRoom}
 use Rattle.rules.proofs.Continues.{Makes, frames-pos, segs-in, segs-out}
 use Rattle.rules.proofs.Sizes.{Sizes}
+use Rattle.rules.proofs.Stamps.{Stood}
+use Rattle.rules.proofs.Frames.{erased-not}
 use Rattle.rules.proofs.RegionFacts.{Entry, Neat, Open, UpTo, filled-le, neat}
 use Rattle.rules.proofs.RegionKept.{Base}
 use Rattle.rules.proofs.Replays.{block-size}
@@ -108,6 +110,16 @@ module _ (p : Params) (z : Sizes p) (r : ℕ) (vw : View) (neat : Neat p r vw) (
       go (inl e) = rw (seg-same c, e)
       go (inr e) = rw (seg-same c, body-else _ (not-v _ (e .has)))
 
+  -- the frames of the new block are erased, the others are those they were
+  pub open-stood : Stood p vw (withRoom p vw (opens v))
+  open-stood u g hu hg w = go (ℕ-discrete u v)
+    where
+      go : Dec (u ≡ v) → (u₀ : ℕ) × (g₀ : ℕ) × (u₀ < p .gamma) × (g₀ < frames p) × (frame p ((withRoom p vw (opens v)) .body u) g ≡ frame p (vw .body u₀) g₀)
+      go (yes e) =
+          let k : programmed p (frame p (erasedBlock p) g) ≡ true = rw (e, body-here) at w in
+          absurd (never k (erased-not p (frame p (erasedBlock p) g) (fresh-frame p g)))
+      go (no ne) = (u, g, hu, hg, ap (λ (l : List ℕ). frame p l g) (body-else u ne))
+
   pub open-base : Base p r (withRoom p vw (opens v)) v 0
   open-base =
       record {
@@ -118,7 +130,7 @@ module _ (p : Params) (z : Sizes p) (r : ℕ) (vw : View) (neat : Neat p r vw) (
       }
     where
       others : (u : ℕ) → u < p .gamma → (u ≡ v → ⊥) → assigned (withRoom p vw (opens v)) u ≡ true
-          → (filled p ((withRoom p vw (opens v)) .body u) ≡ frames p) × UpTo p r (frames p) ((withRoom p vw (opens v)) .body u)
+          → (filled p ((withRoom p vw (opens v)) .body u) ≡ frames p) × UpTo p r u (frames p) ((withRoom p vw (opens v)) .body u)
       others u k ne a =
           let w : assigned vw u ≡ true = sym (has-else u ne) ∙ a in
           let f = all-full p z r vw neat no-room u k w in
@@ -158,6 +170,7 @@ module _ (p : Params) (z : Sizes p) (b : Board) (t : Tables p b) (r : ℕ) (regi
         base = open-base p z r (view p b r) neat no-room v low lacks;
         tidy = refl;
         reads = open-reads p z r (view p b r) neat no-room v low lacks;
+        stood = open-stood p z r (view p b r) neat no-room v low lacks;
         bstLength = length-set (b .bst) (freeBlock p (b .bst) (b .wear)) 1 ∙ t .bstLength;
         was = λ e. omega (arith, w .1);
         kindHere = getD-set-same (b .bst) (freeBlock p (b .bst) (b .wear)) 1 0 (rw (t .bstLength) (w .0));

@@ -19,89 +19,108 @@ use Rattle.rules.specs.declared.Params.{Params}
 use Rattle.rules.specs.Parameters.{allowed, frames}
 use Rattle.rules.specs.Numbers.{placeOf, regionOf, segmentOf, vblockOf}
 use Rattle.rules.specs.Tables.{Board, bstAt, none, notFound}
-use Rattle.rules.specs.Pages.{filled, frame, held, holds, lastIn, page, pageUsed, programmed, spare, spareBytes, whole}
+use Rattle.rules.specs.Pages.{filled, frame, held, holds, lastIn, page, pageUsed, programmed, spare, spareBytes, whole, stampOf}
 use Rattle.rules.specs.Regions.{View, assigned, view}
 use Rattle.rules.specs.Orderly.{orderly, usedPages}
 use Rattle.rules.specs.Replies.{lengthsFit}
-use Rattle.rules.specs.Words.{BlockListed, EntryListed, FrameListed, OpenListed, OrderlyExactly, OrderlyListed, RegionListed}
+use Rattle.rules.specs.Words.{BlockListed, EntryListed, FrameListed, OpenListed, OrderlyExactly, OrderlyListed, RegionListed, SpareListed}
 use Rattle.rules.proofs.Admitted.{orderly-all, orderly-region}
 use Rattle.rules.proofs.Continues.{open-low, segs-out}
-use Rattle.rules.proofs.Frames.{erased-not, right-held, right-programmed, right-used, page-not, seg-low, seg-place, seg-vblock}
-use Rattle.rules.proofs.RegionFacts.{Entry, GoodFrame, Neat, Open, UpTo, filled-le, good-holds, good-used, neat, neat-none, neat-out, regionOrderly, up-to-filled, neat-fronts}
+use Rattle.rules.proofs.Frames.{right-stamp, erased-not, right-held, right-programmed, right-used, page-not, seg-low, seg-place, seg-vblock}
+use Rattle.rules.proofs.RegionFacts.{good-stamp, Entry, GoodFrame, Neat, Open, UpTo, filled-le, good-holds, good-used, neat, neat-none, neat-out, regionOrderly, up-to-filled, neat-fronts}
 use Rattle.rules.proofs.Sizes.{Sizes, sizes}
+use Rattle.rules.proofs.Stamps.{stamps-in, stamps-out}
 use Rattle.rules.proofs.TableFacts.{Tables, lengths-in, marks-in, tables-in}
 use Rattle.rules.proofs.ValidFrames.{block-of, found, frame-of, held-is, is-valid}
 use Rattle.rules.proofs.Words.{spares-exactly}
 
 -- ---- frames and blocks
 
-frame-in : (p : Params) (z : Sizes p) (r : ℕ) (fr : List ℕ) → GoodFrame p r fr → FrameListed p r fr
+frame-in : (p : Params) (z : Sizes p) (r v : ℕ) (fr : List ℕ) → GoodFrame p r v fr → FrameListed p r v fr
 unfolding spare
-frame-in p z r fr g =
+frame-in p z r v fr g =
     record {
       cluster = held p fr;
+      stamp = stampOf p fr;
       low = g .low;
       mine = g .mine;
       m = usedPages p fr;
-      some = good-used p r fr g 0 (z .sectors) (unfold programmed in g .on);
+      some = good-used p r v fr g 0 (z .sectors) (unfold programmed in g .on);
       most = used-le;
-      spares = λ j k. (spares-exactly (held p fr) j (omega (arith, g .low, z .clusters)) _) .0 (g .spares j k (omega (arith, used-le)));
+      spares = λ j k. (spares-exactly (held p fr) j (stampOf p fr) v (omega (arith, g .low, z .clusters)) (good-stamp p z r v fr g) _) .0 (g .spares j k (omega (arith, used-le)));
       blank = g .blank;
     }
   where
     used-le : usedPages p fr ≤ p .alpha
     used-le = unfold usedPages in count-le (p .alpha) _
 
-frame-out : (p : Params) (z : Sizes p) (r : ℕ) (fr : List ℕ) → FrameListed p r fr → GoodFrame p r fr
-frame-out p z r fr l =
+frame-out : (p : Params) (z : Sizes p) (r v : ℕ) (fr : List ℕ) → FrameListed p r v fr → GoodFrame p r v fr
+frame-out p z r v fr l =
     record {
-      on = right-programmed p fr (l .cluster) (marks 0 (l .some));
+      on = right-programmed p fr (l .cluster) (l .stamp) v (marks 0 (l .some));
       low = rw e (l .low);
       mine = rw e (l .mine);
-      spares = λ j m k. rw e (marks j (omega (arith, used)));
+      spares = λ j m k. rw (e, es) (marks j (omega (arith, used)));
       blank = λ j m k. l .blank j (omega (arith, used)) k;
     }
   where
     small : l .cluster < 4294967296
     small = omega (arith, l .low, z .clusters)
 
-    marks : (j : ℕ) → j < l .m → spare p fr j ≡ spareBytes (l .cluster) j
-    marks j k = unfold spare in (spares-exactly (l .cluster) j small _) .1 (l .spares j k)
+    first : SpareListed (l .cluster) 0 (l .stamp) v (drop (p .s) (page p fr 0))
+    first = l .spares 0 (l .some)
+
+    early : l .stamp < 4294967296
+    early =
+        omega (
+          arith,
+          first .stamp,
+          first .stampBytes 7 (omega arith) (omega arith),
+          first .stampBytes 8 (omega arith) (omega arith),
+          first .stampBytes 9 (omega arith) (omega arith),
+          first .stampBytes 10 (omega arith) (omega arith),
+        )
+
+    marks : (j : ℕ) → j < l .m → spare p fr j ≡ spareBytes (l .cluster) j (l .stamp) v
+    marks j k = unfold spare in (spares-exactly (l .cluster) j (l .stamp) v small early _) .1 (l .spares j k)
 
     e : held p fr ≡ l .cluster
-    e = right-held p fr (l .cluster) (marks 0 (l .some)) small
+    e = right-held p fr (l .cluster) (l .stamp) v (marks 0 (l .some)) small
+
+    es : stampOf p fr ≡ l .stamp
+    es = unfold stampOf in right-stamp p fr 0 (l .cluster) (l .stamp) v (marks 0 (l .some)) early
 
     used : usedPages p fr ≡ l .m
-    used = unfold usedPages in count-is (p .alpha) (l .m) _ (l .most) (λ j h. right-used p fr j (l .cluster) (marks j h)) (λ j a b. page-not p fr j (l .blank j a b))
+    used = unfold usedPages in count-is (p .alpha) (l .m) _ (l .most) (λ j h. right-used p fr j (l .cluster) (l .stamp) v (marks j h)) (λ j a b. page-not p fr j (l .blank j a b))
 
-block-in : (p : Params) (z : Sizes p) (r : ℕ) (blk : List ℕ) → (0 < filled p blk) × UpTo p r (filled p blk) blk → BlockListed p r blk
+block-in : (p : Params) (z : Sizes p) (r v : ℕ) (blk : List ℕ) → (0 < filled p blk) × UpTo p r v (filled p blk) blk → BlockListed p r v blk
 unfolding frames
-block-in p z r blk w =
+block-in p z r v blk w =
     record {
       k = filled p blk;
       some = w .0;
       most = filled-le p blk;
-      front = λ f h. frame-in p z r (frame p blk f) (w .1 .front f h (omega (arith, h, filled-le p blk)));
+      front = λ f h. frame-in p z r v (frame p blk f) (w .1 .front f h (omega (arith, h, filled-le p blk)));
       rest = w .1 .rest;
     }
 
 -- the first k frames of a listed block, and how many are programmed
-block-upto : (p : Params) (z : Sizes p) (r : ℕ) (blk : List ℕ) → (l : BlockListed p r blk) → UpTo p r (l .k) blk
+block-upto : (p : Params) (z : Sizes p) (r v : ℕ) (blk : List ℕ) → (l : BlockListed p r v blk) → UpTo p r v (l .k) blk
 unfolding frames
-block-upto p z r blk l = record { front = λ f h i. frame-out p z r (frame p blk f) (l .front f h); rest = l .rest }
+block-upto p z r v blk l = record { front = λ f h i. frame-out p z r v (frame p blk f) (l .front f h); rest = l .rest }
 
-block-filled : (p : Params) (z : Sizes p) (r : ℕ) (blk : List ℕ) → (l : BlockListed p r blk) → filled p blk ≡ l .k
-block-filled p z r blk l = up-to-filled p z r (l .k) blk (unfold frames in l .most) (block-upto p z r blk l)
+block-filled : (p : Params) (z : Sizes p) (r v : ℕ) (blk : List ℕ) → (l : BlockListed p r v blk) → filled p blk ≡ l .k
+block-filled p z r v blk l = up-to-filled p z r v (l .k) blk (unfold frames in l .most) (block-upto p z r v blk l)
 
-block-out : (p : Params) (z : Sizes p) (r : ℕ) (blk : List ℕ) → BlockListed p r blk → (0 < filled p blk) × UpTo p r (filled p blk) blk
-block-out p z r blk l = rw (block-filled p z r blk l) (l .some, block-upto p z r blk l)
+block-out : (p : Params) (z : Sizes p) (r v : ℕ) (blk : List ℕ) → BlockListed p r v blk → (0 < filled p blk) × UpTo p r v (filled p blk) blk
+block-out p z r v blk l = rw (block-filled p z r v blk l) (l .some, block-upto p z r v blk l)
 
 -- a frame below `filled` is programmed, one from there on is erased
-front-written : (p : Params) (z : Sizes p) (r : ℕ) (blk : List ℕ) → UpTo p r (filled p blk) blk → (f : ℕ) → f < filled p blk → f < frames p → programmed p (frame p blk f) ≡ true
-front-written p z r blk u f h k = (u .front f h k) .on
+front-written : (p : Params) (z : Sizes p) (r v : ℕ) (blk : List ℕ) → UpTo p r v (filled p blk) blk → (f : ℕ) → f < filled p blk → f < frames p → programmed p (frame p blk f) ≡ true
+front-written p z r v blk u f h k = (u .front f h k) .on
 
-written-front : (p : Params) (r : ℕ) (blk : List ℕ) → UpTo p r (filled p blk) blk → (f : ℕ) → f < frames p → programmed p (frame p blk f) ≡ true → f < filled p blk
-written-front p r blk u f k e = go (decLt f (filled p blk))
+written-front : (p : Params) (r v : ℕ) (blk : List ℕ) → UpTo p r v (filled p blk) blk → (f : ℕ) → f < frames p → programmed p (frame p blk f) ≡ true → f < filled p blk
+written-front p r v blk u f k e = go (decLt f (filled p blk))
   where
     go : Dec (f < filled p blk) → f < filled p blk
     go (yes h) = h
@@ -128,10 +147,10 @@ module _ (p : Params) (z : Sizes p) (r : ℕ) (vw : View) (nt : Neat p r vw) whe
         low = low;
         has = o .has;
         inside = omega (arith, w .0, few);
-        written = front-written p z r (vw .body v) (w .1) _ (omega (arith, w .0)) (omega (arith, w .0, few));
+        written = front-written p z r v (vw .body v) (w .1) _ (omega (arith, w .0)) (omega (arith, w .0, few));
         last = λ g h k. w .1 .rest g (omega (arith, h, w .0)) k;
         names = o .last;
-        full = λ u h ne a g k. front-written p z r (vw .body u) ((nt .blocks u h a) .1) g (rw (o .full u h ne a) k) k;
+        full = λ u h ne a g k. front-written p z r u (vw .body u) ((nt .blocks u h a) .1) g (rw (o .full u h ne a) k) k;
       }
 
   -- the frame that an entry leads to; its last page is programmed
@@ -164,7 +183,7 @@ module _ (p : Params) (z : Sizes p) (r : ℕ) (vw : View) (nt : Neat p r vw) whe
   region-in : RegionListed p r vw
   region-in =
       record {
-        blocks = λ v h a. block-in p z r (vw .body v) (nt .blocks v h a);
+        blocks = λ v h a. block-in p z r v (vw .body v) (nt .blocks v h a);
         fst = opened (nt .opened);
         ct = λ c h e. entry c (nt .entries c h);
       }
@@ -181,14 +200,14 @@ module _ (p : Params) (z : Sizes p) (r : ℕ) (vw : View) (nt : Neat p r vw) whe
 -- ---- and back
 
 module _ (p : Params) (z : Sizes p) (r : ℕ) (vw : View) (l : RegionListed p r vw) where
-  blocks : (v : ℕ) → v < p .gamma → assigned vw v ≡ true → (0 < filled p (vw .body v)) × UpTo p r (filled p (vw .body v)) (vw .body v)
-  blocks v h a = block-out p z r (vw .body v) (l .blocks v h a)
+  blocks : (v : ℕ) → v < p .gamma → assigned vw v ≡ true → (0 < filled p (vw .body v)) × UpTo p r v (filled p (vw .body v)) (vw .body v)
+  blocks v h a = block-out p z r v (vw .body v) (l .blocks v h a)
 
   -- the frame that a listed entry names is one of its block's first, and whole
-  entry-good : {c : ℕ} (e : EntryListed p vw c) → e .f < frames p → GoodFrame p r (frame p (vw .body (e .v)) (e .f))
+  entry-good : {c : ℕ} (e : EntryListed p vw c) → e .f < frames p → GoodFrame p r (e .v) (frame p (vw .body (e .v)) (e .f))
   entry-good e inside =
       let u = (blocks (e .v) (e .low) (e .has)) .1 in
-      u .front (e .f) (written-front p r (vw .body (e .v)) u (e .f) inside (e .written)) inside
+      u .front (e .f) (written-front p r (e .v) (vw .body (e .v)) u (e .f) inside (e .written)) inside
 
   last-whole : {c : ℕ} (e : EntryListed p vw c) → whole p (frame p (vw .body (e .v)) (e .f)) ≡ true
   unfolding whole pageUsed spare
@@ -200,7 +219,7 @@ module _ (p : Params) (z : Sizes p) (r : ℕ) (vw : View) (l : RegionListed p r 
       let names : vw .segOf c ≡ segmentOf p (e .v) (e .f) = e .names in
       let block : vblockOf p (vw .segOf c) ≡ e .v = rw names (seg-vblock p z (e .v) (e .f) inside) in
       let place : placeOf p (vw .segOf c) ≡ e .f / p .beta = rw names (seg-place p z (e .v) (e .f) inside) in
-      let here : holds p (frame p (vw .body (e .v)) (e .f)) c ≡ true = rw (e .holds) at (good-holds p z r _ (entry-good e inside) (last-whole e)) in
+      let here : holds p (frame p (vw .body (e .v)) (e .f)) c ≡ true = rw (e .holds) at (good-holds p z r (e .v) _ (entry-good e inside) (last-whole e)) in
       record {
         low = rw names (seg-low p z (e .v) (e .f) inside (e .low));
         has = rw block (e .has);
@@ -223,21 +242,21 @@ module _ (p : Params) (z : Sizes p) (r : ℕ) (vw : View) (l : RegionListed p r 
       ends : (o : OpenListed p vw) → o .f < frames p → filled p (vw .body (o .v)) - 1 ≡ o .f
       ends o inside = go (decLt (suc (o .f)) (filled p (vw .body (o .v))))
         where
-          u : UpTo p r (filled p (vw .body (o .v))) (vw .body (o .v))
+          u : UpTo p r (o .v) (filled p (vw .body (o .v))) (vw .body (o .v))
           u = (blocks (o .v) (o .low) (o .has)) .1
 
           go : Dec (suc (o .f) < filled p (vw .body (o .v))) → filled p (vw .body (o .v)) - 1 ≡ o .f
           go (yes h) =
               let k : suc (o .f) < frames p = omega (arith, h, filled-le p (vw .body (o .v))) in
-              absurd (never (front-written p z r (vw .body (o .v)) u (suc (o .f)) h k) (erased-not p _ (o .last (suc (o .f)) (omega arith) (unfold frames in k))))
-          go (no h) = omega (arith, written-front p r (vw .body (o .v)) u (o .f) inside (o .written))
+              absurd (never (front-written p z r (o .v) (vw .body (o .v)) u (suc (o .f)) h k) (erased-not p _ (o .last (suc (o .f)) (omega arith) (unfold frames in k))))
+          go (no h) = omega (arith, written-front p r (o .v) (vw .body (o .v)) u (o .f) inside (o .written))
 
       -- a block whose frames are all programmed is full
       every : (o : OpenListed p vw) (u : ℕ) → u < p .gamma → (u ≡ o .v → ⊥) → assigned vw u ≡ true → filled p (vw .body u) ≡ frames p
       every o u h ne a = go (decLt (filled p (vw .body u)) (frames p))
         where
           go : Dec (filled p (vw .body u) < frames p) → filled p (vw .body u) ≡ frames p
-          go (yes k) = absurd (omega (arith, written-front p r (vw .body u) ((blocks u h a) .1) (filled p (vw .body u)) k (o .full u h ne a _ (unfold frames in k))))
+          go (yes k) = absurd (omega (arith, written-front p r u (vw .body u) ((blocks u h a) .1) (filled p (vw .body u)) k (o .full u h ne a _ (unfold frames in k))))
           go (no k) = omega (arith, filled-le p (vw .body u))
 
   region-out : ((c : ℕ) → (regionOf p c ≡ r → ⊥) → vw .segOf c ≡ none) → regionOrderly p r vw ≡ true
@@ -283,10 +302,12 @@ orderly-in p b z l h =
       free = t .free;
       regions = λ r k. region-in p z r (view p b r) (neat p r (view p b r) (orderly-region p b h r k));
       marks = marks-in p b l h;
+      stamps = λ r v f hr hv hf w. unfold stampOf spare in stamps-in p b h r hr v f hv (unfold frames in hf) w;
     }
 
 orderly-back : (p : Params) (b : Board) → Sizes p → lengthsFit p b ≡ true → OrderlyListed p b → orderly p b ≡ true
 orderly-back p b z l o = orderly-all p b z tables (λ r k. region-out p z r (view p b r) (o .regions r k) (λ c ne. segs-out p b r c ne)) (o .marks)
+    (stamps-out p b (λ r hr v f hv hf w. unfold stampOf spare in o .stamps r v f hr hv (unfold frames in hf) w))
   where
     tables : Tables p b
     tables =

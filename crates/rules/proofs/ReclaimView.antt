@@ -7,7 +7,7 @@ use native.Mathlib.Nat.{div-lt-iff-lt-mul, div-add-mod', zero-add}
 use native.Mathlib.Omega.{arith}
 use native.Mathlib.Decide.{ℕ-discrete, decLt}
 use mathlib.Core.Bool.{Bool, true, false, _&&_}
-use mathlib.Core.List.{[]}
+use mathlib.Core.List.{List, []}
 use lib.Dec.{eqb, ltb}
 use borrow.Author.Tests.{eqb-true, eq-eqb, ne-eqb, lt-ltb}
 use lib.ListN.{length, getD, length-map}
@@ -16,7 +16,7 @@ use Rattle.lists.specs.Parts.{allAre}
 use Rattle.lists.proofs.Joins.{updated-other, updated-same}
 use Rattle.lists.proofs.Parts.{part-length}
 use Rattle.lists.proofs.Ranks.{keep-at, keep-length, keep-nth, map-at, rank-low}
-use Rattle.lists.proofs.Tests.{and-intro, last-is, so}
+use Rattle.lists.proofs.Tests.{and-intro, last-is, never, so}
 use Rattle.rules.specs.declared.Params.{Params}
 use Rattle.rules.specs.Parameters.{blockBytes, frameBytes, frames}
 use Rattle.rules.specs.Numbers.{placeOf, segmentOf, vblockOf}
@@ -29,10 +29,11 @@ use Rattle.rules.proofs.Continues.{frames-pos}
 use Rattle.rules.proofs.Following.{follow-hit, follow-miss}
 use Rattle.rules.proofs.FramePut.{last-holds}
 use Rattle.rules.proofs.Sizes.{Sizes}
-use Rattle.rules.proofs.Frames.{erased-holds, seg-low, seg-place, seg-vblock}
+use Rattle.rules.proofs.Frames.{erased-holds, erased-not, seg-low, seg-place, seg-vblock}
 use Rattle.rules.proofs.Opens.{all-full, fresh-frame, fresh-size}
 use Rattle.rules.proofs.RegionFacts.{Entry, GoodFrame, Neat, UpTo, good-held, neat}
 use Rattle.rules.proofs.RegionKept.{Base}
+use Rattle.rules.proofs.Stamps.{Stood}
 use Rattle.rules.proofs.Replays.{Wholes, one-fits, put-frames-else, put-frames-new, put-frames-size}
 use Rattle.rules.proofs.Victims.{Valid, good-at, valid-in, valid-one, valid-out}
 use Rattle.rules.proofs.Views.{some-bytes}
@@ -143,7 +144,7 @@ module _ (p : Params) (z : Sizes p) (r : ℕ) (vw : View) (neat : Neat p r vw) (
             other : (holds p (frame p (vw .body v) (nthValid p vw v g)) c ≡ true) ⊎ (holds p (frame p (vw .body v) (nthValid p vw v g)) c ≡ false)
                 → holds p (frame p (vw .body v) (nthValid p vw v g)) c ≡ false
             other (inl t) =
-                let e = only g k (good-held p z r (frame p (vw .body v) (nthValid p vw v g)) (good-at p z vw r neat no-room every v (nthValid p vw v g) low ((nth-spec g k) .0)) c t) in
+                let e = only g k (good-held p z r v (frame p (vw .body v) (nthValid p vw v g)) (good-at p z vw r neat no-room every v (nthValid p vw v g) low ((nth-spec g k) .0)) c t) in
                 absurd (omega (arith, e))
             other (inr t) = t
         go (no k) = erased-holds p _ c (frame-rest g (omega arith))
@@ -186,11 +187,11 @@ module _ (p : Params) (z : Sizes p) (r : ℕ) (vw : View) (neat : Neat p r vw) (
     unfolding old-frame
     old-holds = last-holds p z (vw .body v) (placeOf p (vw .segOf c)) c old-low
 
-    old-good : GoodFrame p r (frame p (vw .body v) old-frame)
+    old-good : GoodFrame p r v (frame p (vw .body v) old-frame)
     old-good = good-at p z vw r neat no-room every v old-frame low old-low
 
     old-is : held p (frame p (vw .body v) old-frame) ≡ c
-    old-is = good-held p z r (frame p (vw .body v) old-frame) old-good c (old-holds .1)
+    old-is = good-held p z r v (frame p (vw .body v) old-frame) old-good c (old-holds .1)
 
     old-segment : vw .segOf c ≡ segmentOf p v old-frame
     old-segment = sym (div-add-mod' (vw .segOf c) (p .d)) ∙ ap₂ (λ x y. x * p .d + y) at (sym (old-holds .0))
@@ -263,6 +264,18 @@ module _ (p : Params) (z : Sizes p) (r : ℕ) (vw : View) (neat : Neat p r vw) (
             held = rw (g, pl, moved-last c f (old-low c e at) (old-valid c e at) (old-is c e at)) k;
           })
 
+  -- each programmed frame of the new block is a copy, the others are those they were
+  pub reclaim-stood : Stood p vw (withRoom p vw (reclaims v))
+  reclaim-stood u g hu hg w = go (ℕ-discrete u v) (decLt g (length (validFrames p vw v)))
+    where
+      go : Dec (u ≡ v) → Dec (g < length (validFrames p vw v))
+          → (u₀ : ℕ) × (g₀ : ℕ) × (u₀ < p .gamma) × (g₀ < frames p) × (frame p ((withRoom p vw (reclaims v)) .body u) g ≡ frame p (vw .body u₀) g₀)
+      go (no ne) d = (u, g, hu, hg, ap (λ (l : List ℕ). frame p l g) (body-else u ne))
+      go (yes e) (yes d) = (v, nthValid p vw v g, low, (nth-spec g d) .0, rw e (frame-copy g d))
+      go (yes e) (no d) =
+          let k : programmed p (frame p ((withRoom p vw (reclaims v)) .body v) g) ≡ true = rw e at w in
+          absurd (never k (erased-not p _ (frame-rest g (omega arith))))
+
   pub reclaim-base : Base p r (withRoom p vw (reclaims v)) v (length (validFrames p vw v))
   reclaim-base =
       record {
@@ -273,7 +286,7 @@ module _ (p : Params) (z : Sizes p) (r : ℕ) (vw : View) (neat : Neat p r vw) (
       }
     where
       others : (u : ℕ) → u < p .gamma → (u ≡ v → ⊥) → assigned (withRoom p vw (reclaims v)) u ≡ true
-          → (filled p ((withRoom p vw (reclaims v)) .body u) ≡ frames p) × UpTo p r (frames p) ((withRoom p vw (reclaims v)) .body u)
+          → (filled p ((withRoom p vw (reclaims v)) .body u) ≡ frames p) × UpTo p r u (frames p) ((withRoom p vw (reclaims v)) .body u)
       others u k ne a =
           let f = all-full p z r vw neat no-room u k (every u k) in
           rw (body-else u ne) (f, rw f at ((neat .blocks u k (every u k)) .1))

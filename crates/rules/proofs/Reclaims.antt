@@ -23,7 +23,7 @@ use Rattle.rules.proofs.Following.{follow-ct, follow-length, follow-mis
 use Rattle.rules.proofs.Sizes.{Sizes}
 use Rattle.rules.proofs.Isolation.{index-low}
 use Rattle.rules.proofs.Opens.{free-fresh, fresh-all, fresh-frame}
-use Rattle.rules.proofs.ReclaimView.{body-else, body-here, copies-fit, copies-length, copy-at, nth-spec, nthValid, reclaim-base, reclaim-reads, seg-is, wholes}
+use Rattle.rules.proofs.ReclaimView.{body-else, body-here, copies-fit, copies-length, copy-at, nth-spec, nthValid, reclaim-base, reclaim-reads, reclaim-stood, seg-is, wholes}
 use Rattle.rules.proofs.RegionFacts.{GoodFrame, Neat, neat}
 use Rattle.rules.proofs.Replays.{Ran, erase-clean, erase-ran, frames-clean, frames-ran}
 use Rattle.rules.proofs.TableFacts.{Tables}
@@ -86,7 +86,7 @@ module _ (p : Params) (z : Sizes p) (b : Board) (t : Tables p b) (r : ℕ) (regi
   not-old i h ne k e = ne (t .once i (r * p .gamma + v) h index e k)
 
   -- the copied frames' clusters
-  good-copy : (i : ℕ) → i < length (copies p (view p b r) (reclaims v)) → GoodFrame p r (getD (copies p (view p b r) (reclaims v)) i [])
+  good-copy : (i : ℕ) → i < length (copies p (view p b r) (reclaims v)) → GoodFrame p r v (getD (copies p (view p b r) (reclaims v)) i [])
   good-copy i h =
       let k : i < length (validFrames p (view p b r) v) = rw (copies-length p z r (view p b r) neat no-room every sized v low few) at h in
       rw (copy-at p z r (view p b r) neat no-room every sized v low few i k)
@@ -128,6 +128,7 @@ module _ (p : Params) (z : Sizes p) (b : Board) (t : Tables p b) (r : ℕ) (regi
         base = reclaim-base p z r (view p b r) neat no-room every sized v low few;
         tidy = tidy;
         reads = reclaim-reads p z r (view p b r) neat no-room every sized v low few;
+        stood = reclaim-stood p z r (view p b r) neat no-room every sized v low few;
         bstLength = length-set (set (b .bst) (freeBlock p (b .bst) (b .wear)) 1) (btAt p (b .bt) r v) 0 ∙ length-set (b .bst) (freeBlock p (b .bst) (b .wear)) 1 ∙ t .bstLength;
         was = λ e. omega (arith, w .1);
         kindHere = getD-set-other (set (b .bst) (freeBlock p (b .bst) (b .wear)) 1) (btAt p (b .bt) r v) (freeBlock p (b .bst) (b .wear)) 0 0 (λ e. differ (sym e)) ∙

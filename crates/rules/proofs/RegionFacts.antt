@@ -17,22 +17,22 @@ use Rattle.rules.specs.declared.Params.{Params}
 use Rattle.rules.specs.Parameters.{frames}
 use Rattle.rules.specs.Numbers.{placeOf, regionOf, segmentOf, vblockOf}
 use Rattle.rules.specs.Tables.{none}
-use Rattle.rules.specs.Pages.{held, holds, filled, frame, lastIn, le32, page, pageUsed, programmed, spare, spareBytes, whole}
+use Rattle.rules.specs.Pages.{held, holds, filled, frame, lastIn, le32, page, pageUsed, programmed, spare, spareBytes, stampOf, whole}
 use Rattle.rules.specs.Regions.{View, assigned}
 use Rattle.rules.specs.Orderly.{goodFrame, goodPages, goodUpTo, usedPages, blockRule, regionBlocks, fullRule, openRule, regionFst, entryRule, clusterRule}
 use Rattle.rules.proofs.Sizes.{Sizes}
-use Rattle.rules.proofs.Frames.{erased-not, erased-whole, right-cluster, page-not}
+use Rattle.rules.proofs.Frames.{erased-not, erased-whole, le-small, right-cluster, right-stamp-is, page-not}
 
-pub record GoodFrame (p : Params) (r : ℕ) (fr : List ℕ) : Type 0 where
+pub record GoodFrame (p : Params) (r v : ℕ) (fr : List ℕ) : Type 0 where
   pub on : programmed p fr ≡ true
   pub low : held p fr < p .C
   pub mine : regionOf p (held p fr) ≡ r
-  pub spares : (j : ℕ) → j < usedPages p fr → j < p .alpha → spare p fr j ≡ spareBytes (held p fr) j
+  pub spares : (j : ℕ) → j < usedPages p fr → j < p .alpha → spare p fr j ≡ spareBytes (held p fr) j (stampOf p fr) v
   pub blank : (j : ℕ) → usedPages p fr ≤ j → j < p .alpha → allAre 255 (page p fr j) ≡ true
 
-pub good-frame : (p : Params) (r : ℕ) (fr : List ℕ) → goodFrame p r fr ≡ true → GoodFrame p r fr
+pub good-frame : (p : Params) (r v : ℕ) (fr : List ℕ) → goodFrame p r v fr ≡ true → GoodFrame p r v fr
 unfolding goodFrame goodPages
-good-frame p r fr h =
+good-frame p r v fr h =
     let t = truths _ h in
     record {
       on = t .0;
@@ -42,85 +42,92 @@ good-frame p r fr h =
       blank = λ j m k. rw (le-ltb j (usedPages p fr) m) at (all-at (p .alpha) _ (t .1 .1 .1 .0) j k);
     }
 
-pub good-frame-back : (p : Params) (r : ℕ) (fr : List ℕ) → GoodFrame p r fr → goodFrame p r fr ≡ true
+pub good-frame-back : (p : Params) (r v : ℕ) (fr : List ℕ) → GoodFrame p r v fr → goodFrame p r v fr ≡ true
 unfolding goodFrame goodPages
-good-frame-back p r fr g =
+good-frame-back p r v fr g =
     all-true _ (g .on, (lt-ltb _ _ (g .low), (eq-eqb _ _ (g .mine), (all-below-intro (p .alpha) _ (λ j k. go j k (decLt j (usedPages p fr))), tt))))
   where
     go : (j : ℕ) → j < p .alpha → Dec (j < usedPages p fr)
-        → cond (ltb j (usedPages p fr)) (sameList (spare p fr j) (spareBytes (held p fr) j)) (allAre 255 (page p fr j)) ≡ true
+        → cond (ltb j (usedPages p fr)) (sameList (spare p fr j) (spareBytes (held p fr) j (stampOf p fr) v)) (allAre 255 (page p fr j)) ≡ true
     go j k (yes a) = rw (lt-ltb j (usedPages p fr) a, g .spares j a k) (same-refl _)
     go j k (no a) = rw (le-ltb j (usedPages p fr) (omega arith)) (g .blank j (omega arith) k)
 
 -- a page of a good frame that is programmed is among the first
-pub good-used : (p : Params) (r : ℕ) (fr : List ℕ) → GoodFrame p r fr → (j : ℕ) → j < p .alpha → pageUsed p fr j ≡ true → j < usedPages p fr
-good-used p r fr g j h t = go (decLt j (usedPages p fr))
+pub good-used : (p : Params) (r v : ℕ) (fr : List ℕ) → GoodFrame p r v fr → (j : ℕ) → j < p .alpha → pageUsed p fr j ≡ true → j < usedPages p fr
+good-used p r v fr g j h t = go (decLt j (usedPages p fr))
   where
     go : Dec (j < usedPages p fr) → j < usedPages p fr
     go (yes a) = a
     go (no a) = absurd (never t (page-not p fr j (g .blank j (omega arith) h)))
 
 -- its last page says the same cluster as its first, where it is programmed
-good-last : (p : Params) → Sizes p → (r : ℕ) (fr : List ℕ) → GoodFrame p r fr → pageUsed p fr (p .alpha - 1) ≡ true → le32 (spare p fr (p .alpha - 1)) ≡ held p fr
-good-last p z r fr g h =
+good-last : (p : Params) → Sizes p → (r v : ℕ) (fr : List ℕ) → GoodFrame p r v fr → pageUsed p fr (p .alpha - 1) ≡ true → le32 (spare p fr (p .alpha - 1)) ≡ held p fr
+good-last p z r v fr g h =
     let last : p .alpha - 1 < p .alpha = omega (arith, z .sectors) in
-    right-cluster p fr (p .alpha - 1) (held p fr) (g .spares (p .alpha - 1) (good-used p r fr g (p .alpha - 1) last h) last) (omega (arith, g .low, z .clusters))
+    right-cluster p fr (p .alpha - 1) (held p fr) (stampOf p fr) v (g .spares (p .alpha - 1) (good-used p r v fr g (p .alpha - 1) last h) last) (omega (arith, g .low, z .clusters))
 
 -- a good frame that holds a cluster holds it by its first page too
-pub good-held : (p : Params) → Sizes p → (r : ℕ) (fr : List ℕ) → GoodFrame p r fr → (c : ℕ) → holds p fr c ≡ true → held p fr ≡ c
+pub good-held : (p : Params) → Sizes p → (r v : ℕ) (fr : List ℕ) → GoodFrame p r v fr → (c : ℕ) → holds p fr c ≡ true → held p fr ≡ c
 unfolding holds whole
-good-held p z r fr g c h = sym (good-last p z r fr g (and-left (pageUsed p fr (p .alpha - 1)) _ h)) ∙ eqb-true _ _ (and-right (pageUsed p fr (p .alpha - 1)) h)
+good-held p z r v fr g c h = sym (good-last p z r v fr g (and-left (pageUsed p fr (p .alpha - 1)) _ h)) ∙ eqb-true _ _ (and-right (pageUsed p fr (p .alpha - 1)) h)
 
 -- and all of its pages have their spare bytes
-pub good-all : (p : Params) → Sizes p → (r : ℕ) (fr : List ℕ) → GoodFrame p r fr → (c : ℕ) → holds p fr c ≡ true → (j : ℕ) → j < p .alpha → spare p fr j ≡ spareBytes (held p fr) j
+pub good-all : (p : Params) → Sizes p → (r v : ℕ) (fr : List ℕ) → GoodFrame p r v fr → (c : ℕ) → holds p fr c ≡ true → (j : ℕ) → j < p .alpha → spare p fr j ≡ spareBytes (held p fr) j (stampOf p fr) v
 unfolding holds whole
-good-all p z r fr g c h j k =
-    let last = good-used p r fr g (p .alpha - 1) (omega (arith, z .sectors)) (and-left (pageUsed p fr (p .alpha - 1)) _ h) in
+good-all p z r v fr g c h j k =
+    let last = good-used p r v fr g (p .alpha - 1) (omega (arith, z .sectors)) (and-left (pageUsed p fr (p .alpha - 1)) _ h) in
     g .spares j (omega (arith, last, k)) k
 
+-- its stamp is of 32 bits: the bytes that say it are the stamp's own
+pub good-stamp : (p : Params) → Sizes p → (r v : ℕ) (fr : List ℕ) → GoodFrame p r v fr → stampOf p fr < 4294967296
+unfolding stampOf
+good-stamp p z r v fr g =
+    let first = g .spares 0 (good-used p r v fr g 0 (z .sectors) (unfold programmed in g .on)) (z .sectors) in
+    rw (right-stamp-is p fr 0 (held p fr) (stampOf p fr) v first) (le-small (stampOf p fr))
+
 -- and a whole one holds its cluster
-pub good-holds : (p : Params) → Sizes p → (r : ℕ) (fr : List ℕ) → GoodFrame p r fr → whole p fr ≡ true → holds p fr (held p fr) ≡ true
+pub good-holds : (p : Params) → Sizes p → (r v : ℕ) (fr : List ℕ) → GoodFrame p r v fr → whole p fr ≡ true → holds p fr (held p fr) ≡ true
 unfolding holds
-good-holds p z r fr g h = and-intro h (eq-eqb _ _ (good-last p z r fr g (unfold whole in h)))
+good-holds p z r v fr g h = and-intro h (eq-eqb _ _ (good-last p z r v fr g (unfold whole in h)))
 
 -- the first k frames are programmed, the rest is erased
-pub record UpTo (p : Params) (r k : ℕ) (blk : List ℕ) : Type 0 where
-  pub front : (f : ℕ) → f < k → f < frames p → GoodFrame p r (frame p blk f)
+pub record UpTo (p : Params) (r v k : ℕ) (blk : List ℕ) : Type 0 where
+  pub front : (f : ℕ) → f < k → f < frames p → GoodFrame p r v (frame p blk f)
   pub rest : (f : ℕ) → k ≤ f → f < frames p → allAre 255 (frame p blk f) ≡ true
 
-pub up-to : (p : Params) (r k : ℕ) (blk : List ℕ) → goodUpTo p r k blk ≡ true → UpTo p r k blk
+pub up-to : (p : Params) (r v k : ℕ) (blk : List ℕ) → goodUpTo p r v k blk ≡ true → UpTo p r v k blk
 unfolding goodUpTo
-up-to p r k blk h =
+up-to p r v k blk h =
     record {
-      front = λ f a b. good-frame p r (frame p blk f) (rw (lt-ltb f k a) at (all-at (frames p) _ h f b));
+      front = λ f a b. good-frame p r v (frame p blk f) (rw (lt-ltb f k a) at (all-at (frames p) _ h f b));
       rest = λ f a b. rw (le-ltb f k a) at (all-at (frames p) _ h f b);
     }
 
-pub up-to-back : (p : Params) (r k : ℕ) (blk : List ℕ) → UpTo p r k blk → goodUpTo p r k blk ≡ true
+pub up-to-back : (p : Params) (r v k : ℕ) (blk : List ℕ) → UpTo p r v k blk → goodUpTo p r v k blk ≡ true
 unfolding goodUpTo
-up-to-back p r k blk u = all-below-intro (frames p) _ (λ f b. go f b (decLt f k))
+up-to-back p r v k blk u = all-below-intro (frames p) _ (λ f b. go f b (decLt f k))
   where
-    go : (f : ℕ) → f < frames p → Dec (f < k) → cond (ltb f k) (goodFrame p r (frame p blk f)) (allAre 255 (frame p blk f)) ≡ true
-    go f b (yes a) = rw (lt-ltb f k a) (good-frame-back p r (frame p blk f) (u .front f a b))
+    go : (f : ℕ) → f < frames p → Dec (f < k) → cond (ltb f k) (goodFrame p r v (frame p blk f)) (allAre 255 (frame p blk f)) ≡ true
+    go f b (yes a) = rw (lt-ltb f k a) (good-frame-back p r v (frame p blk f) (u .front f a b))
     go f b (no a) = rw (le-ltb f k (omega arith)) (u .rest f (omega arith) b)
 
-pub up-to-filled : (p : Params) → Sizes p → (r k : ℕ) (blk : List ℕ) → k ≤ frames p → UpTo p r k blk → filled p blk ≡ k
+pub up-to-filled : (p : Params) → Sizes p → (r v k : ℕ) (blk : List ℕ) → k ≤ frames p → UpTo p r v k blk → filled p blk ≡ k
 unfolding filled
-up-to-filled p z r k blk h u =
+up-to-filled p z r v k blk h u =
     count-is (frames p) k _ h (λ f a. (u .front f a (omega arith)) .on)
     (λ f a b. erased-not p (frame p blk f) (u .rest f a b))
 
 -- a whole frame is one of the first k, and so is one that holds a cluster
-pub whole-front : (p : Params) (r k : ℕ) (blk : List ℕ) → UpTo p r k blk → (f : ℕ) → f < frames p → whole p (frame p blk f) ≡ true → f < k
-whole-front p r k blk u f h t = go (decLt f k)
+pub whole-front : (p : Params) (r v k : ℕ) (blk : List ℕ) → UpTo p r v k blk → (f : ℕ) → f < frames p → whole p (frame p blk f) ≡ true → f < k
+whole-front p r v k blk u f h t = go (decLt f k)
   where
     go : Dec (f < k) → f < k
     go (yes a) = a
     go (no a) = absurd (never t (erased-whole p (frame p blk f) (u .rest f (omega arith) h)))
 
-pub holds-front : (p : Params) (r k : ℕ) (blk : List ℕ) → UpTo p r k blk → (f c : ℕ) → f < frames p → holds p (frame p blk f) c ≡ true → f < k
+pub holds-front : (p : Params) (r v k : ℕ) (blk : List ℕ) → UpTo p r v k blk → (f c : ℕ) → f < frames p → holds p (frame p blk f) c ≡ true → f < k
 unfolding holds
-holds-front p r k blk u f c h t = whole-front p r k blk u f h (and-left (whole p (frame p blk f)) _ t)
+holds-front p r v k blk u f c h t = whole-front p r v k blk u f h (and-left (whole p (frame p blk f)) _ t)
 
 pub filled-le : (p : Params) (blk : List ℕ) → filled p blk ≤ frames p
 unfolding filled
@@ -140,10 +147,10 @@ pub record Entry (p : Params) (vw : View) (c : ℕ) : Type 0 where
 
 -- the first frames of its blocks are programmed and right, the rest of them is erased
 abbrev pub Fronts : Params → ℕ → View → Type 0
-Fronts p r vw = (v : ℕ) → v < p .gamma → assigned vw v ≡ true → UpTo p r (filled p (vw .body v)) (vw .body v)
+Fronts p r vw = (v : ℕ) → v < p .gamma → assigned vw v ≡ true → UpTo p r v (filled p (vw .body v)) (vw .body v)
 
 pub record Neat (p : Params) (r : ℕ) (vw : View) : Type 0 where
-  pub blocks : (v : ℕ) → v < p .gamma → assigned vw v ≡ true → (0 < filled p (vw .body v)) × UpTo p r (filled p (vw .body v)) (vw .body v)
+  pub blocks : (v : ℕ) → v < p .gamma → assigned vw v ≡ true → (0 < filled p (vw .body v)) × UpTo p r v (filled p (vw .body v)) (vw .body v)
   pub opened : (((v : ℕ) → v < p .gamma → assigned vw v ≡ false) × (vw .lastSeg ≡ none)) ⊎ (((v : ℕ) × (v < p .gamma) × (assigned vw v ≡ true)) × Open p vw)
   pub entries : (c : ℕ) → c < p .C → (vw .segOf c ≡ none) ⊎ Entry p vw c
 
@@ -154,13 +161,13 @@ neat-fronts n v h a = (n .blocks v h a) .1
 unfoldable pub regionOrderly : Params → ℕ → View → Bool
 regionOrderly p r vw = allTrue (regionBlocks p r vw ∷ regionFst p vw ∷ allBelow (p .C) (clusterRule p vw) ∷ [])
 
-pub block-in : (p : Params) (r : ℕ) (blk : List ℕ) → blockRule p r blk ≡ true → (0 < filled p blk) × UpTo p r (filled p blk) blk
+pub block-in : (p : Params) (r v : ℕ) (blk : List ℕ) → blockRule p r v blk ≡ true → (0 < filled p blk) × UpTo p r v (filled p blk) blk
 unfolding blockRule
-block-in p r blk k = (ltb-true _ _ (and-left (ltb 0 (filled p blk)) _ k), up-to p r _ blk (and-right (ltb 0 (filled p blk)) k))
+block-in p r v blk k = (ltb-true _ _ (and-left (ltb 0 (filled p blk)) _ k), up-to p r v _ blk (and-right (ltb 0 (filled p blk)) k))
 
-block-out : (p : Params) (r : ℕ) (blk : List ℕ) → (0 < filled p blk) × UpTo p r (filled p blk) blk → blockRule p r blk ≡ true
+block-out : (p : Params) (r v : ℕ) (blk : List ℕ) → (0 < filled p blk) × UpTo p r v (filled p blk) blk → blockRule p r v blk ≡ true
 unfolding blockRule
-block-out p r blk k = and-intro (lt-ltb _ _ (k .0)) (up-to-back p r _ blk (k .1))
+block-out p r v blk k = and-intro (lt-ltb _ _ (k .0)) (up-to-back p r v _ blk (k .1))
 
 entry-in : (p : Params) (vw : View) (c : ℕ) → entryRule p vw c ≡ true → Entry p vw c
 unfolding entryRule
@@ -218,7 +225,7 @@ unfolding regionOrderly regionBlocks clusterRule
 neat p r vw h =
     let t = truths _ h in
     record {
-      blocks = λ v k a. block-in p r (vw .body v) (rw a at (all-at (p .gamma) (λ v. not (assigned vw v) || blockRule p r (vw .body v)) (t .0) v k));
+      blocks = λ v k a. block-in p r v (vw .body v) (rw a at (all-at (p .gamma) (λ v. not (assigned vw v) || blockRule p r v (vw .body v)) (t .0) v k));
       opened = open-in p vw (t .1 .0);
       entries = λ c k. entry c (or-cases (eqb (vw .segOf c) none) (all-at (p .C) (λ c. eqb (vw .segOf c) none || entryRule p vw c) (t .1 .1 .0) c k));
     }
@@ -248,12 +255,12 @@ neat-none p r vw lacks last entries =
 
 -- a region with an open block passes its rules
 pub neat-out : (p : Params) (r : ℕ) (vw : View) (v : ℕ) → v < p .gamma → assigned vw v ≡ true
-    → ((u : ℕ) → u < p .gamma → assigned vw u ≡ true → (0 < filled p (vw .body u)) × UpTo p r (filled p (vw .body u)) (vw .body u)) → Open p vw
+    → ((u : ℕ) → u < p .gamma → assigned vw u ≡ true → (0 < filled p (vw .body u)) × UpTo p r u (filled p (vw .body u)) (vw .body u)) → Open p vw
     → ((c : ℕ) → c < p .C → (vw .segOf c ≡ none) ⊎ Entry p vw c) → regionOrderly p r vw ≡ true
 unfolding regionOrderly regionBlocks
 neat-out p r vw v k a blocks o entries =
     all-true _ (all-below-intro (p .gamma) _ (λ u m. block u m (so (assigned vw u))), (open-out p vw v k a o, (all-below-intro (p .C) _ (λ c m. entry-passes p vw c (entries c m)), tt)))
   where
-    block : (u : ℕ) → u < p .gamma → (assigned vw u ≡ true) ⊎ (assigned vw u ≡ false) → not (assigned vw u) || blockRule p r (vw .body u) ≡ true
-    block u m (inl e) = or-right (not (assigned vw u)) (block-out p r (vw .body u) (blocks u m e))
+    block : (u : ℕ) → u < p .gamma → (assigned vw u ≡ true) ⊎ (assigned vw u ≡ false) → not (assigned vw u) || blockRule p r u (vw .body u) ≡ true
+    block u m (inl e) = or-right (not (assigned vw u)) (block-out p r u (vw .body u) (blocks u m e))
     block u m (inr e) = rw e

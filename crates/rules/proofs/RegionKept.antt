@@ -20,7 +20,7 @@ use Rattle.rules.specs.Pages.{filled, frame, held, lastIn}
 use Rattle.rules.specs.Regions.{View, assigned}
 use Rattle.rules.specs.Machine.{withFrame}
 use Rattle.rules.specs.Orderly.{usedPages}
-use Rattle.rules.proofs.FramePut.{Ready, Sheet, sheet-held, body-old, frame-new, frame-old, last-new, last-old, seg-new, seg-old}
+use Rattle.rules.proofs.FramePut.{Ready, Sheet, sheet-held, sheet-stamp, body-old, frame-new, frame-old, last-new, last-old, seg-new, seg-old}
 use Rattle.rules.proofs.Sizes.{Sizes}
 use Rattle.rules.proofs.Frames.{right-programmed, right-used, seg-low, seg-place, seg-vblock}
 use Rattle.rules.proofs.RegionFacts.{regionOrderly, Entry, Fronts, GoodFrame, Open, UpTo, neat-out, up-to-filled}
@@ -28,42 +28,42 @@ use Rattle.rules.proofs.RegionFacts.{regionOrderly, Entry, Fronts, Good
 -- the region is orderly but that the block of frame f may be empty so far, and every other is full
 pub record Base (p : Params) (r : ℕ) (vw : View) (v f : ℕ) : Type 0 where
   pub ready : Ready p vw v f
-  pub front : UpTo p r f (vw .body v)
-  pub others : (u : ℕ) → u < p .gamma → (u ≡ v → ⊥) → assigned vw u ≡ true → (filled p (vw .body u) ≡ frames p) × UpTo p r (frames p) (vw .body u)
+  pub front : UpTo p r v f (vw .body v)
+  pub others : (u : ℕ) → u < p .gamma → (u ≡ v → ⊥) → assigned vw u ≡ true → (filled p (vw .body u) ≡ frames p) × UpTo p r u (frames p) (vw .body u)
   pub entries : (c : ℕ) → c < p .C → (vw .segOf c ≡ none) ⊎ Entry p vw c
 
 pub base-fronts : (p : Params) (z : Sizes p) (r : ℕ) (vw : View) (v f : ℕ) → Base p r vw v f → Fronts p r vw
 base-fronts p z r vw v f base u h a = go (ℕ-discrete u v)
   where
-    go : Dec (u ≡ v) → UpTo p r (filled p (vw .body u)) (vw .body u)
-    go (yes e) = rw (e, up-to-filled p z r f (vw .body v) (omega (arith, base .ready .low)) (base .front)) (base .front)
+    go : Dec (u ≡ v) → UpTo p r u (filled p (vw .body u)) (vw .body u)
+    go (yes e) = rw (e, up-to-filled p z r v f (vw .body v) (omega (arith, base .ready .low)) (base .front)) (base .front)
     go (no ne) = let w = base .others u h ne a in rw (w .0) (w .1)
 
-module _ (p : Params) (z : Sizes p) (r : ℕ) (vw : View) (v f c : ℕ) (x : List ℕ) (base : Base p r vw v f) (sheet : Sheet p c x) (low : c < p .C) (mine : regionOf p c ≡ r) where
+module _ (p : Params) (z : Sizes p) (r : ℕ) (vw : View) (v f c : ℕ) (x : List ℕ) (base : Base p r vw v f) (sheet : Sheet p v c x) (low : c < p .C) (mine : regionOf p c ≡ r) where
   all-used : usedPages p x ≡ p .alpha
   unfolding usedPages
-  all-used = count-is (p .alpha) (p .alpha) _ (omega arith) (λ j h. right-used p x j c (sheet .spares j h)) (λ j a b. absurd (omega arith))
+  all-used = count-is (p .alpha) (p .alpha) _ (omega arith) (λ j h. right-used p x j c (sheet .stamp) v (sheet .spares j h)) (λ j a b. absurd (omega arith))
 
-  good : GoodFrame p r x
+  good : GoodFrame p r v x
   good =
-      let e : held p x ≡ c = sheet-held p z c x sheet in
+      let e : held p x ≡ c = sheet-held p z v c x sheet in
       record {
-        on = right-programmed p x c (sheet .spares 0 (z .sectors));
+        on = right-programmed p x c (sheet .stamp) v (sheet .spares 0 (z .sectors));
         low = rw e low;
         mine = rw e mine;
-        spares = λ j m h. rw e (sheet .spares j h);
+        spares = λ j m h. rw (e, sheet-stamp p z v c x sheet) (sheet .spares j h);
         blank = λ j m h. absurd (omega (arith, all-used));
       }
 
-  up-to-new : UpTo p r (suc f) ((withFrame p vw v f c x) .body v)
+  up-to-new : UpTo p r v (suc f) ((withFrame p vw v f c x) .body v)
   up-to-new = record { front = λ g a b. front g a b (ℕ-discrete g f); rest = λ g a b. rw (frame-old p z vw v f c x (base .ready) sheet g (omega arith)) (base .ready .rest g (omega arith) b) }
     where
-      front : (g : ℕ) → g < suc f → g < frames p → Dec (g ≡ f) → GoodFrame p r (frame p ((withFrame p vw v f c x) .body v) g)
+      front : (g : ℕ) → g < suc f → g < frames p → Dec (g ≡ f) → GoodFrame p r v (frame p ((withFrame p vw v f c x) .body v) g)
       front g a b (yes e) = rw (e, frame-new p z vw v f c x (base .ready) sheet) good
       front g a b (no e) = rw (frame-old p z vw v f c x (base .ready) sheet g e) (base .front .front g (omega arith) b)
 
   pub filled-new : filled p ((withFrame p vw v f c x) .body v) ≡ suc f
-  filled-new = up-to-filled p z r (suc f) _ (base .ready .low) up-to-new
+  filled-new = up-to-filled p z r v (suc f) _ (base .ready .low) up-to-new
 
   some-bytes : 0 < blockBytes p
   unfolding blockBytes frameBytes pageBytes
@@ -90,10 +90,10 @@ module _ (p : Params) (z : Sizes p) (r : ℕ) (vw : View) (v f c : ℕ) (x : Lis
   was u ne a = rw (body-old p z vw v f c x (base .ready) sheet u ne) at a
 
   blocks : (u : ℕ) → u < p .gamma → assigned (withFrame p vw v f c x) u ≡ true
-      → (0 < filled p ((withFrame p vw v f c x) .body u)) × UpTo p r (filled p ((withFrame p vw v f c x) .body u)) ((withFrame p vw v f c x) .body u)
+      → (0 < filled p ((withFrame p vw v f c x) .body u)) × UpTo p r u (filled p ((withFrame p vw v f c x) .body u)) ((withFrame p vw v f c x) .body u)
   blocks u h a = go (ℕ-discrete u v)
     where
-      go : Dec (u ≡ v) → (0 < filled p ((withFrame p vw v f c x) .body u)) × UpTo p r (filled p ((withFrame p vw v f c x) .body u)) ((withFrame p vw v f c x) .body u)
+      go : Dec (u ≡ v) → (0 < filled p ((withFrame p vw v f c x) .body u)) × UpTo p r u (filled p ((withFrame p vw v f c x) .body u)) ((withFrame p vw v f c x) .body u)
       go (yes e) = rw (e, filled-new) (omega arith, up-to-new)
       go (no e) = let k = base .others u h e (was u e a) in rw (body-old p z vw v f c x (base .ready) sheet u e, k .0) (omega (arith, base .ready .low), k .1)
 

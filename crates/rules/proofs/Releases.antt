@@ -28,6 +28,7 @@ use Rattle.rules.proofs.Admitted.{orderly-all, orderly-region}
 use Rattle.rules.proofs.Frames.{seg-low}
 use Rattle.rules.proofs.RegionFacts.{regionOrderly}
 use Rattle.rules.proofs.Sizes.{Sizes}
+use Rattle.rules.proofs.Stamps.{stamps-in, stamps-out}
 use Rattle.rules.proofs.TableFacts.{Tables, lengths-out, tables-in}
 
 -- ---- the view
@@ -163,6 +164,7 @@ module _ (p : Params) (b : Board) (c : ℕ) where
   release-orderly z l o =
       orderly-all p (released p b c) z (release-tables (tables-in p b l o))
       (λ r k. rw (released-view p b c r) (without-orderly p (view p b r) c r (orderly-region p b o r k))) release-marks
+      (stamps-out p (released p b c) (λ r k. rw (released-view p b c r) (unfold released without in stamps-in p b o r k)))
 
   -- "its sectors read as 255", and every other sector as before
   pub release-reads : (j : ℕ) → sector p (released p b c) c j ≡ replicate (p .s) 255

@@ -5,19 +5,19 @@ use mathlib.Core.Logic.{_⊎_, inl, inr}
 use Prim.Native.Nat.{ℕ, _+_, _-_, _*_, _≤_, _<_}
 use native.Mathlib.Omega.{arith}
 use native.Mathlib.Decide.{ℕ-discrete}
-use mathlib.Core.Bool.{Bool, true, false, not, _||_, Bool·beq, false≢true}
+use mathlib.Core.Bool.{Bool, true, false, not, _&&_, _||_, Bool·beq, and-assoc, and-true, false≢true}
 use lib.Dec.{eqb, ltb, leb}
 use borrow.Author.Tests.{eqb-true, eq-eqb, ne-eqb, lt-ltb, ltb-true, leb-true, le-leb, not-true, not-false}
-use lib.ListN.{length}
-use Rattle.lists.specs.Below.{allBelow, countBelow}
+use lib.ListN.{length, take}
+use Rattle.lists.specs.Below.{allBelow, allTrue, countBelow}
 use Rattle.lists.specs.Parts.{allAre}
-use Rattle.lists.proofs.Tests.{all-at, all-below-intro, all-true, never, or-cases, or-right, so, some-fails, truths}
+use Rattle.lists.proofs.Tests.{all-at, all-below-intro, all-true, and-intro, and-left, never, or-cases, or-right, so, some-fails, truths}
 use Rattle.rules.specs.declared.Params.{Params}
 use Rattle.rules.specs.Parameters.{pages, frameBytes, blockBytes, chipBytes}
 use Rattle.rules.specs.Tables.{Board, bstAt, btEntry, marksLength, none}
 use Rattle.rules.specs.Pages.{block}
 use Rattle.rules.specs.Marks.{marksOf}
-use Rattle.rules.specs.Orderly.{bstRule, btRule, onceRule, named, usedRule, roomRule, freeRule, blocksRule, fstRule, ctRule, rulesOf, orderly}
+use Rattle.rules.specs.Orderly.{bstRule, btRule, onceRule, named, usedRule, roomRule, freeRule, blocksRule, fstRule, ctRule, marksRule, stampRule, rulesOf, orderly}
 use Rattle.rules.specs.Replies.{lengthsFit}
 use Rattle.rules.proofs.MarkFacts.{marks-long, right, rule-of}
 
@@ -159,9 +159,20 @@ lengths-in p b l =
       stampsLength = eqb-true _ _ (a .1 .1 .1 .1 .1 .1 .1 .0);
     }
 
-pub tables-in : (p : Params) (b : Board) → lengthsFit p b ≡ true → orderly p b ≡ true → Tables p b
-unfolding orderly rulesOf bstRule roomRule
-tables-in p b l h =
+-- the nine rules of document 01, which look at no mark and at no last stamp
+unfoldable pub nineRules : Params → Board → Bool
+nineRules p b = allTrue (take 9 (rulesOf p b))
+
+pub orderly-is : (p : Params) (b : Board) → orderly p b ≡ nineRules p b && (marksRule p b && stampRule p b)
+unfolding orderly nineRules rulesOf allTrue
+orderly-is p b = simp (and-assoc, and-true)
+
+pub nine-in : (p : Params) (b : Board) → orderly p b ≡ true → nineRules p b ≡ true
+nine-in p b h = and-left (nineRules p b) _ (sym (orderly-is p b) ∙ h)
+
+pub tables-nine : (p : Params) (b : Board) → lengthsFit p b ≡ true → nineRules p b ≡ true → Tables p b
+unfolding nineRules rulesOf bstRule roomRule
+tables-nine p b l h =
     let a = lengths-in p b l in
     let t = truths _ h in
     record {
@@ -180,6 +191,9 @@ tables-in p b l h =
       room = leb-true _ _ (t .1 .1 .1 .1 .0);
       free = free-in p b (t .1 .1 .1 .1 .1 .0);
     }
+
+pub tables-in : (p : Params) (b : Board) → lengthsFit p b ≡ true → orderly p b ≡ true → Tables p b
+tables-in p b l h = tables-nine p b l (nine-in p b h)
 
 -- of an orderly board the marks are its own
 pub marks-in : (p : Params) (b : Board) → lengthsFit p b ≡ true → orderly p b ≡ true → b .marks ≡ marksOf p b
@@ -200,10 +214,10 @@ lengths-out p b t m =
       ),
     )
 
--- the tables' rules, and those of the used blocks, FST and CT, make an orderly state of a board whose marks are its own
-pub orderly-out : (p : Params) (b : Board) → Tables p b → blocksRule p b ≡ true → fstRule p b ≡ true → ctRule p b ≡ true → b .marks ≡ marksOf p b → orderly p b ≡ true
-unfolding orderly rulesOf bstRule roomRule
-orderly-out p b t u f c m =
+-- the tables' rules, and those of the used blocks, FST and CT, are the nine rules
+pub nine-out : (p : Params) (b : Board) → Tables p b → blocksRule p b ≡ true → fstRule p b ≡ true → ctRule p b ≡ true → nineRules p b ≡ true
+unfolding nineRules rulesOf bstRule roomRule
+nine-out p b t u f c =
     all-true _ (
       all-below-intro (p .N) _ (λ n k. le-leb _ _ (t .kinds n k)),
       (
@@ -212,8 +226,12 @@ orderly-out p b t u f c m =
           once-out p b (t .once),
           (
             used-out p b (t .used) (t .usedBack),
-            (le-leb _ _ (t .room), (free-out p b (t .free), (u, (f, (c, (rule-of p b m, tt)))))),
+            (le-leb _ _ (t .room), (free-out p b (t .free), (u, (f, (c, tt))))),
           ),
         ),
       ),
     )
+
+-- with marks that are the board's own, and the stamps' rule, they make an orderly state
+pub orderly-nine : (p : Params) (b : Board) → nineRules p b ≡ true → b .marks ≡ marksOf p b → stampRule p b ≡ true → orderly p b ≡ true
+orderly-nine p b h m s = orderly-is p b ∙ and-intro h (and-intro (rule-of p b m) s)

@@ -26,13 +26,13 @@ module _ (p : Params) (z : Sizes p) (r : ℕ) (vw : View) (fronts : Fronts p r v
   found = last-holds p z (vw .body (vblockOf p (vw .segOf c))) (placeOf p (vw .segOf c)) c (e .held)
 
   -- it is one of the programmed frames of its block
-  good : GoodFrame p r (frame p (vw .body block-of) frame-of)
+  good : GoodFrame p r block-of (frame p (vw .body block-of) frame-of)
   good =
       let u = fronts block-of (div-lt-iff-lt-mul (z .segments) .1 (e .low)) (e .has) in
-      u .front frame-of (holds-front p r _ (vw .body block-of) u frame-of c (e .held) (found .1)) (e .held)
+      u .front frame-of (holds-front p r block-of _ (vw .body block-of) u frame-of c (e .held) (found .1)) (e .held)
 
   pub held-is : held p (frame p (vw .body block-of) frame-of) ≡ c
-  held-is = good-held p z r (frame p (vw .body block-of) frame-of) good c (found .1)
+  held-is = good-held p z r block-of (frame p (vw .body block-of) frame-of) good c (found .1)
 
   pub is-valid : Valid p vw block-of frame-of
   is-valid =

@@ -59,7 +59,7 @@ module _ (p : Params) (z : Sizes p) (vw : View) where
       (k, sym (a .last) ∙ ap₂ (λ x y. lastIn p (vw .body v) x y) l e ∙ ap (λ x. lastIn p (vw .body x) (g / p .beta) (held p (frame p (vw .body u) g))) k ∙ b .last)
 
   module _ (r : ℕ) (neat : Neat p r vw) (no-room : hasRoom p vw ≡ false) (every : (u : ℕ) → u < p .gamma → assigned vw u ≡ true) where
-    pub good-at : (u f : ℕ) → u < p .gamma → f < frames p → GoodFrame p r (frame p (vw .body u) f)
+    pub good-at : (u f : ℕ) → u < p .gamma → f < frames p → GoodFrame p r u (frame p (vw .body u) f)
     good-at u f h k = (neat .blocks u h (every u h)) .1 .front f (rw (all-full p z r vw neat no-room u h (every u h)) k) k
 
     -- the frames of the region, numbered

@@ -106,9 +106,9 @@ allowed-exactly p = (allowed-in p, allowed-out p)
 
 -- ---- spare bytes
 
-spare-in : (c j : ℕ) → c < 4294967296 → SpareListed c j (spareBytes c j)
+spare-in : (c j t v : ℕ) → c < 4294967296 → t < 4294967296 → SpareListed c j t v (spareBytes c j t v)
 unfolding spareBytes bytes32
-spare-in c j h =
+spare-in c j t v h k =
     record {
       long = refl;
       bytes = low;
@@ -116,18 +116,36 @@ spare-in c j h =
       place = refl;
       five = refl;
       six = refl;
-      rest = λ i a b. ap (λ (n : ℕ). getD (spareBytes c j) n 255) (seven i a) ∙ getD-replicate 9 (i - 7) 255 255 (omega arith);
+      stampBytes = mid;
+      stamp = omega (arith, le-bytes t k);
+      vblock = refl;
+      rest = high;
     }
   where
-    low : (i : ℕ) → i < 4 → getD (spareBytes c j) i 255 < 256
+    low : (i : ℕ) → i < 4 → getD (spareBytes c j t v) i 255 < 256
     low zero k = mod-lt c (omega arith)
     low (suc zero) k = mod-lt (c / 256) (omega arith)
     low (suc (suc zero)) k = mod-lt (c / 65536) (omega arith)
     low (suc (suc (suc zero))) k = mod-lt (c / 16777216) (omega arith)
     low (suc (suc (suc (suc i)))) k = absurd (omega arith)
 
-    seven : (i : ℕ) → 7 ≤ i → i ≡ suc (suc (suc (suc (suc (suc (suc (i - 7)))))))
-    seven i a = omega arith
+    stamped : (i : ℕ) → i < 4 → getD (spareBytes c j t v) (7 + i) 255 < 256
+    stamped zero k = mod-lt t (omega arith)
+    stamped (suc zero) k = mod-lt (t / 256) (omega arith)
+    stamped (suc (suc zero)) k = mod-lt (t / 65536) (omega arith)
+    stamped (suc (suc (suc zero))) k = mod-lt (t / 16777216) (omega arith)
+    stamped (suc (suc (suc (suc i)))) k = absurd (omega arith)
+
+    mid : (i : ℕ) → 7 ≤ i → i < 11 → getD (spareBytes c j t v) i 255 < 256
+    mid i a b =
+        let e : 7 + (i - 7) ≡ i = omega arith in
+        rw e at (stamped (i - 7) (omega arith))
+
+    twelve : (i : ℕ) → 12 ≤ i → i ≡ suc (suc (suc (suc (suc (suc (suc (suc (suc (suc (suc (suc (i - 12))))))))))))
+    twelve i a = omega arith
+
+    high : (i : ℕ) → 12 ≤ i → i < 16 → getD (spareBytes c j t v) i 255 ≡ 255
+    high i a b = ap (λ (n : ℕ). getD (spareBytes c j t v) n 255) (twelve i a) ∙ getD-replicate 4 (i - 12) 255 255 (omega arith)
 
 -- the lowest digit of a number, and what is left of it
 digit : (c a x : ℕ) → a < 256 → a + 256 * x ≡ c → (c % 256 ≡ a) × (c / 256 ≡ x)
@@ -145,16 +163,21 @@ digits-back c a₀ a₁ a₂ a₃ h₀ h₁ h₂ h₃ e =
     let e₂ : c / 16777216 ≡ c / 256 / 256 / 256 = sym (div-div-eq-div-mul c 65536 256) ∙ ap (λ (m : ℕ). m / 256) e₁ in
     (sym (d₀ .0), sym (d₁ .0), rw e₁ (sym (d₂ .0)), rw e₂ (sym (d₃ .0)))
 
-spare-out : (c j : ℕ) (l : List ℕ) → SpareListed c j l → l ≡ spareBytes c j
+spare-out : (c j t v : ℕ) (l : List ℕ) → SpareListed c j t v l → l ≡ spareBytes c j t v
 unfolding spareBytes bytes32
-spare-out c j l s = ext-getD 255 l (spareBytes c j) (s .long) (λ i h. at i (omega (arith, s .long)))
+spare-out c j t v l s = ext-getD 255 l (spareBytes c j t v) (s .long) (λ i h. at i (omega (arith, s .long)))
   where
     ds : (getD l 0 255 ≡ c % 256) × (getD l 1 255 ≡ c / 256 % 256) × (getD l 2 255 ≡ c / 65536 % 256) × (getD l 3 255 ≡ c / 16777216 % 256)
     ds =
         digits-back c (getD l 0 255) (getD l 1 255) (getD l 2 255) (getD l 3 255) (s .bytes 0 (omega arith)) (s .bytes 1 (omega arith)) (s .bytes 2 (omega arith))
         (s .bytes 3 (omega arith)) (s .cluster)
 
-    at : (i : ℕ) → i < 16 → getD l i 255 ≡ getD (spareBytes c j) i 255
+    ts : (getD l 7 255 ≡ t % 256) × (getD l 8 255 ≡ t / 256 % 256) × (getD l 9 255 ≡ t / 65536 % 256) × (getD l 10 255 ≡ t / 16777216 % 256)
+    ts =
+        digits-back t (getD l 7 255) (getD l 8 255) (getD l 9 255) (getD l 10 255) (s .stampBytes 7 (omega arith) (omega arith)) (s .stampBytes 8 (omega arith) (omega arith))
+        (s .stampBytes 9 (omega arith) (omega arith)) (s .stampBytes 10 (omega arith) (omega arith)) (s .stamp)
+
+    at : (i : ℕ) → i < 16 → getD l i 255 ≡ getD (spareBytes c j t v) i 255
     at zero h = ds .0
     at (suc zero) h = ds .1
     at (suc (suc zero)) h = ds .2
@@ -162,10 +185,15 @@ spare-out c j l s = ext-getD 255 l (spareBytes c j) (s .long) (λ i h. at i (ome
     at (suc (suc (suc (suc zero)))) h = s .place
     at (suc (suc (suc (suc (suc zero))))) h = s .five
     at (suc (suc (suc (suc (suc (suc zero)))))) h = s .six
-    at (suc (suc (suc (suc (suc (suc (suc i))))))) h = s .rest _ (omega arith) h ∙ sym (getD-replicate 9 i 255 255 (omega arith))
+    at (suc (suc (suc (suc (suc (suc (suc zero))))))) h = ts .0
+    at (suc (suc (suc (suc (suc (suc (suc (suc zero)))))))) h = ts .1
+    at (suc (suc (suc (suc (suc (suc (suc (suc (suc zero))))))))) h = ts .2
+    at (suc (suc (suc (suc (suc (suc (suc (suc (suc (suc zero)))))))))) h = ts .3
+    at (suc (suc (suc (suc (suc (suc (suc (suc (suc (suc (suc zero))))))))))) h = s .vblock
+    at (suc (suc (suc (suc (suc (suc (suc (suc (suc (suc (suc (suc i)))))))))))) h = s .rest _ (omega arith) h ∙ sym (getD-replicate 4 i 255 255 (omega arith))
 
 pub spares-exactly : SparesExactly
-spares-exactly c j h l = (λ e. rw e (spare-in c j h), spare-out c j l)
+spares-exactly c j t v h k l = (λ e. rw e (spare-in c j t v h k), spare-out c j t v l)
 
 -- ---- wear
 

@@ -33,11 +33,13 @@ use Rattle.rules.specs.Write.{
   hasRoom,
   lowestUnassigned,
   newFrame,
+  nextStamp,
   opens,
   planBlock,
   planFrame,
   planOf,
   planOps,
+  planVBlock,
   reclaims,
   roomOps,
   victim,
@@ -48,7 +50,7 @@ use Rattle.rules.specs.Write.{
 use Rattle.rules.specs.Replies.{lengthsFit, replyOf}
 use Rattle.rules.specs.Requests.{Request, write, requestCluster, requestRegion}
 use Rattle.rules.specs.Machine.{viewAfter}
-use Rattle.rules.proofs.Admitted.{Admitted, admitted, write-checks}
+use Rattle.rules.proofs.Admitted.{Admitted, admitted, stamp-left, write-checks}
 use Rattle.rules.proofs.Continues.{Makes, continue-base, continue-makes, is-open}
 use Rattle.rules.proofs.Sizes.{Sizes}
 use Rattle.rules.proofs.Opens.{open-makes}
@@ -152,7 +154,7 @@ unfolding planOps roomOps
 counts p b r q pl =
     let a = frames-programs p (planBlock p b r pl) 0 (copies p (view p b r) pl) in
     let e = erase-counts p b r pl in
-    let f = frame-programs p (planBlock p b r pl) (planFrame p (view p b r) pl) (newFrame p (view p b r) q) (p .alpha) in
+    let f = frame-programs p (planBlock p b r pl) (planFrame p (view p b r) pl) (newFrame p (view p b r) q (nextStamp b r) (planVBlock pl)) (p .alpha) in
     (simp (programs-append, a .0, e .0, f .0) (omega arith), simp (erases-append, a .1, e .1, f .1) (omega arith))
 
 pub copies-few : (p : Params) (vw : View) (pl : Plan) → length (copies p vw pl) ≤ planFrame p vw pl
@@ -187,7 +189,7 @@ pub record Promise (p : Params) (b : Board) (q : Request) (b′ : Board) : Type 
   pub erased : clean p (b .chip) (writeOps p b q) ≡ true
   -- (I) other regions' views stay; the region's own, and the counts, follow from its own view alone
   pub isolated : (r : ℕ) → r < p .mu → (r ≡ requestRegion p q → ⊥) → view p b′ r ≡ view p b r
-  pub own : view p b′ (requestRegion p q) ≡ viewAfter p (view p b (requestRegion p q)) q
+  pub own : view p b′ (requestRegion p q) ≡ viewAfter p (view p b (requestRegion p q)) (nextStamp b (requestRegion p q)) q
   pub programs : programsIn (writeOps p b q) ≡ p .alpha * (length (copies p (view p b (requestRegion p q)) (planOf p (view p b (requestRegion p q)))) + 1)
   pub bounded : (programsIn (writeOps p b q) ≤ pages p) × (erasesIn (writeOps p b q) ≤ 1)
   pub erases : erasesIn (writeOps p b q) ≡ planErases (planOf p (view p b (requestRegion p q)))
@@ -196,19 +198,20 @@ pub write-promise : (p : Params) (b : Board) (q : Request) → replyOf p b (writ
 unfolding written writeOps viewAfter
 write-promise p b q e =
     let acc = admitted p b q (write-checks p b q e) in
+    let left = stamp-left p b q e in
     let r = regionOf p (requestCluster p q) in
     let low : r < p .mu = mod-lt (requestCluster p q) (acc .sized .regions) in
     let pl = planOf p (view p b r) in
     let m : Makes p b r pl = makes p (acc .sized) b (acc .tables) r low (neat p r (view p b r) (acc .tidy r low)) in
     record {
-      orderlyLeft = write-orderly p b q acc r refl pl m;
-      lengths = lengths-out p (writtenBy p b r q pl) (tables-after p b q acc r refl pl m) (write-marks p b r q pl);
-      given = reads-given p b q acc r refl pl m;
-      rest = reads-rest p b q acc r refl pl m;
-      others = reads-else p b q acc r refl pl m;
-      erased = write-clean p b q acc r refl pl m;
-      isolated = others-same p b q acc r refl pl m;
-      own = own-is p b q acc r refl pl m;
+      orderlyLeft = write-orderly p b q acc r refl pl m left;
+      lengths = lengths-out p (writtenBy p b r q pl) (tables-after p b q acc r refl pl m left) (write-marks p b r q pl);
+      given = reads-given p b q acc r refl pl m left;
+      rest = reads-rest p b q acc r refl pl m left;
+      others = reads-else p b q acc r refl pl m left;
+      erased = write-clean p b q acc r refl pl m left;
+      isolated = others-same p b q acc r refl pl m left;
+      own = own-is p b q acc r refl pl m left;
       programs = (counts p b r q pl) .0;
       erases = (counts p b r q pl) .1;
       bounded = (rw ((counts p b r q pl) .0) (bound p (view p b r) pl (m .base .ready .low)), rw ((counts p b r q pl) .1) (one-erase pl));

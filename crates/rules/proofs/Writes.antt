@@ -11,17 +11,18 @@ use mathlib.Core.List.{List, [], _∷_}
 use lib.Dec.{eqb, leb}
 use borrow.Author.Tests.{lt-leb, le-ltb}
 use lib.ListN.{length, set, length-set}
+use lib.Seq.{getD-set-same, getD-set-other}
 use Rattle.lists.specs.Parts.{part}
 use Rattle.rules.specs.declared.Params.{Params}
 use Rattle.rules.specs.Parameters.{blockBytes, frames}
 use Rattle.rules.specs.Numbers.{placeOf, regionOf, sectorOf, vblockOf}
-use Rattle.rules.specs.Tables.{Board, bstAt, btAt, btEntry, none}
+use Rattle.rules.specs.Tables.{Board, bstAt, btAt, btEntry, none, stampAt}
 use Rattle.rules.specs.Pages.{block, lastIn}
 use Rattle.rules.specs.Regions.{assigned, sector, sectorIn, view}
-use Rattle.rules.specs.Orderly.{orderly}
+use Rattle.rules.specs.Orderly.{orderly, stampRule}
 use Rattle.rules.specs.Marks.{marksOf}
 use Rattle.rules.specs.Traces.{Op, clean, erase, onWear, program, replayChip, replayWear}
-use Rattle.rules.specs.Write.{Plan, copies, followCt, newFrame, newSector, planBlock, planFrame, planOps, planVBlock, roomOps, writtenBy}
+use Rattle.rules.specs.Write.{Plan, copies, followCt, newFrame, newSector, nextStamp, planBlock, planFrame, planOps, planVBlock, roomOps, writtenBy}
 use Rattle.rules.specs.Requests.{Request, requestCluster, requestRegion}
 use Rattle.rules.specs.Machine.{withFrame, withRoom}
 use Rattle.rules.proofs.Admitted.{Admitted, orderly-all}
@@ -30,9 +31,10 @@ use Rattle.rules.proofs.Chip.{clean-append, replay-append}
 use Rattle.rules.proofs.Continues.{Makes}
 use Rattle.rules.proofs.FramePut.{Named, Sheet, read-new, read-old}
 use Rattle.rules.proofs.Isolation.{Effect, index-low, others-view, own-view}
-use Rattle.rules.proofs.NewFrames.{data-new, host-sheet, new-given}
+use Rattle.rules.proofs.NewFrames.{data-new, host-sheet, host-stamp, new-given}
 use Rattle.rules.proofs.RegionFacts.{Entry, Neat, neat, regionOrderly}
 use Rattle.rules.proofs.RegionKept.{put-orderly}
+use Rattle.rules.proofs.Stamps.{Bounded, put-bounded, stamps-out, stood-bounded}
 use Rattle.rules.proofs.TableFacts.{Tables}
 use Rattle.rules.proofs.TablesKept.{Change, reserved, reserved-block, tables-kept}
 use Rattle.rules.proofs.Views.{body-size}
@@ -48,17 +50,19 @@ pub write-marks : (p : Params) (b : Board) (r : ℕ) (q : Request) (pl : Plan) �
 unfolding writtenBy
 write-marks p b r q pl = refl
 
--- the frame that a write puts is one of its cluster's
-pub own-sheet : (p : Params) (b : Board) (q : Request) → Admitted p b q → Sheet p (requestCluster p q) (newFrame p (view p b (requestRegion p q)) q)
-own-sheet p b q acc =
+-- the frame that a write puts is one of its cluster's, with any stamp and in any virtual block
+pub own-sheet : (p : Params) (b : Board) (q : Request) → Admitted p b q → (t v : ℕ) → t < 4294967296
+    → Sheet p v (requestCluster p q) (newFrame p (view p b (requestRegion p q)) q t v)
+own-sheet p b q acc t v early =
     let r = requestRegion p q in
     let region : r < p .mu = mod-lt (requestCluster p q) (acc .sized .regions) in
     host-sheet p (acc .sized) (view p b r) (λ v h a. body-size p (acc .sized) b (acc .tables) r v region h a) q (acc .asked)
-    ((neat p r (view p b r) (acc .tidy r region)) .entries (requestCluster p q) (acc .asked .cluster))
+    ((neat p r (view p b r) (acc .tidy r region)) .entries (requestCluster p q) (acc .asked .cluster)) t v early
 
 -- ---- a write by a plan that makes room
 
-module _ (p : Params) (b : Board) (q : Request) (acc : Admitted p b q) (r : ℕ) (is : regionOf p (requestCluster p q) ≡ r) (pl : Plan) (makes : Makes p b r pl) where
+module _ (p : Params) (b : Board) (q : Request) (acc : Admitted p b q) (r : ℕ) (is : regionOf p (requestCluster p q) ≡ r) (pl : Plan) (makes : Makes p b r pl)
+    (left : nextStamp b r < 4294967296) where
   region : r < p .mu
   region = rw (← is) (mod-lt (requestCluster p q) (acc .sized .regions))
 
@@ -68,10 +72,14 @@ module _ (p : Params) (b : Board) (q : Request) (acc : Admitted p b q) (r : ℕ)
   sized-r : (v : ℕ) → v < p .gamma → assigned (view p b r) v ≡ true → length ((view p b r) .body v) ≡ blockBytes p
   sized-r v h a = body-size p (acc .sized) b (acc .tables) r v region h a
 
-  sheet : Sheet p (requestCluster p q) (newFrame p (view p b r) q)
-  sheet = rw (← is) (own-sheet p b q acc)
+  sheet : Sheet p (planVBlock pl) (requestCluster p q) (newFrame p (view p b r) q (nextStamp b r) (planVBlock pl))
+  sheet = host-sheet p (acc .sized) (view p b r) sized-r q (acc .asked) (neat-r .entries (requestCluster p q) (acc .asked .cluster)) (nextStamp b r) (planVBlock pl) left
 
-  put : Put p b (writtenBy p b r q pl) r (planVBlock pl) (planBlock p b r pl) (planFrame p (view p b r) pl) (requestCluster p q) (newFrame p (view p b r) q)
+  sheet-is : sheet .stamp ≡ nextStamp b r
+  unfolding sheet
+  sheet-is = host-stamp p (acc .sized) (view p b r) sized-r q (acc .asked) (neat-r .entries (requestCluster p q) (acc .asked .cluster)) (nextStamp b r) (planVBlock pl) left
+
+  put : Put p b (writtenBy p b r q pl) r (planVBlock pl) (planBlock p b r pl) (planFrame p (view p b r) pl) (requestCluster p q) (newFrame p (view p b r) q (nextStamp b r) (planVBlock pl))
       (replayChip p (b .chip) (roomOps p b r pl)) (followCt p (planVBlock pl) 0 (copies p (view p b r) pl) (b .ct))
   unfolding writtenBy planOps
   put = record { chip = replay-append p (b .chip) (roomOps p b r pl) _; ct = refl; bt = refl; fst = refl }
@@ -81,28 +89,28 @@ module _ (p : Params) (b : Board) (q : Request) (acc : Admitted p b q) (r : ℕ)
   unfolding planOps
   write-clean =
       clean-append p (b .chip) (roomOps p b r pl) _ (makes .tidy)
-      (host-clean p (acc .sized) b (writtenBy p b r q pl) (acc .tables) r (planVBlock pl) (planBlock p b r pl) (planFrame p (view p b r) pl) (requestCluster p q) (newFrame p (view p b r) q)
+      (host-clean p (acc .sized) b (writtenBy p b r q pl) (acc .tables) r (planVBlock pl) (planBlock p b r pl) (planFrame p (view p b r) pl) (requestCluster p q) (newFrame p (view p b r) q (nextStamp b r) (planVBlock pl))
       _ _ (withRoom p (view p b r) pl) (makes .room) put region (acc .asked .cluster) is (makes .base .ready) sheet)
 
   effect : Effect p b (writtenBy p b r q pl) r (planVBlock pl) (planBlock p b r pl)
-      (withFrame p (withRoom p (view p b r) pl) (planVBlock pl) (planFrame p (view p b r) pl) (requestCluster p q) (newFrame p (view p b r) q))
+      (withFrame p (withRoom p (view p b r) pl) (planVBlock pl) (planFrame p (view p b r) pl) (requestCluster p q) (newFrame p (view p b r) q (nextStamp b r) (planVBlock pl)))
   effect =
-      write-effect p (acc .sized) b (writtenBy p b r q pl) (acc .tables) r (planVBlock pl) (planBlock p b r pl) (planFrame p (view p b r) pl) (requestCluster p q) (newFrame p (view p b r) q)
+      write-effect p (acc .sized) b (writtenBy p b r q pl) (acc .tables) r (planVBlock pl) (planBlock p b r pl) (planFrame p (view p b r) pl) (requestCluster p q) (newFrame p (view p b r) q (nextStamp b r) (planVBlock pl))
       _ _ (withRoom p (view p b r) pl) (makes .room) put region (acc .asked .cluster) is (makes .base .ready) sheet
 
   -- (I) another region's view is what it was, and its own depends on its own alone
   pub others-same : (r′ : ℕ) → r′ < p .mu → (r′ ≡ r → ⊥) → view p (writtenBy p b r q pl) r′ ≡ view p b r′
   others-same r′ h ne = others-view p b (writtenBy p b r q pl) r (planVBlock pl) (planBlock p b r pl) _ (makes .base .ready .mine) region effect r′ h ne
 
-  pub own-is : view p (writtenBy p b r q pl) r ≡ withFrame p (withRoom p (view p b r) pl) (planVBlock pl) (planFrame p (view p b r) pl) (requestCluster p q) (newFrame p (view p b r) q)
+  pub own-is : view p (writtenBy p b r q pl) r ≡ withFrame p (withRoom p (view p b r) pl) (planVBlock pl) (planFrame p (view p b r) pl) (requestCluster p q) (newFrame p (view p b r) q (nextStamp b r) (planVBlock pl))
   own-is = own-view p b (writtenBy p b r q pl) r (planVBlock pl) (planBlock p b r pl) _ (makes .base .ready .mine) region effect
 
   -- (R) the sectors of the request read as given, the others as before
   here-in : (j : ℕ) → j < p .alpha → sector p (writtenBy p b r q pl) (requestCluster p q) j ≡ newSector p (view p b r) q j
   unfolding sector
   here-in j h =
-      rw (is, own-is) (read-new p (acc .sized) (withRoom p (view p b r) pl) (planVBlock pl) (planFrame p (view p b r) pl) (requestCluster p q) (newFrame p (view p b r) q) (makes .base .ready) sheet j
-      ∙ data-new p (acc .sized) (view p b r) sized-r q (acc .asked) (neat-r .entries (requestCluster p q) (acc .asked .cluster)) j h)
+      rw (is, own-is) (read-new p (acc .sized) (withRoom p (view p b r) pl) (planVBlock pl) (planFrame p (view p b r) pl) (requestCluster p q) (newFrame p (view p b r) q (nextStamp b r) (planVBlock pl)) (makes .base .ready) sheet j
+      ∙ data-new p (acc .sized) (view p b r) sized-r q (acc .asked) (neat-r .entries (requestCluster p q) (acc .asked .cluster)) (nextStamp b r) (planVBlock pl) j h)
 
   pub reads-given : (j : ℕ) → sectorOf p (q .lba) ≤ j → j < sectorOf p (q .lba) + q .count
       → sector p (writtenBy p b r q pl) (requestCluster p q) j ≡ part (p .s) (j - sectorOf p (q .lba)) (q .bytes)
@@ -125,7 +133,7 @@ module _ (p : Params) (b : Board) (q : Request) (acc : Admitted p b q) (r : ℕ)
     where
       go : Dec (regionOf p c ≡ r) → sectorIn p (view p (writtenBy p b r q pl) (regionOf p c)) c j ≡ sectorIn p (view p b (regionOf p c)) c j
       go (yes e) =
-          rw (e, own-is) (read-old p (acc .sized) (withRoom p (view p b r) pl) (planVBlock pl) (planFrame p (view p b r) pl) (requestCluster p q) (newFrame p (view p b r) q)
+          rw (e, own-is) (read-old p (acc .sized) (withRoom p (view p b r) pl) (planVBlock pl) (planFrame p (view p b r) pl) (requestCluster p q) (newFrame p (view p b r) q (nextStamp b r) (planVBlock pl))
           (makes .base .ready) sheet c ne (named-in c h) j
           ∙ makes .reads c h j)
       go (no e) = rw (others-same (regionOf p c) (mod-lt c (acc .sized .regions)) e)
@@ -150,12 +158,12 @@ module _ (p : Params) (b : Board) (q : Request) (acc : Admitted p b q) (r : ℕ)
   -- (P) an orderly state is left
   else-block : (m : ℕ) → (m ≡ planBlock p b r pl → ⊥) → block p ((writtenBy p b r q pl) .chip) m ≡ block p (replayChip p (b .chip) (roomOps p b r pl)) m
   else-block =
-      block-else p (acc .sized) b (writtenBy p b r q pl) (acc .tables) r (planVBlock pl) (planBlock p b r pl) (planFrame p (view p b r) pl) (requestCluster p q) (newFrame p (view p b r) q)
+      block-else p (acc .sized) b (writtenBy p b r q pl) (acc .tables) r (planVBlock pl) (planBlock p b r pl) (planFrame p (view p b r) pl) (requestCluster p q) (newFrame p (view p b r) q (nextStamp b r) (planVBlock pl))
       _ _ (withRoom p (view p b r) pl) (makes .room) put region (acc .asked .cluster) is (makes .base .ready) sheet
 
   size-chip : length ((writtenBy p b r q pl) .chip) ≡ p .N * blockBytes p
   size-chip =
-      chip-length p (acc .sized) b (writtenBy p b r q pl) (acc .tables) r (planVBlock pl) (planBlock p b r pl) (planFrame p (view p b r) pl) (requestCluster p q) (newFrame p (view p b r) q)
+      chip-length p (acc .sized) b (writtenBy p b r q pl) (acc .tables) r (planVBlock pl) (planBlock p b r pl) (planFrame p (view p b r) pl) (requestCluster p q) (newFrame p (view p b r) q (nextStamp b r) (planVBlock pl))
       _ _ (withRoom p (view p b r) pl) (makes .room) put region (acc .asked .cluster) is (makes .base .ready) sheet
 
   change : Change p b (writtenBy p b r q pl) (r * p .gamma + planVBlock pl) (planBlock p b r pl)
@@ -192,10 +200,28 @@ module _ (p : Params) (b : Board) (q : Request) (acc : Admitted p b q) (r : ℕ)
   pub reserved-bytes : (m : ℕ) → m < p .N → bstAt (b .bst) m ≡ 2 → block p ((writtenBy p b r q pl) .chip) m ≡ block p (b .chip) m
   reserved-bytes = reserved-block p (acc .sized) b (writtenBy p b r q pl) (acc .tables) _ _ change
 
+  -- (S) no stamp is larger than its region's last
+  write-stamps : stampRule p (writtenBy p b r q pl) ≡ true
+  write-stamps = stamps-out p (writtenBy p b r q pl) (λ r′ h. go r′ h (ℕ-discrete r′ r))
+    where
+      here : stampAt ((writtenBy p b r q pl) .stamps) r ≡ stampAt (b .stamps) r + 1
+      here = unfold writtenBy nextStamp stampAt in getD-set-same (b .stamps) r _ 0 (rw (acc .tables .stampsLength) region)
+
+      else : (r′ : ℕ) → (r′ ≡ r → ⊥) → stampAt ((writtenBy p b r q pl) .stamps) r′ ≡ stampAt (b .stamps) r′
+      else r′ ne = unfold writtenBy stampAt in getD-set-other (b .stamps) r r′ _ 0 ne
+
+      go : (r′ : ℕ) → r′ < p .mu → Dec (r′ ≡ r) → Bounded p (view p (writtenBy p b r q pl) r′) (stampAt ((writtenBy p b r q pl) .stamps) r′)
+      go r′ h (yes e) =
+          rw (e, own-is, here)
+          (put-bounded p (acc .sized) (withRoom p (view p b r) pl) (planVBlock pl) (planFrame p (view p b r) pl) (requestCluster p q) _ (makes .base .ready) sheet
+          (stampAt (b .stamps) r) (sheet-is ∙ unfold nextStamp in refl)
+          (stood-bounded p (view p b r) (withRoom p (view p b r) pl) (stampAt (b .stamps) r) (makes .stood) (acc .stamped r region)))
+      go r′ h (no e) = rw (others-same r′ h e, else r′ e) (acc .stamped r′ h)
+
   pub write-orderly : orderly p (writtenBy p b r q pl) ≡ true
-  write-orderly = orderly-all p (writtenBy p b r q pl) (acc .sized) tables-after (λ r′ h. go r′ h (ℕ-discrete r′ r)) (write-marks p b r q pl)
+  write-orderly = orderly-all p (writtenBy p b r q pl) (acc .sized) tables-after (λ r′ h. go r′ h (ℕ-discrete r′ r)) (write-marks p b r q pl) write-stamps
     where
       go : (r′ : ℕ) → r′ < p .mu → Dec (r′ ≡ r) → regionOrderly p r′ (view p (writtenBy p b r q pl) r′) ≡ true
       go r′ h (yes e) = rw (e, own-is) (put-orderly p (acc .sized) r (withRoom p (view p b r) pl) (planVBlock pl) (planFrame p (view p b r) pl) (requestCluster p q)
-          (newFrame p (view p b r) q) (makes .base) sheet (acc .asked .cluster) is)
+          (newFrame p (view p b r) q (nextStamp b r) (planVBlock pl)) (makes .base) sheet (acc .asked .cluster) is)
       go r′ h (no e) = rw (others-same r′ h e) (acc .tidy r′ h)

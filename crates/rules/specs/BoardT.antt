@@ -4,9 +4,9 @@
 use Prim.Native.Nat.{ℕ, _+_, _-_, _*_}
 use mathlib.Core.Bool.{Bool, true, false, _&&_, cond}
 use mathlib.Core.List.{List, [], _∷_, _++_}
-use lib.ListN.{take, replicate}
+use lib.ListN.{take, drop, replicate}
 use Rattle.lists.specs.Below.{joinBelow}
-use Rattle.lists.specs.Parts.{putPart, sameList}
+use Rattle.lists.specs.Parts.{part, putPart, sameList}
 use Rattle.rules.specs.declared.Params.{Params}
 use Rattle.rules.specs.declared.Answer.{Answer}
 use Rattle.rules.specs.Numbers.{clusterOf, regionOf, vblockOf, placeOf}
@@ -177,6 +177,20 @@ asSaid =
     -- (j) "cluster 523 of region 11, and segment 7 is in virtual block 3, place 1"
     ∷ (523 ∷ 11 ∷ 3 ∷ 1 ∷ [])
     ∷ []
+
+-- ---- T-07: stamps
+
+-- the spare bytes of the four pages of block 3 after the sixth write
+unfoldable pub sixthSpares : List (List ℕ)
+sixthSpares = joinBelow 4 (λ q. drop 16 (part 32 (12 + q) ((after 6) .chip)) ∷ [])
+
+-- of a page of cluster 2: its place and its stamp, in virtual block 0
+unfoldable pub spareT : ℕ → ℕ → List ℕ
+spareT j t = 2 ∷ 0 ∷ 0 ∷ 0 ∷ j ∷ 255 ∷ 0 ∷ t ∷ 0 ∷ 0 ∷ 0 ∷ 0 ∷ 255 ∷ 255 ∷ 255 ∷ 255 ∷ []
+
+-- "copies keep theirs": the copy has stamp 2, of the region's second write; the new frame the fifth, as the third write was to the other region
+unfoldable pub sixthSaid : List (List ℕ)
+sixthSaid = spareT 0 2 ∷ spareT 1 2 ∷ spareT 0 5 ∷ spareT 1 5 ∷ []
 
 -- ---- T-07: a frame with only its first pages programmed
 

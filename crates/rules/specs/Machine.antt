@@ -47,10 +47,11 @@ withFrame p vw v f c x =
       body = updated (vw .body) v (putPart (frameBytes p) f x (vw .body v));
     }
 
-unfoldable pub viewAfter : Params → View → Request → View
-viewAfter p vw q =
+-- with stamp t
+unfoldable pub viewAfter : Params → View → ℕ → Request → View
+viewAfter p vw t q =
     let pl = planOf p vw in
-    withFrame p (withRoom p vw pl) (planVBlock pl) (planFrame p vw pl) (requestCluster p q) (newFrame p vw q)
+    withFrame p (withRoom p vw pl) (planVBlock pl) (planFrame p vw pl) (requestCluster p q) (newFrame p vw q t (planVBlock pl))
 
 -- ---- after a release
 

@@ -1,4 +1,4 @@
--- Document 01, "When a state is orderly", and document 02's rule of the marks: ten rules, each a test with a name, in the documents' order.
+-- Document 01, "When a state is orderly", and document 02's rules of the marks and of the stamps: eleven rules, each a test with a name, in the documents' order.
 -- Assumes nothing.
 use Prim.Native.Nat.{ℕ, _+_, _-_, _*_}
 use mathlib.Core.Bool.{Bool, true, not, _&&_, _||_, Bool·beq, cond}
@@ -9,8 +9,8 @@ use Rattle.lists.specs.Parts.{sameList}
 use Rattle.rules.specs.declared.Params.{Params}
 use Rattle.rules.specs.Parameters.{frames}
 use Rattle.rules.specs.Numbers.{regionOf, vblockOf, placeOf, segmentOf}
-use Rattle.rules.specs.Tables.{Board, none, btEntry, bstAt, marksLength, wordAt}
-use Rattle.rules.specs.Pages.{block, frame, page, spare, spareBytes, erased, held, pageUsed, programmed, filled, lastIn}
+use Rattle.rules.specs.Tables.{Board, none, btEntry, bstAt, marksLength, wordAt, stampAt}
+use Rattle.rules.specs.Pages.{block, frame, page, spare, spareBytes, erased, held, stampOf, pageUsed, programmed, filled, lastIn}
 use Rattle.rules.specs.Regions.{View, view, assigned}
 use Rattle.rules.specs.Marks.{entryOf, marksOn}
 
@@ -48,25 +48,26 @@ freeRule p chip bst = allBelow (p .N) (λ n. not (eqb (bstAt bst n) 0) || erased
 unfoldable pub usedPages : Params → List ℕ → ℕ
 usedPages p fr = countBelow (p .alpha) (pageUsed p fr)
 
--- the first pages have the spare bytes of one cluster, in order, and the rest is erased
-unfoldable pub goodPages : Params → List ℕ → Bool
-goodPages p fr =
-    allBelow (p .alpha) (λ j. cond (ltb j (usedPages p fr)) (sameList (spare p fr j) (spareBytes (held p fr) j)) (erased (page p fr j)))
+-- the first pages have the spare bytes of one cluster, one stamp and virtual block v, in order, and the rest is erased
+unfoldable pub goodPages : Params → ℕ → List ℕ → Bool
+goodPages p v fr =
+    allBelow (p .alpha)
+    (λ j. cond (ltb j (usedPages p fr)) (sameList (spare p fr j) (spareBytes (held p fr) j (stampOf p fr) v)) (erased (page p fr j)))
 
--- "with spare bytes as above and clusters below C of that region": a frame of region r
-unfoldable pub goodFrame : Params → ℕ → List ℕ → Bool
-goodFrame p r fr = allTrue (programmed p fr ∷ ltb (held p fr) (p .C) ∷ eqb (regionOf p (held p fr)) r ∷ goodPages p fr ∷ [])
+-- "with spare bytes as above and clusters below C of that region": a frame of region r, in virtual block v
+unfoldable pub goodFrame : Params → ℕ → ℕ → List ℕ → Bool
+goodFrame p r v fr = allTrue (programmed p fr ∷ ltb (held p fr) (p .C) ∷ eqb (regionOf p (held p fr)) r ∷ goodPages p v fr ∷ [])
 
 -- the first k frames are programmed so, and "The rest is erased"
-unfoldable pub goodUpTo : Params → ℕ → ℕ → List ℕ → Bool
-goodUpTo p r k blk = allBelow (frames p) (λ f. cond (ltb f k) (goodFrame p r (frame p blk f)) (erased (frame p blk f)))
+unfoldable pub goodUpTo : Params → ℕ → ℕ → ℕ → List ℕ → Bool
+goodUpTo p r v k blk = allBelow (frames p) (λ f. cond (ltb f k) (goodFrame p r v (frame p blk f)) (erased (frame p blk f)))
 
 -- "In a used block the first k frames are programmed, k from 1 to F"
-unfoldable pub blockRule : Params → ℕ → List ℕ → Bool
-blockRule p r blk = ltb 0 (filled p blk) && goodUpTo p r (filled p blk) blk
+unfoldable pub blockRule : Params → ℕ → ℕ → List ℕ → Bool
+blockRule p r v blk = ltb 0 (filled p blk) && goodUpTo p r v (filled p blk) blk
 
 unfoldable pub regionBlocks : Params → ℕ → View → Bool
-regionBlocks p r vw = allBelow (p .gamma) (λ v. not (assigned vw v) || blockRule p r (vw .body v))
+regionBlocks p r vw = allBelow (p .gamma) (λ v. not (assigned vw v) || blockRule p r v (vw .body v))
 
 unfoldable pub blocksRule : Params → Board → Bool
 blocksRule p b = allBelow (p .mu) (λ r. regionBlocks p r (view p b r))
@@ -114,7 +115,18 @@ ctRule p b = allBelow (p .C) (λ c. clusterRule p (view p b (regionOf p c)) c)
 unfoldable pub marksRule : Params → Board → Bool
 marksRule p b = allBelow (marksLength p) (λ k. eqb (wordAt (b .marks) k) (entryOf p (marksOn p b) k))
 
--- the ten rules in order
+-- no programmed frame of a block has a stamp larger than t
+unfoldable pub stampsTo : Params → ℕ → List ℕ → Bool
+stampsTo p t blk = allBelow (frames p) (λ f. not (programmed p (frame p blk f)) || leb (stampOf p (frame p blk f)) t)
+
+-- T-07: "no page of an orderly region has a larger one" than the region's last
+unfoldable pub regionStamps : Params → ℕ → View → Bool
+regionStamps p t vw = allBelow (p .gamma) (λ v. stampsTo p t (vw .body v))
+
+unfoldable pub stampRule : Params → Board → Bool
+stampRule p b = allBelow (p .mu) (λ r. regionStamps p (stampAt (b .stamps) r) (view p b r))
+
+-- the eleven rules in order
 unfoldable pub rulesOf : Params → Board → List Bool
 rulesOf p b =
     bstRule p (b .bst)
@@ -127,6 +139,7 @@ rulesOf p b =
     ∷ fstRule p b
     ∷ ctRule p b
     ∷ marksRule p b
+    ∷ stampRule p b
     ∷ []
 
 unfoldable pub orderly : Params → Board → Bool

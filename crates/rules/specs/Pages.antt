@@ -31,10 +31,10 @@ le32 l = getD l 0 0 + 256 * getD l 1 0 + 65536 * getD l 2 0 + 16777216 * getD l 
 unfoldable pub bytes32 : ℕ → List ℕ
 bytes32 n = n % 256 ∷ n / 256 % 256 ∷ n / 65536 % 256 ∷ n / 16777216 % 256 ∷ []
 
--- "Spare bytes of a programmed page: 0 to 3 cluster number, low byte first; 4 the sector's place in its cluster; 5 always 255; 6 zero; 7 to 15
--- all 255"
-unfoldable pub spareBytes : ℕ → ℕ → List ℕ
-spareBytes c j = bytes32 c ++ (j ∷ 255 ∷ 0 ∷ replicate 9 255)
+-- "Spare bytes of a programmed page: 0 to 3 cluster number, low byte first; 4 the sector's place in its cluster; 5 always 255; 6 zero", and T-07: "Spare bytes 7
+-- to 10 take a stamp, one for all pages of a frame, low byte first, and byte 11 the virtual block"; 12 to 15 all 255
+unfoldable pub spareBytes : ℕ → ℕ → ℕ → ℕ → List ℕ
+spareBytes c j t v = bytes32 c ++ (j ∷ 255 ∷ 0 ∷ bytes32 t ++ (v ∷ replicate 4 255))
 
 -- "An erased page is 255 throughout", and so is what consists of erased pages
 abbrev pub erased : List ℕ → Bool
@@ -43,6 +43,10 @@ erased l = allAre 255 l
 -- "The α pages of a frame hold one cluster in order": which one, by its first page
 unfoldable pub held : Params → List ℕ → ℕ
 held p fr = le32 (spare p fr 0)
+
+-- the stamp of its pages, by its first page too
+unfoldable pub stampOf : Params → List ℕ → ℕ
+stampOf p fr = le32 (drop 7 (spare p fr 0))
 
 -- page j of a frame is programmed
 unfoldable pub pageUsed : Params → List ℕ → ℕ → Bool

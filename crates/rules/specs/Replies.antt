@@ -91,9 +91,9 @@ notOrderly p b = not (orderly p b)
 unfoldable pub tooFewAnswers : ℕ → ℕ → Bool
 tooFewAnswers items answers = ltb answers items
 
--- T-07: 9 "when a write's region has no stamp left": its last one is the largest of 32 bits
-unfoldable pub noStampLeft : Board → ℕ → Bool
-noStampLeft b r = leb 4294967295 (stampAt (b .stamps) r)
+-- T-07: 9 "when a write's region has no stamp left": its last one, t, is the largest of 32 bits
+unfoldable pub noStampLeft : ℕ → Bool
+noStampLeft t = leb 4294967295 t
 
 -- ---- the table
 
@@ -122,7 +122,7 @@ orderRow p b = row (notOrderly p b) NotOrderly ∷ []
 
 -- T-07: "9, after 7"
 unfoldable pub stampRow : Params → Board → Request → List (Row Reply)
-stampRow p b q = row (noStampLeft b (requestRegion p q)) NoStampLeft ∷ []
+stampRow p b q = row (noStampLeft (stampAt (b .stamps) (requestRegion p q))) NoStampLeft ∷ []
 
 -- T-01: "8, after 2"; "1, 2 and 8 are for the whole call"; by the lengths of both lists
 unfoldable pub queueRows : Params → Board → ℕ → ℕ → List (Row Reply)

@@ -13,8 +13,8 @@ use Rattle.lists.specs.Below.{countBelow}
 use Rattle.rules.specs.declared.Params.{Params}
 use Rattle.rules.specs.declared.Reply.the-variants.{Accepted}
 use Rattle.rules.specs.Parameters.{allowed, frames}
-use Rattle.rules.specs.Tables.{Board, btAt, btEntry, bstAt, ctAt, wearAt}
-use Rattle.rules.specs.Pages.{block, erased, frame, held, lastIn, page, programmed, spareBytes}
+use Rattle.rules.specs.Tables.{Board, btAt, btEntry, bstAt, ctAt, stampAt, wearAt}
+use Rattle.rules.specs.Pages.{block, erased, frame, held, lastIn, le32, page, programmed, spareBytes}
 use Rattle.rules.specs.Regions.{View, assigned, looksAt, valid, validFrames, view}
 use Rattle.rules.specs.Marks.{marksOf}
 use Rattle.rules.specs.Orderly.{orderly}
@@ -44,18 +44,22 @@ AllowedExactly = (p : Params) → (allowed p ≡ true) ↔ Allowed p
 
 -- ---- "Numbers and tables"
 
--- "Spare bytes of a programmed page: 0 to 3 cluster number, low byte first; 4 the sector's place in its cluster; 5 always 255; 6 zero; 7 to 15 all 255"
-pub record SpareListed (c j : ℕ) (l : List ℕ) : Type 0 where
+-- "Spare bytes of a programmed page: 0 to 3 cluster number, low byte first; 4 the sector's place in its cluster; 5 always 255; 6 zero"; T-07: "7 to 10 take a
+-- stamp, .. low byte first, and byte 11 the virtual block"; "12 to 15" still "all 255"
+pub record SpareListed (c j t v : ℕ) (l : List ℕ) : Type 0 where
   pub long : length l ≡ 16
   pub bytes : (i : ℕ) → i < 4 → getD l i 255 < 256
   pub cluster : getD l 0 255 + 256 * (getD l 1 255 + 256 * (getD l 2 255 + 256 * getD l 3 255)) ≡ c
   pub place : getD l 4 255 ≡ j
   pub five : getD l 5 255 ≡ 255
   pub six : getD l 6 255 ≡ 0
-  pub rest : (i : ℕ) → 7 ≤ i → i < 16 → getD l i 255 ≡ 255
+  pub stampBytes : (i : ℕ) → 7 ≤ i → i < 11 → getD l i 255 < 256
+  pub stamp : getD l 7 255 + 256 * (getD l 8 255 + 256 * (getD l 9 255 + 256 * getD l 10 255)) ≡ t
+  pub vblock : getD l 11 255 ≡ v
+  pub rest : (i : ℕ) → 12 ≤ i → i < 16 → getD l i 255 ≡ 255
 
 abbrev pub SparesExactly : Type 0
-SparesExactly = (c j : ℕ) → c < 4294967296 → (l : List ℕ) → (l ≡ spareBytes c j) ↔ SpareListed c j l
+SparesExactly = (c j t v : ℕ) → c < 4294967296 → t < 4294967296 → (l : List ℕ) → (l ≡ spareBytes c j t v) ↔ SpareListed c j t v l
 
 -- how often block n is erased
 unfoldable pub erasesOf : ℕ → List Op → ℕ
@@ -71,23 +75,24 @@ WearAfter =
 
 -- ---- "When a state is orderly"
 
--- "with spare bytes as above and clusters below C of that region"
-pub record FrameListed (p : Params) (r : ℕ) (fr : List ℕ) : Type 0 where
+-- "with spare bytes as above and clusters below C of that region", in virtual block v, with one stamp for all pages
+pub record FrameListed (p : Params) (r v : ℕ) (fr : List ℕ) : Type 0 where
   pub cluster : ℕ
+  pub stamp : ℕ
   pub low : cluster < p .C
   pub mine : cluster % p .mu ≡ r
   pub m : ℕ
   pub some : 1 ≤ m
   pub most : m ≤ p .alpha
-  pub spares : (j : ℕ) → j < m → SpareListed cluster j (drop (p .s) (page p fr j))
+  pub spares : (j : ℕ) → j < m → SpareListed cluster j stamp v (drop (p .s) (page p fr j))
   pub blank : (j : ℕ) → m ≤ j → j < p .alpha → erased (page p fr j) ≡ true
 
 -- "In a used block the first k frames are programmed, k from 1 to F .. The rest is erased"
-pub record BlockListed (p : Params) (r : ℕ) (blk : List ℕ) : Type 0 where
+pub record BlockListed (p : Params) (r v : ℕ) (blk : List ℕ) : Type 0 where
   pub k : ℕ
   pub some : 1 ≤ k
   pub most : k ≤ p .beta * p .d
-  pub front : (f : ℕ) → f < k → FrameListed p r (frame p blk f)
+  pub front : (f : ℕ) → f < k → FrameListed p r v (frame p blk f)
   pub rest : (f : ℕ) → k ≤ f → f < p .beta * p .d → erased (frame p blk f) ≡ true
 
 -- frame f of virtual block v is programmed
@@ -120,11 +125,12 @@ pub record EntryListed (p : Params) (vw : View) (c : ℕ) : Type 0 where
 
 -- of one region: its used blocks; "FST is none exactly if the region has no block. Otherwise it names .."; "A CT entry is none or names .."
 pub record RegionListed (p : Params) (r : ℕ) (vw : View) : Type 0 where
-  pub blocks : (v : ℕ) → v < p .gamma → assigned vw v ≡ true → BlockListed p r (vw .body v)
+  pub blocks : (v : ℕ) → v < p .gamma → assigned vw v ≡ true → BlockListed p r v (vw .body v)
   pub fst : (((v : ℕ) → v < p .gamma → assigned vw v ≡ false) × (vw .lastSeg ≡ 65535)) ⊎ OpenListed p vw
   pub ct : (c : ℕ) → c < p .C → c % p .mu ≡ r → (vw .segOf c ≡ 65535) ⊎ EntryListed p vw c
 
--- the five bullets, in their order, and T-06's "each mark equals the validity rule"
+-- the five bullets, in their order, T-06's "each mark equals the validity rule", and T-07's "no page of an orderly region has a larger" stamp than the region's
+-- last: a frame's pages have the one that its first page has
 pub record OrderlyListed (p : Params) (b : Board) : Type 0 where
   pub kinds : (n : ℕ) → n < p .N → (bstAt (b .bst) n ≡ 0) ⊎ ((bstAt (b .bst) n ≡ 1) ⊎ (bstAt (b .bst) n ≡ 2))
   pub names : (i : ℕ) → i < p .mu * p .gamma → (btEntry (b .bt) i ≡ 65535) ⊎ (btEntry (b .bt) i < p .N)
@@ -134,6 +140,8 @@ pub record OrderlyListed (p : Params) (b : Board) : Type 0 where
   pub free : (n : ℕ) → n < p .N → bstAt (b .bst) n ≡ 0 → erased (block p (b .chip) n) ≡ true
   pub regions : (r : ℕ) → r < p .mu → RegionListed p r (view p b r)
   pub marks : b .marks ≡ marksOf p b
+  pub stamps : (r v f : ℕ) → r < p .mu → v < p .gamma → f < p .beta * p .d → Written p (view p b r) v f
+      → le32 (drop 7 (drop (p .s) (page p (frame p ((view p b r) .body v) f) 0))) ≤ stampAt (b .stamps) r
 
 abbrev pub OrderlyExactly : Type 0
 OrderlyExactly = (p : Params) (b : Board) → allowed p ≡ true → lengthsFit p b ≡ true → (orderly p b ≡ true) ↔ OrderlyListed p b

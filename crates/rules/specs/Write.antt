@@ -79,11 +79,12 @@ newSector p vw q j =
     (part (p .s) (j - sectorOf p (q .lba)) (q .bytes))
     (sectorIn p vw (requestCluster p q) j)
 
-unfoldable pub newPage : Params → View → Request → ℕ → List ℕ
-newPage p vw q j = newSector p vw q j ++ spareBytes (requestCluster p q) j
+-- with stamp t, in virtual block v
+unfoldable pub newPage : Params → View → Request → ℕ → ℕ → ℕ → List ℕ
+newPage p vw q t v j = newSector p vw q j ++ spareBytes (requestCluster p q) j t v
 
-unfoldable pub newFrame : Params → View → Request → List ℕ
-newFrame p vw q = joinBelow (p .alpha) (newPage p vw q)
+unfoldable pub newFrame : Params → View → Request → ℕ → ℕ → List ℕ
+newFrame p vw q t v = joinBelow (p .alpha) (newPage p vw q t v)
 
 -- ---- the write on the board
 
@@ -107,10 +108,14 @@ eraseOps p b r (reclaims v) = erase (btAt p (b .bt) r v) ∷ []
 unfoldable pub roomOps : Params → Board → ℕ → Plan → List Op
 roomOps p b r pl = framesOps p (planBlock p b r pl) 0 (copies p (view p b r) pl) ++ eraseOps p b r pl
 
+-- T-07: "A host write takes the next; copies keep theirs"
+unfoldable pub nextStamp : Board → ℕ → ℕ
+nextStamp b r = stampAt (b .stamps) r + 1
+
 unfoldable pub planOps : Params → Board → ℕ → Request → Plan → List Op
 planOps p b r q pl =
     let vw = view p b r in
-    roomOps p b r pl ++ frameOps p (planBlock p b r pl) (planFrame p vw pl) (newFrame p vw q) (p .alpha)
+    roomOps p b r pl ++ frameOps p (planBlock p b r pl) (planFrame p vw pl) (newFrame p vw q (nextStamp b r) (planVBlock pl)) (p .alpha)
 
 -- "CT follows each" copy, on the table
 unfoldable pub followCt : Params → ℕ → ℕ → List (List ℕ) → List ℕ → List ℕ
@@ -122,10 +127,6 @@ unfoldable pub planBst : Params → Board → ℕ → Plan → List ℕ
 planBst p b r (continues v f) = b .bst
 planBst p b r (opens v) = set (b .bst) (freeBlock p (b .bst) (b .wear)) 1
 planBst p b r (reclaims v) = set (set (b .bst) (freeBlock p (b .bst) (b .wear)) 1) (btAt p (b .bt) r v) 0
-
--- T-07: "A host write takes the next"
-unfoldable pub nextStamp : Board → ℕ → ℕ
-nextStamp b r = stampAt (b .stamps) r + 1
 
 -- "BT names the new block"; "Then CT and FST name the segment just written"
 unfoldable pub writtenBy : Params → Board → ℕ → Request → Plan → Board

@@ -52,6 +52,13 @@ pub struct VBlock(pub usize);
 // A physical block number: what BT holds, an index of BST and of the wear.
 pub struct PBlock(pub usize);
 
+// What the spare bytes of a frame's pages say beside the place of each: the cluster, the stamp, and the virtual block.
+pub struct Label {
+    pub cluster: Cluster,
+    pub stamp: u32,
+    pub vblock: u8,
+}
+
 // Why a call is refused, or that it is accepted. `numberOf` gives the number of each: document 01's, and 8 and 9, which are document 02's.
 pub enum Reply {
     Accepted,

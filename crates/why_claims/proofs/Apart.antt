@@ -10,7 +10,7 @@ use Rattle.rules.specs.declared.Reply.the-variants.{Accepted, BadAddress, BadCo
 use Rattle.rules.specs.declared.VBlock.{VBlock}
 use Rattle.rules.specs.Replies.{numberOf}
 use Rattle.check_broken.specs.declared.Rule.{Rule}
-use Rattle.check_broken.specs.declared.Rule.the-variants.{BstValues, BtRange, Ct, FreeErased, Fst, Marks, NamedTwice, TooFewLeft, UsedBlock, UsedIfNamed}
+use Rattle.check_broken.specs.declared.Rule.the-variants.{BstValues, BtRange, Ct, FreeErased, Fst, Marks, NamedTwice, TooFewLeft, UsedBlock, UsedIfNamed, Stamps}
 use Rattle.check_broken.specs.Broken.{ruleNames, ruleNumber}
 use Rattle.call_why.specs.declared.Forecast.{Forecast}
 use Rattle.call_why.specs.declared.Forecast.the-variants.{Continues, NoStamp, Opens, Reclaims}
@@ -57,6 +57,7 @@ rule-at UsedBlock = refl
 rule-at Fst = refl
 rule-at Ct = refl
 rule-at Marks = refl
+rule-at Stamps = refl
 
 rule-apart : (k k′ : Rule) → ruleNumber k ≡ ruleNumber k′ → k ≡ k′
 rule-apart k k′ e = sym (rule-at k) ∙ ap (λ (n : ℕ). getD ruleNames (n - 1) Marks) e ∙ rule-at k′
@@ -72,6 +73,7 @@ rule-some UsedBlock = omega arith
 rule-some Fst = omega arith
 rule-some Ct = omega arith
 rule-some Marks = omega arith
+rule-some Stamps = omega arith
 
 -- ---- forecasts and places
 

@@ -21,9 +21,9 @@ use Rattle.rules.specs.Replies.{accessRows, badAddress, badCount, badParameter,
 use Rattle.rules.specs.Requests.{Request, requestCluster, requestRegion, write}
 use Rattle.rules.specs.Tables.{Board, bstAt, btAt, ctAt, none, stampAt}
 use Rattle.rules.specs.Words.{PlanListed}
-use Rattle.rules.specs.Write.{Plan, continues, copies, newFrame, opens, planBlock, planBst, planErases, planFrame, planOf, planVBlock, reclaims, written, writtenBy}
+use Rattle.rules.specs.Write.{Plan, continues, copies, newFrame, opens, planBlock, planBst, planErases, planFrame, planOf, planVBlock, reclaims, written, writtenBy, nextStamp}
 use Rattle.rules.specs.Machine.{viewAfter, withFrame, withRoom}
-use Rattle.rules.proofs.Admitted.{Admitted, admitted, write-checks}
+use Rattle.rules.proofs.Admitted.{Admitted, admitted, write-checks, stamp-left}
 use Rattle.rules.proofs.Continues.{Makes, frames-pos, segs-in}
 use Rattle.rules.proofs.FramePut.{Sheet, last-new, seg-new}
 use Rattle.rules.proofs.Frames.{seg-low, seg-place, seg-vblock}
@@ -68,17 +68,17 @@ plan-last p vw (reclaims v) x = refl
 -- the same of a forecast that may be the refusal
 pub forecast-last : (p : Params) (t : ℕ) (vw : View) (x : ℕ) → getD (forecastIn p t vw ++ (x ∷ [])) 4 0 ≡ x
 unfolding forecastIn
-forecast-last p t vw x = go (leb 4294967295 t)
+forecast-last p t vw x = go (noStampLeft t)
   where
     go : (k : Bool) → getD (cond k (9 ∷ 0 ∷ 0 ∷ 0 ∷ []) (planNumbers p vw (planOf p vw)) ++ (x ∷ [])) 4 0 ≡ x
     go true = refl
     go false = plan-last p vw (planOf p vw) x
 
 -- a write that gets 9 finds no stamp left
-pub no-stamp : (p : Params) (b : Board) (q : Request) → replyOf p b (write q) ≡ NoStampLeft → leb 4294967295 (stampAt (b .stamps) (requestRegion p q)) ≡ true
-unfolding replyOf rowsOf lentRows accessRows orderRow stampRow firstRow noStampLeft
+pub no-stamp : (p : Params) (b : Board) (q : Request) → replyOf p b (write q) ≡ NoStampLeft → noStampLeft (stampAt (b .stamps) (requestRegion p q)) ≡ true
+unfolding replyOf rowsOf lentRows accessRows orderRow stampRow firstRow
 no-stamp p b q e =
-    last (leb 4294967295 (stampAt (b .stamps) (requestRegion p q)))
+    last (noStampLeft (stampAt (b .stamps) (requestRegion p q)))
     (skip (notOrderly p b) _ _ (λ k. omega (arith, k))
     (skip (wrongData p q) _ _ (λ k. omega (arith, k))
     (skip (badAddress p (q .lba)) _ _ (λ k. omega (arith, k))
@@ -193,14 +193,17 @@ module _ (p : Params) (b : Board) (q : Request) (e : replyOf p b (write q) ≡ A
   listed : PlanListed p vw pl
   listed = plan-exactly p b (record { fine = adm .fine; lengths = adm .lengths; tidy = (write-checks p b q e) .tidy }) (requestRegion p q) region
 
-  sheet : Sheet p (requestCluster p q) (newFrame p vw q)
-  sheet = own-sheet p b q adm
+  abbrev x : List ℕ
+  x = newFrame p vw q (nextStamp b (requestRegion p q)) (planVBlock pl)
+
+  sheet : Sheet p (planVBlock pl) (requestCluster p q) x
+  sheet = own-sheet p b q adm (nextStamp b (requestRegion p q)) (planVBlock pl) (stamp-left p b q e)
 
   -- the board that is left
   ordered : OrderlyBoard p (written p b q)
   ordered = record { fine = adm .fine; lengths = promise .lengths; tidy = promise .orderlyLeft }
 
-  own : view p (written p b q) (requestRegion p q) ≡ withFrame p (withRoom p vw pl) (planVBlock pl) (planFrame p vw pl) (requestCluster p q) (newFrame p vw q)
+  own : view p (written p b q) (requestRegion p q) ≡ withFrame p (withRoom p vw pl) (planVBlock pl) (planFrame p vw pl) (requestCluster p q) x
   unfolding viewAfter
   own = promise .own
 
@@ -208,7 +211,7 @@ module _ (p : Params) (b : Board) (q : Request) (e : replyOf p b (write q) ≡ A
   seg-after : ctAt ((written p b q) .ct) (requestCluster p q) ≡ segmentOf p (planVBlock pl) (planFrame p vw pl)
   seg-after =
       segs-in p (written p b q) (requestRegion p q) (requestCluster p q) refl
-      ∙ rw own (seg-new p (adm .sized) (withRoom p vw pl) (planVBlock pl) (planFrame p vw pl) (requestCluster p q) (newFrame p vw q) (made .base .ready) sheet)
+      ∙ rw own (seg-new p (adm .sized) (withRoom p vw pl) (planVBlock pl) (planFrame p vw pl) (requestCluster p q) x (made .base .ready) sheet)
 
   some-after : ctAt ((written p b q) .ct) (requestCluster p q) ≡ none → ⊥
   some-after n = omega (arith, seg-low p (adm .sized) (planVBlock pl) (planFrame p vw pl) (made .base .ready .low) (made .base .ready .mine), adm .sized .few, sym seg-after ∙ n)
@@ -225,7 +228,7 @@ module _ (p : Params) (b : Board) (q : Request) (e : replyOf p b (write q) ≡ A
       ≡ planFrame p vw pl
   frame-after =
       rw (vblock-after, place-after, own)
-      (last-new p (adm .sized) (withRoom p vw pl) (planVBlock pl) (planFrame p vw pl) (requestCluster p q) (newFrame p vw q) (made .base .ready) sheet)
+      (last-new p (adm .sized) (withRoom p vw pl) (planVBlock pl) (planFrame p vw pl) (requestCluster p q) x (made .base .ready) sheet)
 
   -- the block that was reclaimed is free, and so erased
   erased-after : planAt p vw pl 0 ≡ 3 → (btAt p (b .bt) (requestRegion p q) (planAt p vw pl 1) < p .N)

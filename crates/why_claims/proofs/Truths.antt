@@ -18,7 +18,7 @@ use Rattle.rules.specs.Numbers.{clusterOf, regionOf, sectorOf}
 use Rattle.rules.specs.Orderly.{rulesOf}
 use Rattle.rules.specs.Pages.{block, frame, page}
 use Rattle.rules.specs.Regions.{View, frameOf, looksAt, sector, sectorIn, view}
-use Rattle.rules.specs.Replies.{OrderlyBoard, badAddress, numberOf, replyOf, whyReply}
+use Rattle.rules.specs.Replies.{OrderlyBoard, badAddress, noStampLeft, numberOf, replyOf, whyReply}
 use Rattle.rules.specs.Requests.{Request, read, requestCluster, write}
 use Rattle.rules.specs.Tables.{Board, ctAt, none, stampAt}
 use Rattle.rules.specs.Write.{planOf}
@@ -144,7 +144,7 @@ module _ (p : Params) (b : Board) (lba : ℕ) where
     abbrev last-stamp : ℕ
     last-stamp = stampAt (b .stamps) (regionOf p (clusterOf p lba))
 
-    planned : leb 4294967295 last-stamp ≡ false → Planned p vw (planOf p vw) (toldAt p b lba)
+    planned : noStampLeft last-stamp ≡ false → Planned p vw (planOf p vw) (toldAt p b lba)
     planned left = go (ℕ-discrete (ctAt (b .ct) (clusterOf p lba)) none)
       where
         front : (i : ℕ) → i < 4 → getD (forecastOf p b (clusterOf p lba) ++ (looksAt p b (clusterOf p lba) ∷ [])) i 0 ≡ planAt p vw (planOf p vw) i
@@ -161,13 +161,13 @@ module _ (p : Params) (b : Board) (lba : ℕ) where
             record { kind = rw w (front 0 (omega arith)); vblock = rw w (front 1 (omega arith)); frame = rw w (front 2 (omega arith)); count = rw w (front 3 (omega arith)) }
 
     forecast : (q : Request) → requestCluster p q ≡ clusterOf p lba → replyOf p b (write q) ≡ Accepted → ForecastTrue p b lba (toldAt p b lba) (outcomeOf p b (write q))
-    forecast q is a = forecast-true p b q a lba ((answered p b lba accepted) .low) is (toldAt p b lba) (rw is (planned (rw is at (lt-leb 4294967295 _ (write-left p b q a))))) (rw is seen)
+    forecast q is a = forecast-true p b q a lba ((answered p b lba accepted) .low) is (toldAt p b lba) (rw is (planned (unfold noStampLeft in rw is at (lt-leb 4294967295 _ (write-left p b q a))))) (rw is seen)
 
     refused : (q : Request) → requestCluster p q ≡ clusterOf p lba → replyOf p b (write q) ≡ NoStampLeft → toldAt p b lba 8 ≡ 9
     unfolding toldAt holderOf forecastOf forecastIn
     refused q is a = go (ℕ-discrete (ctAt (b .ct) (clusterOf p lba)) none)
       where
-        none-left : leb 4294967295 last-stamp ≡ true
+        none-left : noStampLeft last-stamp ≡ true
         none-left = rw is at (no-stamp p b q a)
 
         go : Dec (ctAt (b .ct) (clusterOf p lba) ≡ none) → toldAt p b lba 8 ≡ 9

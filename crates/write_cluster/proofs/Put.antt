@@ -138,19 +138,6 @@ module _ (p : Params) (b : Board) (q : Request) (v f : ℕ) (t : Standing p b q 
     old-apart : frameFor p (b .chip) (b .ct) (b .bt) c ≡ n * frames p + f → ⊥
     old-apart x = never old-holds (rw old-frame at (erased-holds p _ c (rw (sym x) at to-erased)))
 
-    old-good : GoodFrame p r (frame p (vw .body u) l)
-    old-good = go (ℕ-discrete u v) (decLt l f)
-      where
-        go : Dec (u ≡ v) → Dec (l < f) → GoodFrame p r (frame p (vw .body u) l)
-        go (no x) k = ((t .base .others u u-low x (e .has)) .1) .front l (e .held) (e .held)
-        go (yes x) (yes k) = rw x (t .base .front .front (lastIn p (vw .body v) (placeOf p (vw .segOf c)) c) (rw x at k) (rw x at (e .held)))
-        go (yes x) (no k) = absurd (never old-holds (erased-holds p _ c (rw (sym x) at (t .base .ready .rest l (omega arith) (e .held)))))
-
-    old-spares : (j : ℕ) → j < p .alpha → spare p (part (frameBytes p) (frameFor p (b .chip) (b .ct) (b .bt) c) (b .chip)) j ≡ spareBytes c j
-    old-spares j h =
-        rw old-frame
-        (good-all p z r (frame p (vw .body u) l) old-good c old-holds j h ∙ ap (λ (x : ℕ). spareBytes x j) (good-held p z r (frame p (vw .body u) l) old-good c old-holds))
-
   -- ---- with what the lookup found
 
   module _ (kept : Bool) (fr : ℕ) (found : Stands p (b .chip) (b .ct) (b .bt) c kept fr) where
@@ -187,15 +174,8 @@ module _ (p : Params) (b : Board) (q : Request) (v f : ℕ) (t : Standing p b q 
         go (nowhere k z s) = never h k
         go (somewhere k z ne e) = old-apart e (sym z ∙ x)
 
-    spares : kept ≡ true → (j : ℕ) → j < p .alpha → spare p (part (frameBytes p) fr (b .chip)) j ≡ spareBytes c j
-    spares h j m = go which
-      where
-        go : Which → spare p (part (frameBytes p) fr (b .chip)) j ≡ spareBytes c j
-        go (nowhere k z s) = absurd (never h k)
-        go (somewhere k z ne e) = rw z (old-spares e j m)
-
-    pub host-asked : (to off : ℕ) → to ≡ n * frames p + f → off ≡ sectorOf p (q .lba) → HostAsked (b .chip) (p .s) (p .alpha) to kept fr off (q .count) (q .bytes) c
-    unfolding frameBytes pageBytes spare page
+    pub host-asked : (to off : ℕ) → to ≡ n * frames p + f → off ≡ sectorOf p (q .lba) → HostAsked (b .chip) (p .s) (p .alpha) to kept fr off (q .count) (q .bytes)
+    unfolding frameBytes pageBytes
     host-asked to off e o =
         record {
           small = z .sHigh;
@@ -206,7 +186,6 @@ module _ (p : Params) (b : Board) (q : Request) (v f : ℕ) (t : Standing p b q 
           clean = rw e to-clean;
           source = source;
           apart = λ h x. apart h (x ∙ e);
-          spares = spares;
         }
 
     sectors-are : (j : ℕ) → sectorsOf (p .s) (p .alpha) kept fr (b .chip) j ≡ sectorIn p vw c j
@@ -217,9 +196,9 @@ module _ (p : Params) (b : Board) (q : Request) (v f : ℕ) (t : Standing p b q 
         go (nowhere k z s) = rw (k, s)
         go (somewhere k z ne e) = rw (k, z, ne-eqb (vw .segOf c) none ne, old-frame e)
 
-    pub frame-is : (off : ℕ) → off ≡ sectorOf p (q .lba) → hostFrame (p .s) (p .alpha) off (q .count) (q .bytes) (sectorsOf (p .s) (p .alpha) kept fr (b .chip)) c ≡ newFrame p vw q
+    pub frame-is : (off t u : ℕ) → off ≡ sectorOf p (q .lba) → hostFrame (p .s) (p .alpha) off (q .count) (q .bytes) (sectorsOf (p .s) (p .alpha) kept fr (b .chip)) c t u ≡ newFrame p vw q t u
     unfolding hostFrame hostPage newFrame newPage newSector
-    frame-is off o = join-cong (p .alpha) _ _ (λ j l. rw (o, sectors-are j))
+    frame-is off t u o = join-cong (p .alpha) _ _ (λ j l. rw (o, sectors-are j))
 
   -- ---- the same over the numbers that the code has
 
@@ -245,6 +224,9 @@ module _ (p : Params) (b : Board) (q : Request) (v f : ℕ) (t : Standing p b q 
     pub stamp-left : stampAt (b .stamps) r′ < 4294967295
     stamp-left = rw region-is (t .left)
 
+    pub vblock-few : v < 256
+    vblock-few = omega (arith, low, z .gammaHigh)
+
     pub frame-few : f < 256
     frame-few = omega (arith, t .base .ready .low, z .short)
 
@@ -262,16 +244,16 @@ module _ (p : Params) (b : Board) (q : Request) (v f : ℕ) (t : Standing p b q 
         to-is : to ≡ n * frames p + f
         to-is = et ∙ rw block-is
 
-        pub host-requires : HostAsked (b .chip) (p .s) (p .alpha) to kept fr off (q .count) (q .bytes) c′
-        host-requires = rw ec (host-asked kept fr found to off to-is eo)
+        pub host-requires : HostAsked (b .chip) (p .s) (p .alpha) to kept fr off (q .count) (q .bytes)
+        host-requires = (host-asked kept fr found to off to-is eo)
 
-        pub cluster-put : (chip₁ ct₁ fst₁ stamps₁ : List ℕ) (sg : ℕ)
-            → chip₁ ≡ putPart (p .alpha * (p .s + 16)) to (hostFrame (p .s) (p .alpha) off (q .count) (q .bytes) (sectorsOf (p .s) (p .alpha) kept fr (b .chip)) c′) (b .chip)
-            → sg ≡ segmentOf p v f → ct₁ ≡ set (b .ct) c′ sg → fst₁ ≡ set (b .fst) r′ sg → stamps₁ ≡ set (b .stamps) r′ (stampAt (b .stamps) r′ + 1)
+        pub cluster-put : (chip₁ ct₁ fst₁ stamps₁ : List ℕ) (sg t₁ : ℕ)
+            → chip₁ ≡ putPart (p .alpha * (p .s + 16)) to (hostFrame (p .s) (p .alpha) off (q .count) (q .bytes) (sectorsOf (p .s) (p .alpha) kept fr (b .chip)) c′ t₁ v) (b .chip)
+            → sg ≡ segmentOf p v f → ct₁ ≡ set (b .ct) c′ sg → fst₁ ≡ set (b .fst) r′ sg → t₁ ≡ stampAt (b .stamps) r′ + 1 → stamps₁ ≡ set (b .stamps) r′ (stampAt (b .stamps) r′ + 1)
             → ClusterPut p b q v f chip₁ ct₁ fst₁ stamps₁
-        cluster-put chip₁ ct₁ fst₁ stamps₁ sg e s x y w =
+        cluster-put chip₁ ct₁ fst₁ stamps₁ sg t₁ e s x y k w =
             record {
-              chip = unfold frameBytes pageBytes in (e ∙ rw (ec, frame-is kept fr found off eo, to-is));
+              chip = unfold frameBytes pageBytes nextStamp in (e ∙ rw (ec, frame-is kept fr found off t₁ v eo, to-is, k, region-is));
               ct = x ∙ rw (ec, s);
               fst = y ∙ rw (region-is, s);
               stamps = w ∙ unfold nextStamp in rw region-is;

@@ -33,7 +33,7 @@ pub record Standing (p : Params) (b : Board) (q : Request) (v f : ℕ) : Type 0 
 
 -- the frame is programmed, CT and FST name its segment, and the region's last stamp is the next one
 pub record ClusterPut (p : Params) (b : Board) (q : Request) (v f : ℕ) (chip′ ct′ fst′ stamps′ : List ℕ) : Type 0 where
-  pub chip : chip′ ≡ putPart (frameBytes p) (btAt p (b .bt) (requestRegion p q) v * frames p + f) (newFrame p (view p b (requestRegion p q)) q) (b .chip)
+  pub chip : chip′ ≡ putPart (frameBytes p) (btAt p (b .bt) (requestRegion p q) v * frames p + f) (newFrame p (view p b (requestRegion p q)) q (nextStamp b (requestRegion p q)) v) (b .chip)
   pub ct : ct′ ≡ set (b .ct) (requestCluster p q) (segmentOf p v f)
   pub fst : fst′ ≡ set (b .fst) (requestRegion p q) (segmentOf p v f)
   pub stamps : stamps′ ≡ set (b .stamps) (requestRegion p q) (nextStamp b (requestRegion p q))

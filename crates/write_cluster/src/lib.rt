@@ -6,11 +6,12 @@ ghost use Rattle.read_work.specs.Lookup.{Stands};
 ghost use Rattle.rules.specs.Requests.{requestOf};
 ghost use Rattle.write_cluster.specs.Clusters.{Standing, ClusterPut};
 use read_work::Found;
+use rules::Label;
 use rules::Params;
 use rules::VBlock;
 
-// The new cluster goes to frame f of virtual block v, its old sectors read where the old one now stands; CT and FST name its segment, and its region
-// takes the next stamp.
+// The new cluster goes to frame f of virtual block v with its region's next stamp, its old sectors read where the old one now stands; CT and FST name its
+// segment.
 pub fn put_cluster(
     p: Params,
     chip: &mut [u8],
@@ -34,6 +35,11 @@ pub fn put_cluster(
     let r = rules::region_of(p, c);
     let n = chip_tables::bt_at(p, bt, r, v);
     let to = chip_frames::frame_at(p, n, f);
+    let of = Label {
+        cluster: c,
+        stamp: chip_tables::take_stamp(stamps, r),
+        vblock: v.0 as u8,
+    };
     chip_frames::host_frame(
         chip,
         p.s,
@@ -44,10 +50,9 @@ pub fn put_cluster(
         rules::sector_of(p, lba),
         count,
         bytes,
-        c,
+        of,
     );
     let sg = rules::segment_of(p, v, f);
     chip_tables::set_ct(ct, c, sg);
     chip_tables::set_fst(fst, r, sg);
-    chip_tables::take_stamp(stamps, r);
 }

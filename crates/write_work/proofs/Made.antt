@@ -117,24 +117,25 @@ module _ (p : Params) (b : Board) (q : Request) (acc : Admitted p b q) (left : s
       }
 
   -- what is read is what was read
-  frame-same : newFrame p (view p ready r) q ≡ newFrame p vw q
+  frame-same : newFrame p (view p ready r) q (nextStamp b r) v ≡ newFrame p vw q (nextStamp b r) v
   unfolding newFrame newPage newSector
   frame-same = join-cong (p .alpha) _ _ (λ j l. rw (view-is, makes .reads (requestCluster p q) (acc .asked .cluster) j))
 
-  sheet : Sheet p (requestCluster p q) (newFrame p vw q)
-  sheet = own-sheet p b q acc
+  sheet : Sheet p v (requestCluster p q) (newFrame p vw q (nextStamp b r) v)
+  unfolding nextStamp
+  sheet = own-sheet p b q acc _ v (omega (arith, left))
 
   frame-fits : (n * frames p + f) * frameBytes p + frameBytes p ≤ length (ready .chip)
   unfolding blockBytes
   frame-fits = omega (arith, makes .room .chipLength, next (frameBytes p) f (frames p) (makes .base .ready .low), next (frames p * frameBytes p) n (p .N) (makes .room .low))
 
-  chip-is : (writtenBy p b r q pl) .chip ≡ putPart (frameBytes p) (n * frames p + f) (newFrame p vw q) (ready .chip)
+  chip-is : (writtenBy p b r q pl) .chip ≡ putPart (frameBytes p) (n * frames p + f) (newFrame p vw q (nextStamp b r) v) (ready .chip)
   unfolding writtenBy planOps
-  chip-is = replay-append p (b .chip) (roomOps p b r pl) _ ∙ frame-put p (ready .chip) (newFrame p vw q) n f frame-fits (sheet .whole)
+  chip-is = replay-append p (b .chip) (roomOps p b r pl) _ ∙ frame-put p (ready .chip) (newFrame p vw q (nextStamp b r) v) n f frame-fits (sheet .whole)
 
   wear-is : (writtenBy p b r q pl) .wear ≡ replayWear (b .wear) (roomOps p b r pl)
   unfolding writtenBy planOps
-  wear-is = wear-append (b .wear) (roomOps p b r pl) _ ∙ frame-wear p n f (newFrame p vw q) _ (p .alpha)
+  wear-is = wear-append (b .wear) (roomOps p b r pl) _ ∙ frame-wear p n f (newFrame p vw q (nextStamp b r) v) _ (p .alpha)
 
   -- the board after the write
   pub done : (chip ct fst stamps bst wear marks : List ℕ) → ClusterPut p ready q v f chip ct fst stamps → bst ≡ planBst p b r pl → wear ≡ replayWear (b .wear) (roomOps p b r pl)

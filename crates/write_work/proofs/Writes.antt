@@ -144,7 +144,7 @@ module _ (p : Params) (b : Board) (q : Request) (e : replyOf p b (write q) ≡ A
     some : btAt p (b .bt) r v ≡ none → ⊥
     some = has-block p z b (acc .tables) r v region-in h (every (c .full) v h)
 
-    good : (f : ℕ) → f < frames p → GoodFrame p r (frame p (block p (b .chip) (btAt p (b .bt) r v)) f)
+    good : (f : ℕ) → f < frames p → GoodFrame p r v (frame p (block p (b .chip) (btAt p (b .bt) r v)) f)
     good f k = rw (body-some p z b (acc .tables) r v region-in h some) at (good-at p z vw r nt (c .noRoom) (every (c .full)) v f h k)
 
     from-to : FromTo p (b .chip) (b .ct) (btAt p (b .bt) r v) (freeBlock p (b .bst) (b .wear)) v

@@ -29,7 +29,7 @@ unfolding numbersOf
 returns c =
     let at-why-reply = c .before .before .before in
     let start = at-why-reply .before .before .before .before .before .before .before .before .before in
-    (why-7 _ (board start) _ _ (at-why-reply .why-reply .ensures) _ (c .before .before .number .ensures) (c .before .if1 .taken) _ (c .broken-rule .ensures _ _ _), broken-small (c .broken-rule .result))
+    (why-7 _ (board start) _ _ (at-why-reply .why-reply .ensures) _ (c .before .before .number .ensures) (c .before .if1 .taken) _ (c .broken-rule .ensures _), broken-small (c .broken-rule .result))
 
 returns-2 : tie.Need-returns-2
 unfolding numbersOf

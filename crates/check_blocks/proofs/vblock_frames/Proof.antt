@@ -1,12 +1,12 @@
 -- `check_blocks::vblock_frames`: test by test.
 -- Assumes nothing.
-use mathlib.Core.Path.{_≡_}
+use mathlib.Core.Path.{_∙_, _≡_}
 use Prim.Native.Nat.{_<_, ℕ}
 use native.Mathlib.Omega.{arith}
 use borrow.Author.Tests.{eq-eqb, ne-eqb, not-false, not-true}
 use Rattle.rules.specs.Tables.{btAt, none}
-use Rattle.check_rules.specs.Check.{vblockFrames, vblockOk}
-use Rattle.check_blocks.proofs.Blocks.{name-low}
+use Rattle.check_rules.specs.Check.{vblockFrames, vblockFramesTo, vblockOk, vblockStamps}
+use Rattle.check_blocks.proofs.Blocks.{both-counted, name-low, none-counted}
 use Rattle.check_blocks.proofs.vblock_frames.Statement.{statement}
 use Rattle.check_blocks.proofs.vblock_frames.Tie as tie
 
@@ -24,7 +24,7 @@ frames-requires c κs =
     start .pre .0 .fine
 
 returns : tie.Need-returns
-unfolding vblockFrames vblockOk
+unfolding vblockFramesTo vblockFrames vblockStamps vblockOk
 returns c =
     let at-bt-at = c .before .before .before in
     rw (← (at-bt-at .bt-at .ensures .0), eq-eqb _ none (c .before .if1 .taken)) (c .frames .ensures)
@@ -34,7 +34,7 @@ differs-requires c κs =
     let a = c .before .before .before .before .before .before in (a .pre .0 .btLength, (a .pre .1 .1 .0, a .pre .1 .1 .1))
 
 returns-2 : tie.Need-returns-2
-unfolding vblockFrames vblockOk
+unfolding vblockFramesTo vblockFrames vblockStamps vblockOk
 returns-2 c =
     let at-bt-at = c .before .before .before .before in
     rw (
@@ -44,6 +44,7 @@ returns-2 c =
       not-true
           (c .before .differs .result) (c .if2 .taken),
     )
+    (none-counted _ _ _)
 
 bst-at-requires : tie.Need-bst-at-requires
 bst-at-requires c κs =
@@ -52,7 +53,7 @@ bst-at-requires c κs =
     omega (arith, low a (at-bt-at .bt-at .result .0) (at-bt-at .bt-at .ensures .0) (c .before .before .if1 .left), a .pre .1 .0)
 
 returns-3 : tie.Need-returns-3
-unfolding vblockFrames vblockOk
+unfolding vblockFramesTo vblockFrames vblockStamps vblockOk
 returns-3 c =
     let at-differs = c .before .before .before in
     let at-if1 = at-differs .before in
@@ -66,6 +67,7 @@ returns-3 c =
       ← (c .before .bst-at .ensures),
       ne-eqb _ 1 (c .if3 .taken),
     )
+    (none-counted _ _ _)
 
 block-of-requires : tie.Need-block-of-requires
 block-of-requires c κs =
@@ -77,10 +79,10 @@ block-of-requires c κs =
 used-frames-requires : tie.Need-used-frames-requires
 used-frames-requires c κs =
     let start = c .before .before .before .before .before .before .before .before .before .before .before in
-    (start .pre .0 .fine, c .block-of .ensures .1)
+    (start .pre .0 .fine, (start .pre .1 .1 .1, c .block-of .ensures .1))
 
 returns-4 : tie.Need-returns-4
-unfolding vblockFrames vblockOk
+unfolding vblockFramesTo vblockFrames vblockStamps vblockOk
 returns-4 c =
     let at-bst-at = c .before .before .before in
     let at-if2 = at-bst-at .before in
@@ -97,7 +99,7 @@ returns-4 c =
       eq-eqb _ 1 (c .before .before .if3 .left),
       ← (c .before .block-of .ensures .0),
     )
-    (c .used-frames .ensures)
+    (c .used-frames .ensures ∙ both-counted _ _ _ _ _)
 
 pub vblock-frames-spec : {M : Type 1} → statement M
 vblock-frames-spec =

@@ -1,107 +1,24 @@
--- `check_board::in_order`: the tables, the free blocks, the regions, the counts; the theorem says that this is the rules' test.
+-- `check_board::in_order`: the check with the last stamps as bounds, which the theorem says is the rules' test.
 -- Assumes nothing.
-use mathlib.Core.Path.{sym, _∙_}
+use mathlib.Core.Path.{_∙_}
 use native.Mathlib.Omega.{arith}
 use borrow.Author.Needs.{needs}
-use borrow.Author.Tests.{not-false, not-true}
-use Rattle.rules.proofs.Sizes.{sizes}
 use Rattle.rules.specs.Tables.{wordAt}
-use Rattle.check_board.specs.Order.{orderOk}
-use Rattle.check_board.proofs.Counted.{lent-in, order-agrees}
+use Rattle.check_board.proofs.Stamped.{in-order-is}
 use Rattle.check_board.proofs.in_order.Statement.{statement}
 use Rattle.check_board.proofs.in_order.Tie as tie
 
-tables-ok-requires : tie.Need-tables-ok-requires
-tables-ok-requires c κs = search needs
+checked-requires : tie.Need-checked-requires
+checked-requires c κs = search needs
 
 returns : tie.Need-returns
-unfolding orderOk wordAt
+unfolding wordAt
 returns c =
-    let start = c .before .before .before .before .before .before .before .before in
-    λ wear stamps. rw (← (c .before .tables-ok .ensures), not-true (c .before .tables-ok .result) (c .if1 .taken)) at
-    (order-agrees (start .args .p) (start .args .chip .now) (start .args .ct .now) (start .args .bt .now) (start .args .fst .now) (start .args .bst .now)
-    (start .args .marks .now) (start .pre .0) (start .pre .1) (λ i h. omega (arith, c .before .before .shared-slice-known6 .given i)) wear stamps)
-
-frees-ok-requires : tie.Need-frees-ok-requires
-frees-ok-requires c κs = search needs
-
-returns-2 : tie.Need-returns-2
-unfolding orderOk wordAt
-returns-2 c =
-    let at-tables-ok = c .before .before .before in
-    let at-shared-slice-known6 = at-tables-ok .before in
-    let start = at-shared-slice-known6 .before .before .before .before .before .before in
-    λ wear stamps. rw (
-      ← (at-tables-ok .tables-ok .ensures),
-      not-false (at-tables-ok .tables-ok .result) (c .before .before .if1 .left),
-      ← (c .before .frees-ok .ensures),
-      not-true
-          (c .before .frees-ok .result) (c .if2 .taken),
-    ) at
-    (order-agrees (start .args .p) (start .args .chip .now) (start .args .ct .now) (start .args .bt .now) (start .args .fst .now) (start .args .bst .now)
-    (start .args .marks .now) (start .pre .0) (start .pre .1) (λ i h. omega (arith, at-shared-slice-known6 .shared-slice-known6 .given i)) wear stamps)
-
-regions-ok-requires : tie.Need-regions-ok-requires
-regions-ok-requires c κs =
-    let at-tables-ok = c .before .before .before in
-    let start = at-tables-ok .before .before .before .before .before .before .before in
-    let a = start .pre in (
-      record {
-        lent = lent-in _ _ _ _ _ _ (a .0) (sym (at-tables-ok .tables-ok .ensures) ∙ not-false _ (c .before .before .if1 .left));
-        ctLength = a .0 .ctLength;
-        bstLength = a .0 .bstLength;
-        marksLong = a .1;
-      },
-      a .0 .fstLength,
-    )
-
-returns-3 : tie.Need-returns-3
-unfolding orderOk wordAt
-returns-3 c =
-    let at-frees-ok = c .before .before .before in
-    let at-if1 = at-frees-ok .before in
-    let at-tables-ok = at-if1 .before in
-    let at-shared-slice-known6 = at-tables-ok .before in
-    let start = at-shared-slice-known6 .before .before .before .before .before .before in
-    λ wear stamps. rw (
-      ← (at-tables-ok .tables-ok .ensures),
-      not-false (at-tables-ok .tables-ok .result) (at-if1 .if1 .left),
-      ← (at-frees-ok .frees-ok .ensures),
-      not-false
-          (at-frees-ok .frees-ok .result) (c .before .before .if2 .left),
-      ← (c .before .regions-ok .ensures),
-      not-true (c .before .regions-ok .result) (c .if3 .taken),
-    ) at
-    (order-agrees (start .args .p) (start .args .chip .now) (start .args .ct .now) (start .args .bt .now) (start .args .fst .now) (start .args .bst .now)
-    (start .args .marks .now) (start .pre .0) (start .pre .1) (λ i h. omega (arith, at-shared-slice-known6 .shared-slice-known6 .given i)) wear stamps)
-
-counts-ok-requires : tie.Need-counts-ok-requires
-counts-ok-requires c κs =
-    let start = c .before .before .before .before .before .before .before .before .before .before .before .before in
-    omega (arith, start .pre .1, (sizes _ (start .pre .0 .fine)) .tableHigh)
-
-returns-4 : tie.Need-returns-4
-unfolding orderOk wordAt
-returns-4 c =
-    let at-if2 = c .before .before .before in
-    let at-frees-ok = at-if2 .before in
-    let at-if1 = at-frees-ok .before in
-    let at-tables-ok = at-if1 .before in
-    let at-shared-slice-known6 = at-tables-ok .before in
-    let start = at-shared-slice-known6 .before .before .before .before .before .before in
-    λ wear stamps. rw (
-      ← (at-tables-ok .tables-ok .ensures),
-      not-false (at-tables-ok .tables-ok .result) (at-if1 .if1 .left),
-      ← (at-frees-ok .frees-ok .ensures),
-      not-false
-          (at-frees-ok .frees-ok .result) (at-if2 .if2 .left),
-      ← (c .before .before .regions-ok .ensures),
-      not-false (c .before .before .regions-ok .result)
-          (c .before .if3 .left),
-      ← (c .counts-ok .ensures),
-    ) at
-    (order-agrees (start .args .p) (start .args .chip .now) (start .args .ct .now) (start .args .bt .now) (start .args .fst .now) (start .args .bst .now)
-    (start .args .marks .now) (start .pre .0) (start .pre .1) (λ i h. omega (arith, at-shared-slice-known6 .shared-slice-known6 .given i)) wear stamps)
+    let at-marks = c .before .before in
+    let start = at-marks .before .before .before .before .before .before in
+    let a = start .args in
+    λ wear. c .checked .ensures ∙ in-order-is (a .p) (a .chip .now) (a .ct .now) (a .bt .now) (a .fst .now) (a .bst .now) (a .marks .now) (start .pre .0) (start .pre .1 .0)
+    (λ i h. omega (arith, at-marks .shared-slice-known6 .given i)) wear (a .stamps .now)
 
 pub in-order-spec : {M : Type 1} → statement M
-in-order-spec = tie.close (tie.spec tables-ok-requires returns frees-ok-requires returns-2 regions-ok-requires returns-3 counts-ok-requires returns-4)
+in-order-spec = tie.close (tie.spec checked-requires returns)

@@ -2,7 +2,7 @@
 -- Assumes nothing.
 use native.Mathlib.Omega.{arith}
 use borrow.Author.Tests.{not-false, not-true}
-use Rattle.check_board.specs.Order.{regionHeld}
+use Rattle.check_board.specs.Order.{regionHeldTo}
 use Rattle.check_board.proofs.region_ok.Statement.{statement}
 use Rattle.check_board.proofs.region_ok.Tie as tie
 
@@ -17,7 +17,7 @@ entry-ok-requires c κs =
     let a = start .pre in (a .0 .lent .fine, (a .0 .lent .btLength, (a .1 .1, c .fst-at .ensures .1)))
 
 returns : tie.Need-returns
-unfolding regionHeld
+unfolding regionHeldTo
 returns c = rw (← (c .before .before .fst-at .ensures .0), ← (c .before .entry-ok .ensures), not-true (c .before .entry-ok .result) (c .if1 .taken))
 
 vblocks-ok-requires : tie.Need-vblocks-ok-requires
@@ -26,7 +26,7 @@ vblocks-ok-requires c κs =
     let a = start .pre in (a .0, (a .1 .1, c .before .before .fst-at .ensures .1))
 
 returns-2 : tie.Need-returns-2
-unfolding regionHeld
+unfolding regionHeldTo
 returns-2 c =
     let at-fst-at = c .before .before .before in
     rw (← (at-fst-at .fst-at .ensures .0), ← (c .before .before .entry-ok .ensures), not-false (c .before .before .entry-ok .result) (c .before .if1 .left)) (c .vblocks-ok .ensures)

@@ -7,28 +7,34 @@ use native.Mathlib.Omega.{arith}
 use borrow.Author.Tests.{not-false, not-true}
 use Rattle.lists.specs.Below.{allBelow}
 use Rattle.loops.proofs.Below.{all-end, all-fails, all-more, all-start}
-use Rattle.check_board.specs.Order.{regionHeld}
+use Rattle.check_board.specs.Order.{boundOf, regionHeldTo}
 use Rattle.check_board.proofs.regions_ok.Statement.{statement}
 use Rattle.check_board.proofs.regions_ok.Tie as tie
 
 abbrev Inv-loop : tie.InvT-loop
-Inv-loop p chip ct bt fst bst marks m r₀ r = (r ≤ m) × (allBelow r (regionHeld p chip ct bt fst bst marks) ≡ true)
+Inv-loop p chip ct bt fst bst marks stamps bound m r₀ r = (r ≤ m) × (allBelow r (λ i. regionHeldTo p chip ct bt fst bst marks (boundOf bound stamps i) i) ≡ true)
 
 abbrev μ-loop : tie.MeasureT-loop
-μ-loop p chip ct bt fst bst marks m r₀ r = m - r
+μ-loop p chip ct bt fst bst marks stamps bound m r₀ r = m - r
 
 loop-holds : tie.Need-loop-holds Inv-loop μ-loop
 loop-holds c = (omega arith, all-start _)
 
+bound-of-requires : tie.Need-bound-of-requires Inv-loop μ-loop
+bound-of-requires c κs =
+    let start = c .before .before .before .before .before .before .before .before .before in
+    omega (arith, start .pre .1 .1, c .loop-test .taken)
+
 region-ok-requires : tie.Need-region-ok-requires Inv-loop μ-loop
 region-ok-requires c κs =
-    let start = c .before .before .before .before .before .before .before .before in
-    (start .pre .0, (start .pre .1, c .loop-test .taken))
+    let start = c .before .before .before .before .before .before .before .before .before .before in
+    (start .pre .0, (start .pre .1 .0, c .before .loop-test .taken))
 
 returns : tie.Need-returns Inv-loop μ-loop
 returns c =
-    let at-loop = c .before .before .before in
-    sym (all-fails _ (at-loop .loop .r) _ (c .before .before .loop-test .taken) (sym (c .before .region-ok .ensures) ∙ not-true _ (c .if1 .taken)))
+    let at-loop = c .before .before .before .before in
+    let e = rw (c .before .before .bound-of .ensures) at (c .before .region-ok .ensures) in
+    sym (all-fails _ (at-loop .loop .r) _ (c .before .before .before .loop-test .taken) (sym e ∙ not-true _ (c .if1 .taken)))
 
 add-r : tie.Need-add-r Inv-loop μ-loop
 add-r c = omega arith
@@ -38,11 +44,24 @@ loop-less c = omega arith
 
 loop-again : tie.Need-loop-again Inv-loop μ-loop
 loop-again c =
-    let at-loop = c .before .before .before in
-    (omega arith, all-more _ _ (at-loop .loop .inv .1) (sym (c .before .region-ok .ensures) ∙ not-false _ (c .if1 .left)))
+    let at-loop = c .before .before .before .before in
+    let e = rw (c .before .before .bound-of .ensures) at (c .before .region-ok .ensures) in
+    (omega arith, all-more _ _ (at-loop .loop .inv .1) (sym e ∙ not-false _ (c .if1 .left)))
 
 returns-2 : tie.Need-returns-2 Inv-loop μ-loop
 returns-2 c = sym (all-end _ _ _ (omega arith) (c .before .loop .inv .1))
 
 pub regions-ok-spec : {M : Type 1} → statement M
-regions-ok-spec = tie.close (tie.spec Inv-loop μ-loop loop-holds region-ok-requires returns add-r loop-less loop-again returns-2)
+regions-ok-spec =
+    tie.close
+    (tie.spec
+    Inv-loop
+    μ-loop
+    loop-holds
+    bound-of-requires
+    region-ok-requires
+    returns
+    add-r
+    loop-less
+    loop-again
+    returns-2)

@@ -3,9 +3,9 @@
 use mathlib.Core.Path.{sym, _∙_}
 use borrow.Author.Tests.{not-false, not-true}
 use Rattle.rules.proofs.Sizes.{sizes}
-use Rattle.check_board.specs.Order.{blockHeld}
+use Rattle.check_board.specs.Order.{blockHeldTo}
 use Rattle.check_board.proofs.Blocks.{check-asked}
-use Rattle.check_board.proofs.Open.{frames-block, frames-le}
+use Rattle.check_board.proofs.Open.{to-block, to-le}
 use Rattle.check_board.proofs.vblock_ok.Statement.{statement}
 use Rattle.check_board.proofs.vblock_ok.Tie as tie
 
@@ -17,22 +17,22 @@ vblock-frames-requires c κs =
 frames-ok-requires : tie.Need-frames-ok-requires
 frames-ok-requires c κs =
     let start = c .before .before .before .before .before .before in
-    let a = start .pre in (a .0 .lent .fine, (a .1 .1 .0, (a .1 .1 .1, rw (c .vblock-frames .ensures) (frames-le _ (sizes _ (a .0 .lent .fine)) _ _ _ _ _))))
+    let a = start .pre in (a .0 .lent .fine, (a .1 .1 .0, (a .1 .1 .1, rw (c .vblock-frames .ensures) (to-le _ (sizes _ (a .0 .lent .fine)) _ _ _ _ _ _))))
 
 returns : tie.Need-returns
-unfolding blockHeld
+unfolding blockHeldTo
 returns c = rw (← (c .before .before .vblock-frames .ensures), ← (c .before .frames-ok .ensures), not-true (c .before .frames-ok .result) (c .if1 .taken))
 
 marks-ok-requires : tie.Need-marks-ok-requires
 marks-ok-requires c κs =
     let start = c .before .before .before .before .before .before .before .before in
     let a = start .pre in
-    let ok = frames-block _ (sizes _ (a .0 .lent .fine)) _ _ _ _ (start .args .sg .0) _
+    let ok = to-block _ (sizes _ (a .0 .lent .fine)) _ _ _ _ _ (start .args .sg .0) _
     (rw (c .before .before .vblock-frames .ensures) at (sym (c .before .frames-ok .ensures) ∙ not-false _ (c .if1 .left))) in
     check-asked _ _ _ _ _ _ ok _ _ (a .0) (a .1 .0) (a .1 .1 .1)
 
 returns-2 : tie.Need-returns-2
-unfolding blockHeld
+unfolding blockHeldTo
 returns-2 c =
     let at-vblock-frames = c .before .before .before in
     rw (← (at-vblock-frames .vblock-frames .ensures), ← (c .before .before .frames-ok .ensures), not-false (c .before .before .frames-ok .result) (c .before .if1 .left)) (c .marks-ok .ensures)

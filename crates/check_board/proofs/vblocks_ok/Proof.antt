@@ -7,15 +7,15 @@ use native.Mathlib.Omega.{arith}
 use borrow.Author.Tests.{not-false, not-true}
 use Rattle.lists.specs.Below.{allBelow}
 use Rattle.loops.proofs.Below.{all-end, all-fails, all-more, all-start}
-use Rattle.check_board.specs.Order.{blockHeld}
+use Rattle.check_board.specs.Order.{blockHeldTo}
 use Rattle.check_board.proofs.vblocks_ok.Statement.{statement}
 use Rattle.check_board.proofs.vblocks_ok.Tie as tie
 
 abbrev Inv-loop : tie.InvT-loop
-Inv-loop p chip ct bt bst marks r sg o m v₀ v = (v ≤ m) × (allBelow v (blockHeld p chip ct bt bst marks r (sg .0)) ≡ true)
+Inv-loop p chip ct bt bst marks last r sg o m v₀ v = (v ≤ m) × (allBelow v (blockHeldTo p chip ct bt bst marks last r (sg .0)) ≡ true)
 
 abbrev μ-loop : tie.MeasureT-loop
-μ-loop p chip ct bt bst marks r sg o m v₀ v = m - v
+μ-loop p chip ct bt bst marks last r sg o m v₀ v = m - v
 
 vblock-of-requires : tie.Need-vblock-of-requires Inv-loop μ-loop
 vblock-of-requires c κs =

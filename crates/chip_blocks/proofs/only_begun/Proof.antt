@@ -46,7 +46,8 @@ returns-2 : tie.Need-returns-2
 returns-2 c =
     let sized = c .before .before in
     let a = sized .before .before .before in
-    rw (ne-eqb (a .args .j) 0 (sized .before .if1 .left)) (c .is-erased .ensures ∙ ap (allAre 255) (pages-lent (a .args .p) (a .args .fr .now) (a .args .j) (sized .page-bytes .result) (a .pre .1 .1) (a .pre .1 .0) (sized .page-bytes .ensures)))
+    rw (ne-eqb (a .args .j) 0 (sized .before .if1 .left)) (c .is-erased .ensures ∙
+    ap (allAre 255) (pages-lent (a .args .p) (a .args .fr .now) (a .args .j) (sized .page-bytes .result) (a .pre .1 .1) (a .pre .1 .0) (sized .page-bytes .ensures)))
 
 pub only-begun-spec : {M : Type 1} → statement M
 only-begun-spec =

@@ -14,17 +14,17 @@ use Rattle.chip_frames.proofs.Run.{run}
 use Rattle.chip_frames.proofs.Host.{low, low-page, written-length, page-asked, page-done, all-done}
 
 abbrev Inv-loop : tie.InvT-loop
-Inv-loop chip₀ s n to kept old off count bytes cluster x y k₀ chip k =
-    (k ≤ n) × (chip ≡ run (s + 16) n to (hostFrame s n off count bytes (sectorsOf s n kept old chip₀) (cluster .0)) chip₀ k)
+Inv-loop chip₀ s n to kept old off count bytes label x y k₀ chip k =
+    (k ≤ n) × (chip ≡ run (s + 16) n to (hostFrame s n off count bytes (sectorsOf s n kept old chip₀) (label .cluster .0) (label .stamp) (label .vblock)) chip₀ k)
 
 abbrev μ-loop : tie.MeasureT-loop
-μ-loop chip₀ s n to kept old off count bytes cluster x y k₀ chip k = n - k
+μ-loop chip₀ s n to kept old off count bytes label x y k₀ chip k = n - k
 
 mul-x : tie.Need-mul-x Inv-loop μ-loop
-mul-x c = let a = c .before .before in omega (arith, low _ _ _ _ _ _ _ _ _ _ (a .pre) (a .args .old) (a .pre .source))
+mul-x c = let a = c .before .before in omega (arith, low _ _ _ _ _ _ _ _ _ (a .pre) 0 0 0 (a .args .old) (a .pre .source))
 
 mul-y : tie.Need-mul-y Inv-loop μ-loop
-mul-y c = let a = c .before .before in omega (arith, low _ _ _ _ _ _ _ _ _ _ (a .pre) (a .args .to) (a .pre .fits))
+mul-y c = let a = c .before .before in omega (arith, low _ _ _ _ _ _ _ _ _ (a .pre) 0 0 0 (a .args .to) (a .pre .fits))
 
 loop-holds : tie.Need-loop-holds Inv-loop μ-loop
 unfolding run
@@ -33,17 +33,17 @@ loop-holds c = (search needs, refl)
 add-host-page : tie.Need-add-host-page Inv-loop μ-loop
 add-host-page c =
     let a = c .before .before .before .before .before in
-    omega (arith, low-page _ _ _ _ _ _ _ _ _ _ (a .pre) (a .args .to) (c .before .before .loop .k) (a .pre .fits) (c .before .loop-test .taken))
+    omega (arith, low-page _ _ _ _ _ _ _ _ _ (a .pre) 0 0 0 (a .args .to) (c .before .before .loop .k) (a .pre .fits) (c .before .loop-test .taken))
 
 add-host-page-2 : tie.Need-add-host-page-2 Inv-loop μ-loop
 add-host-page-2 c =
     let a = c .before .before .before .before .before in
-    omega (arith, low-page _ _ _ _ _ _ _ _ _ _ (a .pre) (a .args .old) (c .before .before .loop .k) (a .pre .source) (c .before .loop-test .taken))
+    omega (arith, low-page _ _ _ _ _ _ _ _ _ (a .pre) 0 0 0 (a .args .old) (c .before .before .loop .k) (a .pre .source) (c .before .loop-test .taken))
 
 host-page-requires : tie.Need-host-page-requires Inv-loop μ-loop
 host-page-requires c κs =
     let l = c .before .before in
-    page-asked _ _ _ _ _ _ _ _ _ _ (l .before .before .before .pre) _ _ (c .before .loop-test .taken) (l .loop .inv .1)
+    page-asked _ _ _ _ _ _ _ _ _ (l .before .before .before .pre) _ _ _ _ _ (c .before .loop-test .taken) (l .loop .inv .1)
 
 add-k : tie.Need-add-k Inv-loop μ-loop
 add-k c = omega arith
@@ -55,18 +55,18 @@ loop-again : tie.Need-loop-again Inv-loop μ-loop
 loop-again c =
     let at-loop-test = c .before .before .before .before in
     let l = at-loop-test .before in
-    (omega arith, page-done _ _ _ _ _ _ _ _ _ _ (l .before .before .before .pre) _ _ _ (at-loop-test .loop-test .taken) (l .loop .inv .1) (c .before .before .host-page .ensures))
+    (omega arith, page-done _ _ _ _ _ _ _ _ _ (l .before .before .before .pre) _ _ _ _ _ _ (at-loop-test .loop-test .taken) (l .loop .inv .1) (c .before .before .host-page .ensures))
 
 same-length : tie.Need-same-length Inv-loop μ-loop
 same-length c =
     let l = c .before in
-    ap length (l .loop .inv .1) ∙ written-length _ _ _ _ _ _ _ _ _ _ (l .before .before .before .pre) _ (l .loop .inv .0)
+    ap length (l .loop .inv .1) ∙ written-length _ _ _ _ _ _ _ _ _ (l .before .before .before .pre) _ _ _ _ (l .loop .inv .0)
 
 returns : tie.Need-returns Inv-loop μ-loop
 returns c =
     let l = c .before in
     let e : l .loop .k ≡ l .before .before .before .args .n = omega arith in
-    rw e at (l .loop .inv .1) ∙ all-done _ _ _ _ _ _ _ _ _ _ (l .before .before .before .pre)
+    rw e at (l .loop .inv .1) ∙ all-done _ _ _ _ _ _ _ _ _ (l .before .before .before .pre) _ _ _
 
 pub host-frame-spec : {M : Type 1} → statement M
 host-frame-spec =

@@ -6,7 +6,7 @@ use Rattle.chip_frames.proofs.host_page.Tie as tie
 use Rattle.chip_frames.proofs.host_page.Reads as reads
 use native.Mathlib.Omega.{arith}
 use Prim.Native.Nat.{ℕ}
-use Rattle.chip_frames.proofs.Host.{given-in, given-fits, given-asked, given-done, kept-done, blank-done}
+use Rattle.chip_frames.proofs.Host.{given-in, given-fits, given-asked, given-done, from-asked, kept-done, blank-done}
 
 add-end : tie.Need-add-end
 add-end c = search needs
@@ -42,7 +42,7 @@ cast-program-at c = search needs
 program-at-requires : tie.Need-program-at-requires
 program-at-requires c κs =
     let start = c .before .before .before .before .before in
-    given-asked _ _ _ _ _ _ _ _ _ _ (start .pre) (c .before .before .if1 .taken)
+    given-asked _ _ _ _ _ _ _ _ _ (start .pre) 0 0 0 (c .before .before .if1 .taken)
 
 same-length : tie.Need-same-length
 same-length c = search needs
@@ -51,13 +51,13 @@ returns : tie.Need-returns
 returns c =
     let at-if1 = c .before .before .before .before .before in
     let start = at-if1 .before .before .before in
-    given-done _ _ _ _ _ _ _ _ _ _ (start .pre) _ (at-if1 .if1 .taken) (c .before .before .program-at .ensures)
+    given-done _ _ _ _ _ _ _ _ _ (start .pre) _ _ _ _ (at-if1 .if1 .taken) (c .before .before .program-at .ensures)
 
-add-copy-at : tie.Need-add-copy-at
-add-copy-at c = search needs
+cast-program-from : tie.Need-cast-program-from
+cast-program-from c = search needs
 
-copy-at-requires : tie.Need-copy-at-requires
-copy-at-requires c κs = search needs
+program-from-requires : tie.Need-program-from-requires
+program-from-requires c κs = let start = c .before .before .before .before .before in from-asked _ _ _ _ _ _ _ _ _ (start .pre) 0 0 0
 
 same-length-2 : tie.Need-same-length-2
 same-length-2 c = search needs
@@ -67,7 +67,7 @@ returns-2 c =
     let at-if2 = c .before .before .before .before in
     let at-if1 = at-if2 .before in
     let start = at-if1 .before .before .before in
-    kept-done _ _ _ _ _ _ _ _ _ _ (start .pre) _ (at-if1 .if1 .left) (at-if2 .if2 .taken) (c .before .before .copy-at .ensures)
+    kept-done _ _ _ _ _ _ _ _ _ (start .pre) _ _ _ _ (at-if1 .if1 .left) (at-if2 .if2 .taken) (c .before .before .program-from .ensures)
 
 cast-program-blank-at : tie.Need-cast-program-blank-at
 cast-program-blank-at c = search needs
@@ -83,7 +83,7 @@ returns-3 c =
     let at-if2 = c .before .before .before .before in
     let at-if1 = at-if2 .before in
     let start = at-if1 .before .before .before in
-    blank-done _ _ _ _ _ _ _ _ _ _ (start .pre) _ (at-if1 .if1 .left) (at-if2 .if2 .left) (c .before .before .program-blank-at .ensures)
+    blank-done _ _ _ _ _ _ _ _ _ (start .pre) _ _ _ _ (at-if1 .if1 .left) (at-if2 .if2 .left) (c .before .before .program-blank-at .ensures)
 
 pub host-page-spec : {M : Type 1} → statement M
 host-page-spec =
@@ -100,8 +100,8 @@ host-page-spec =
     program-at-requires
     same-length
     returns
-    add-copy-at
-    copy-at-requires
+    cast-program-from
+    program-from-requires
     same-length-2
     returns-2
     cast-program-blank-at

@@ -7,33 +7,38 @@ use borrow.Author.Needs.{needs}
 use Rattle.lists.specs.Parts.{part}
 use Rattle.lists.proofs.Parts.{part-length}
 use Rattle.loops.proofs.Lent.{back, width}
-use Rattle.chip_pages.proofs.Places.{held-part}
+use Rattle.chip_pages.proofs.Places.{held-part, put-held}
 use Rattle.chip_pages.proofs.copy_at.Statement.{statement}
 use Rattle.chip_pages.proofs.copy_at.Tie as tie
+
+-- what is held, of page `from`
+module _ (c : tie.After-put) where
+  abbrev start : tie.Start
+  start = c .before .before .before .before .before
+
+  page-held : take (start .args .w) (c .put .last .0) ≡ part (start .args .w) (start .args .from) (start .args .chip .now)
+  page-held = held-part _ _ _ _ (start .pre .source) (put-held _ _ _ (c .put .ensures))
 
 mul-x : tie.Need-mul-x
 mul-x c = search needs
 
-page-held : (c : tie.After-hold) → take (c .before .before .before .before .args .w) (c .hold .result) ≡ part (c .before .before .before .before .args .w)
-    (c .before .before .before .before .args .from) (c .before .before .before .before .args .chip .now)
-page-held c =
-    let start = c .before .before .before .before in
-    held-part _ _ _ _ (start .pre .source) (c .hold .ensures)
-
 add-y : tie.Need-add-y
 add-y c = search needs
 
-sub-hold : tie.Need-sub-hold
-sub-hold c = search needs
+slice-aggregate-put : tie.Need-slice-aggregate-put
+slice-aggregate-put c = search needs
 
-part-hold-start : tie.Need-part-hold-start
-part-hold-start c = search needs
+sub-put : tie.Need-sub-put
+sub-put c = search needs
 
-part-hold-end : tie.Need-part-hold-end
-part-hold-end c = search needs
+part-put-start : tie.Need-part-put-start
+part-put-start c = search needs
 
-hold-requires : tie.Need-hold-requires
-hold-requires c κs = search needs
+part-put-end : tie.Need-part-put-end
+part-put-end c = search needs
+
+put-requires : tie.Need-put-requires
+put-requires c κs = search needs
 
 mul-a : tie.Need-mul-a
 mul-a c = search needs
@@ -55,22 +60,18 @@ array-share-prefix-buf c = search needs
 
 slice-aggregate-program-copy : tie.Need-slice-aggregate-program-copy
 slice-aggregate-program-copy c =
-    let start = c .before .before .before .before .before .before in
-    sym (ap length (page-held (c .before .before)) ∙ part-length _ _ _ (start .pre .source))
+    let held = c .before .before .before in
+    sym (ap length (page-held held) ∙ part-length _ _ _ (start held .pre .source))
 
 program-copy-requires : tie.Need-program-copy-requires
 unfolding part
-program-copy-requires c κs =
-    let start = c .before .before .before .before .before .before in
-    rw width (start .pre .page .clean ∙ ap (λ (n : ℕ). replicate n 255) (slice-aggregate-program-copy c))
+program-copy-requires c κs = rw width (start (c .before .before .before) .pre .page .clean ∙ ap (λ (n : ℕ). replicate n 255) (slice-aggregate-program-copy c))
 
 same-length : tie.Need-same-length
 same-length c = search needs
 
 returns : tie.Need-returns
-returns c =
-    let start = c .before .before .before .before .before in
-    rw (width, c .before .before .program-copy .ensures, page-held start) (back _ _ _ _)
+returns c = rw (width, c .before .before .program-copy .ensures, page-held (c .before .before .before .before .before .before)) (back _ _ _ _)
 
 pub copy-at-spec : {M : Type 1} → statement M
 copy-at-spec =
@@ -78,10 +79,11 @@ copy-at-spec =
     (tie.spec
     mul-x
     add-y
-    sub-hold
-    part-hold-start
-    part-hold-end
-    hold-requires
+    slice-aggregate-put
+    sub-put
+    part-put-start
+    part-put-end
+    put-requires
     mul-a
     add-b
     sub-program-copy

@@ -1,13 +1,15 @@
--- `chip_spares::spare_right`: the lent part is the spare area of the page.
+-- `chip_spares::spare_right`: the two words of the spare area are those of the spare bytes that the label says.
 -- Assumes nothing.
-use mathlib.Core.Path.{_≡_}
+use mathlib.Core.Path.{_≡_, ap, _∙_}
 use Prim.Native.Nat.{_*_, _+_, ℕ, _≤_}
 use native.Mathlib.Omega.{arith}
 use lib.ListN.{length}
 use borrow.Author.Needs.{needs}
 use Rattle.rules.specs.Parameters.{pageBytes}
 use Rattle.rules.proofs.Sizes.{sizes}
-use Rattle.chip_spares.proofs.Spares.{spare-fits, spare-lent}
+use Rattle.chip_words.specs.Words.{le}
+use Rattle.chip_spares.proofs.Spares.{spare-are, spare-first, spare-fits, spare-long, spare-second}
+use Rattle.chip_spares.proofs.Words.{same-words, spare-bytes-are, spare-bytes-long}
 use Rattle.chip_spares.proofs.spare_right.Statement.{statement}
 use Rattle.chip_spares.proofs.spare_right.Tie as tie
 
@@ -26,55 +28,51 @@ add-a c =
     let start = c .before .before .before in
     omega (arith, end start (c .before .page-bytes .result) (c .before .page-bytes .ensures))
 
-add-b : tie.Need-add-b
-add-b c =
+word-requires : tie.Need-word-requires
+word-requires c κs =
     let start = c .before .before .before in
     omega (arith, end start (c .before .page-bytes .result) (c .before .page-bytes .ensures))
 
-cast-spare-bytes : tie.Need-cast-spare-bytes
-cast-spare-bytes c =
-    let start = c .before .before .before in
+first-word-requires : tie.Need-first-word-requires
+first-word-requires c κs =
+    let start = c .before .before .before .before in
     let z = sizes _ (start .pre .0) in omega (arith, z .alphaHigh, start .pre .1 .1)
 
-spare-bytes-requires : tie.Need-spare-bytes-requires
-spare-bytes-requires c κs = search needs
+add-word : tie.Need-add-word
+add-word c =
+    let at = c .before .before .before in
+    let start = at .before .before in
+    omega (arith, end start (at .page-bytes .result) (at .page-bytes .ensures))
 
-sub-same : tie.Need-sub-same
-sub-same c = search needs
+word-requires-2 : tie.Need-word-requires-2
+word-requires-2 c κs =
+    let at = c .before .before .before in
+    let start = at .before .before in
+    omega (arith, end start (at .page-bytes .result) (at .page-bytes .ensures))
 
-part-same-start : tie.Need-part-same-start
-part-same-start c = search needs
-
-part-same-end : tie.Need-part-same-end
-part-same-end c =
-    let start = c .before .before .before .before in
-    omega (arith, end start (c .before .before .page-bytes .result) (c .before .before .page-bytes .ensures))
-
-slice-aggregate-same : tie.Need-slice-aggregate-same
-slice-aggregate-same c = search needs
-
-same-requires : tie.Need-same-requires
-same-requires c κs = search needs
+second-word-requires : tie.Need-second-word-requires
+second-word-requires c κs = search needs
 
 returns : tie.Need-returns
 returns c =
-    let at-page-bytes = c .before .before .before .before .before in
-    let start = at-page-bytes .before .before in
-    cc (spare-lent (start .args .p) (start .args .frame .now) (start .args .j) (at-page-bytes .page-bytes .result) (at-page-bytes .page-bytes .ensures))
+    let at-word2 = c .before in
+    let at-first = at-word2 .before in
+    let at-word = at-first .before in
+    let known = at-word .before in
+    let at = known .before in
+    let lent = at .before in
+    let start = lent .before in
+    let z = sizes _ (start .pre .0) in
+    let p = start .args .p in
+    let fr = start .args .frame .now in
+    let j = start .args .j in
+    let w = at .page-bytes .result in
+    let is = at .page-bytes .ensures in
+    same-words _ _ _ _ _ _ (spare-long p fr j w is (end start w is)) (spare-bytes-long _ _ _ _) (spare-are p fr j w is (λ i. omega (arith, lent .shared-slice-known .given i)))
+    (spare-bytes-are _ _ _ _ (omega (arith, z .alphaHigh, start .pre .1 .1)) (c .second-word .ensures .1))
+    (at-word .word .ensures ∙ ap le (spare-first p fr j w is)) (at-first .first-word .ensures)
+    (at-word2 .word2 .ensures ∙ ap le (spare-second p fr j w is)) (c .second-word .ensures .0 _ _)
 
 pub spare-right-spec : {M : Type 1} → statement M
 spare-right-spec =
-    tie.close
-    (tie.spec
-    page-bytes-requires
-    mul-a
-    add-a
-    add-b
-    cast-spare-bytes
-    spare-bytes-requires
-    sub-same
-    part-same-start
-    part-same-end
-    slice-aggregate-same
-    same-requires
-    returns)
+    tie.close (tie.spec page-bytes-requires mul-a add-a word-requires first-word-requires add-word word-requires-2 second-word-requires returns)

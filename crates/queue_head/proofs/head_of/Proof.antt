@@ -2,6 +2,7 @@
 -- Assumes nothing.
 use borrow.Author.Needs.{needs}
 use Rattle.rules.specs.Tables.{Board, boardOf}
+use Rattle.rules.proofs.TableFacts.{lengths-in as tables-in}
 use Rattle.check_rules.proofs.Agree.{lengths-in, marks-fit}
 use Rattle.queue_head.proofs.Heads.{head-done, head-passed, head-refused, too-few}
 use Rattle.queue_head.proofs.head_of.Statement.{statement}
@@ -32,7 +33,7 @@ state-reply-requires c κs =
     let at-board-reply = c .before .before .before in
     let a = at-board-reply .before .before .before .before .before .before .before .before .before in
     let h = head-passed _ (board a) (a .args .items) (a .args .answers) _ (at-board-reply .board-reply .ensures) _ (c .before .before .number .ensures) (c .before .if1 .left) in
-    (lengths-in _ (board a) (h .fine) (h .fits), marks-fit _ (board a) (h .fits))
+    (lengths-in _ (board a) (h .fine) (h .fits), (marks-fit _ (board a) (h .fits), (tables-in _ (board a) (h .fits)) .stampsLength))
 
 number-requires-2 : tie.Need-number-requires-2
 number-requires-2 c κs = search needs
@@ -44,7 +45,7 @@ returns-3 c =
     let at-board-reply = at-number .before in
     let start = at-board-reply .before .before .before .before .before .before .before .before .before in
     head-done _ (board start) _ _ _ (at-board-reply .board-reply .ensures) _ (at-number .number .ensures) (at-if1 .if1 .left) (c .before .before .if2 .left) _
-    (c .before .state-reply .ensures _ _) _ (c .number2 .ensures)
+    (c .before .state-reply .ensures _) _ (c .number2 .ensures)
 
 pub head-of-spec : {M : Type 1} → statement M
 head-of-spec = tie.close (tie.spec board-reply-requires number-requires returns returns-2 state-reply-requires number-requires-2 returns-3)

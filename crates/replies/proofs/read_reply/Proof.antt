@@ -2,6 +2,7 @@
 -- Assumes nothing.
 use mathlib.Core.Path.{sym}
 use borrow.Author.Needs.{needs}
+use Rattle.rules.proofs.TableFacts.{lengths-in as tables-in}
 use Rattle.rules.specs.Replies.{replyOf, rowsOf}
 use Rattle.rules.specs.Tables.{Board, boardOf}
 use Rattle.check_rules.proofs.Agree.{lengths-in, marks-fit}
@@ -57,7 +58,7 @@ state-reply-requires c κs =
     let at-board-reply = at-number .before in
     let a = at-board-reply .before .before .before .before .before .before .before .before .before in
     let h = lent-passes _ (board a) _ _ (at-board-reply .board-reply .ensures) (at-number .number .ensures) (at-if1 .if1 .left) in
-    (lengths-in _ (board a) (h .fine) (h .fits), marks-fit _ (board a) (h .fits))
+    (lengths-in _ (board a) (h .fine) (h .fits), (marks-fit _ (board a) (h .fits), (tables-in _ (board a) (h .fits)) .stampsLength))
 
 returns-3 : tie.Need-returns-3
 unfolding replyOf rowsOf
@@ -70,7 +71,7 @@ returns-3 c =
     let a = at-board-reply .before .before .before .before .before .before .before .before .before in
     let h = lent-passes _ (board a) _ _ (at-board-reply .board-reply .ensures) (at-number .number .ensures) (at-if1 .if1 .left) in
     (λ q l k n. after-lent _ (board a) h _ _ (after-access _ q _ _ (at-request-reply .request-reply .ensures .0 q l k (λ _. sym (at-wrong-data .wrong-data .ensures q k n)))
-    (c .before .before .number2 .ensures) (c .before .if2 .left) _ _ (c .state-reply .ensures _ _)))
+    (c .before .before .number2 .ensures) (c .before .if2 .left) _ _ (c .state-reply .ensures _)))
 
 pub read-reply-spec : {M : Type 1} → statement M
 read-reply-spec =

@@ -9,10 +9,10 @@ in-order-requires : tie.Need-in-order-requires
 in-order-requires c κs = search needs
 
 returns : tie.Need-returns
-returns c = λ wear stamps. state-row _ _ _ _ (c .before .in-order .ensures wear stamps) (c .if1 .taken)
+returns c = λ wear. state-row _ _ _ _ (c .before .in-order .ensures wear) (c .if1 .taken)
 
 returns-2 : tie.Need-returns-2
-returns-2 c = λ wear stamps. state-row _ _ _ _ (c .before .in-order .ensures wear stamps) (c .if1 .left)
+returns-2 c = λ wear. state-row _ _ _ _ (c .before .in-order .ensures wear) (c .if1 .left)
 
 pub state-reply-spec : {M : Type 1} → statement M
 state-reply-spec = tie.close (tie.spec in-order-requires returns returns-2)
