@@ -2,20 +2,19 @@
 -- Assumes nothing.
 use mathlib.Core.Path.{_≡_, refl, sym, ap, _∙_}
 use mathlib.Core.Logic.{_⊎_, inl, inr}
-use Prim.Native.Nat.{ℕ, zero, suc}
-use mathlib.Core.Bool.{Bool, true, false, cond}
+use Prim.Native.Nat.{ℕ}
+use mathlib.Core.Bool.{true, false, not}
 use mathlib.Core.List.{List, [], _∷_, _++_}
 use borrow.Author.Tests.{eqb-true}
 use lib.Dec.{leb}
 use lib.ListN.{length}
-use Rattle.lists.specs.Below.{joinBelow}
 use Rattle.lists.proofs.Tests.{truths}
 use Rattle.rules.specs.declared.Params.{Params}
 use Rattle.rules.specs.declared.Reply.{Reply}
 use Rattle.rules.specs.declared.Reply.the-variants.{Accepted, BadAddress, NoStampLeft}
 use Rattle.rules.specs.Parameters.{chipBytes}
 use Rattle.rules.specs.Tables.{Board, stampAt}
-use Rattle.rules.specs.Traces.{Op, clean, erase, onWear, replayChip, replayWear}
+use Rattle.rules.specs.Traces.{Op, clean, eraseWhere, replayChip, replayWear}
 use Rattle.rules.specs.Requests.{Call, Request, format, queue, read, release, requestRegion, write}
 use Rattle.rules.specs.Format.{bad, formatOps, formatted}
 use Rattle.rules.specs.Write.{writeOps, written, writtenBy}
@@ -24,6 +23,7 @@ use Rattle.rules.specs.Calls.{opsOf}
 use Rattle.rules.specs.Replies.{OrderlyBoard, accessRows, badCluster, badParameter, firstRow, isAccepted, lengthsFit, lentRows, noStampLeft, notOrderly, orderRow, replyOf, row, rowsOf, stampRow, wrongLength}
 use Rattle.rules.proofs.Admitted.{format-admitted, read-checks, release-admitted, write-checks}
 use Rattle.rules.proofs.Chip.{clean-append, replay-append}
+use Rattle.rules.proofs.Erases.{erases-clean, erasesBelow, wear-append}
 use Rattle.rules.proofs.FormatPromise.{format-lengths, format-orderly}
 use Rattle.rules.proofs.Outcomes.{reply-cases}
 use Rattle.rules.proofs.Releases.{release-lengths, release-orderly}
@@ -144,18 +144,9 @@ ops-wear p b c s = go (reply-cases (replyOf p b c))
     go (inr e) = rw (refused-leaves p b c e, refused-ops p b c s e) (unfold replayWear in refl)
 
 -- each page that a call programs is 255 throughout just before; a format programs none
-erases-clean : (p : Params) (chip₀ chip : List ℕ) (k : ℕ) → clean p chip (joinBelow k (λ n. cond (bad p chip₀ n) [] (erase n ∷ []))) ≡ true
-unfolding joinBelow clean
-erases-clean p chip₀ chip zero = refl
-erases-clean p chip₀ chip (suc k) = clean-append p chip (joinBelow k (λ n. cond (bad p chip₀ n) [] (erase n ∷ []))) _ (erases-clean p chip₀ chip k) (one (bad p chip₀ k) _)
-  where
-    one : (t : Bool) (chip : List ℕ) → clean p chip (cond t [] (erase k ∷ [])) ≡ true
-    one true chip = refl
-    one false chip = refl
-
 done-clean : (p : Params) (b : Board) (c : Call) → Single c → replyOf p b c ≡ Accepted → clean p (b .chip) (doneOps p b c) ≡ true
-unfolding doneOps clean formatOps
-done-clean p b format s e = erases-clean p (b .chip) (b .chip) (p .N)
+unfolding doneOps clean formatOps eraseWhere erasesBelow
+done-clean p b format s e = erases-clean p (λ n. not (bad p (b .chip) n)) (b .chip) (p .N)
 done-clean p b (read q) s e = refl
 done-clean p b (write q) s e = (write-promise p b q e) .erased
 done-clean p b (release c) s e = refl
@@ -176,11 +167,6 @@ record Replayed (p : Params) (b b′ : Board) (ops : List Op) : Type 0 where
   wear : b′ .wear ≡ replayWear (b .wear) ops
   erased : clean p (b .chip) ops ≡ true
   fits : AllFit p ops
-
-wear-append : (wear : List ℕ) (xs ys : List Op) → replayWear wear (xs ++ ys) ≡ replayWear (replayWear wear xs) ys
-unfolding replayWear
-wear-append wear [] ys = refl
-wear-append wear (o ∷ xs) ys = wear-append (onWear wear o) xs ys
 
 none-made : (p : Params) (b : Board) → Replayed p b b []
 unfolding replayChip replayWear clean

@@ -25,8 +25,8 @@ use Rattle.rules.specs.Numbers.{regionOf}
 use Rattle.rules.specs.Tables.{Board, none}
 use Rattle.rules.specs.Pages.{bytes32, filled, frame, held, page, programmed, spare, spareBytes, stampOf}
 use Rattle.rules.specs.Regions.{assigned, valid, validFrames, view}
-use Rattle.rules.specs.Traces.{erase, frameOps, framesOps, program}
-use Rattle.rules.specs.Format.{bad, formatOps}
+use Rattle.rules.specs.Traces.{erase, eraseWhere, frameOps, framesOps, program}
+use Rattle.rules.specs.Format.{formatOps}
 use Rattle.rules.specs.Write.{planErases, Plan, continues, copies, eraseOps, hasRoom, lowestUnassigned, newFrame, opens, planBlock, planFrame, planOf, planOps, planVBlock, reclaims, roomOps, writeOps, nextStamp}
 use Rattle.rules.specs.Replies.{replyOf}
 use Rattle.rules.specs.Words.{SpareListed}
@@ -48,15 +48,19 @@ use Rattle.rules.proofs.WritePromise.{makes}
 use Rattle.claims.specs.Runs.{AllFit, Fits}
 use Rattle.claims.proofs.Once.{fit-append, fit-join}
 
--- ---- a format erases blocks of the chip
+-- ---- blocks of the chip are erased
+
+pub erases-fit : (p : Params) (f : ℕ → Bool) → AllFit p (eraseWhere p f)
+unfolding eraseWhere
+erases-fit p f = fit-join p (p .N) _ (λ n h. go n h (f n))
+  where
+    go : (n : ℕ) → n < p .N → (t : Bool) → AllFit p (cond t (erase n ∷ []) [])
+    go n h true = (h, tt)
+    go n h false = tt
 
 pub format-fits : (p : Params) (chip : List ℕ) → AllFit p (formatOps p chip)
 unfolding formatOps
-format-fits p chip = fit-join p (p .N) _ (λ n h. go n h (bad p chip n))
-  where
-    go : (n : ℕ) → n < p .N → (t : Bool) → AllFit p (cond t [] (erase n ∷ []))
-    go n h true = tt
-    go n h false = (h, tt)
+format-fits p chip = erases-fit p _
 
 -- ---- a frame's programs
 

@@ -39,6 +39,13 @@ leastBelow key other (suc n) f =
     let m = leastBelow key other n f in
     cond (f n && (eqb m other || ltb (key n) (key m))) n m
 
+-- of the numbers below n that pass, the one with the greatest key, the lowest on a tie; `other` if none passes
+unfoldable pub mostBelow : (ℕ → ℕ) → ℕ → ℕ → (ℕ → Bool) → ℕ
+mostBelow key other zero f = other
+mostBelow key other (suc n) f =
+    let m = mostBelow key other n f in
+    cond (f n && (eqb m other || ltb (key m) (key n))) n m
+
 -- the numbers below n that pass, rising
 unfoldable pub keepBelow : ℕ → (ℕ → Bool) → List ℕ
 keepBelow zero f = []

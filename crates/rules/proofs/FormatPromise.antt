@@ -11,7 +11,6 @@ use lib.Dec.{eqb, ltb}
 use lib.ListN.{length, getD, replicate, length-replicate, getD-replicate, List·getD-eq-default}
 use Rattle.lists.specs.Below.{countBelow, joinBelow}
 use Rattle.lists.proofs.Joins.{tab-at, tab-length}
-use Rattle.lists.proofs.Parts.{next}
 use Rattle.lists.proofs.Tests.{count-cong, never}
 use Rattle.rules.specs.declared.Params.{Params}
 use Rattle.rules.specs.declared.Reply.the-variants.{Accepted}
@@ -23,48 +22,18 @@ use Rattle.rules.specs.Regions.{assigned, bodyAt, sector, sectorIn, view
 use Rattle.rules.specs.Marks.{marksOf}
 use Rattle.rules.specs.Requests.{format}
 use Rattle.rules.specs.Orderly.{orderly, stampRule}
-use Rattle.rules.specs.Traces.{erase, replayChip}
+use Rattle.rules.specs.Traces.{eraseWhere}
 use Rattle.rules.specs.Format.{bad, formatOps, formatted, goodBlocks}
 use Rattle.rules.specs.Replies.{lengthsFit, replyOf}
 use Rattle.rules.specs.Machine.{erasedBlock}
 use Rattle.rules.proofs.Admitted.{FormatAdmitted, format-admitted, orderly-all}
-use Rattle.rules.proofs.Chip.{replay-append}
+use Rattle.rules.proofs.Erases.{Cleared, erases-ran, erasesBelow}
 use Rattle.rules.proofs.Opens.{fresh-all}
 use Rattle.rules.proofs.RegionFacts.{neat-none, regionOrderly}
-use Rattle.rules.proofs.Replays.{erase-ran}
 use Rattle.rules.proofs.Sizes.{Sizes, sizes}
 use Rattle.rules.proofs.Stamps.{programmed-has, stamps-out}
 use Rattle.rules.proofs.TableFacts.{Lengths, Tables, lengths-in, lengths-out}
 use Rattle.rules.proofs.Writes.{wear-length}
-
--- ---- the erases
-
--- of the blocks below k, the good ones are erased; the bad are as they were
-record Cleared (p : Params) (chip chip′ : List ℕ) (k : ℕ) : Type 0 where
-  size : length chip′ ≡ length chip
-  done : (m : ℕ) → m < k → bad p chip m ≡ false → block p chip′ m ≡ erasedBlock p
-  kept : (m : ℕ) → bad p chip m ≡ true → block p chip′ m ≡ block p chip m
-
-module _ (p : Params) (chip : List ℕ) (fits : length chip ≡ p .N * blockBytes p) where
-  upto : (k : ℕ) → k ≤ p .N → Cleared p chip (replayChip p chip (joinBelow k (λ n. cond (bad p chip n) [] (erase n ∷ [])))) k
-  unfolding joinBelow replayChip
-  upto zero h = record { size = refl; done = λ m a e. absurd (omega arith); kept = λ m e. refl }
-  upto (suc k) h =
-      rw (replay-append p chip (joinBelow k (λ n. cond (bad p chip n) [] (erase n ∷ []))) (cond (bad p chip k) [] (erase k ∷ [])))
-      (go (replayChip p chip (joinBelow k (λ n. cond (bad p chip n) [] (erase n ∷ [])))) (bad p chip k) refl (upto k (omega arith)))
-    where
-      go : (c₁ : List ℕ) (t : Bool) → bad p chip k ≡ t → Cleared p chip c₁ k → Cleared p chip (replayChip p c₁ (cond t [] (erase k ∷ []))) (suc k)
-      go c₁ true e u = record { size = u .size; done = λ m a f. u .done m (below m a (λ x. never e (sym (ap (bad p chip) x) ∙ f))) f; kept = u .kept }
-        where
-          below : (m : ℕ) → m < suc k → (m ≡ k → ⊥) → m < k
-          below m a ne = omega arith
-      go c₁ false e u =
-          let er = erase-ran p c₁ k (rw (u .size, fits) (next (blockBytes p) k (p .N) h)) in
-          record { size = er .size ∙ u .size; done = λ m a f. done m a f (ℕ-discrete m k); kept = λ m f. er .else m (λ x. never f (ap (bad p chip) x ∙ e)) ∙ u .kept m f }
-        where
-          done : (m : ℕ) → m < suc k → bad p chip m ≡ false → Dec (m ≡ k) → block p (replayChip p c₁ (erase k ∷ [])) m ≡ erasedBlock p
-          done m a f (yes x) = rw x ((erase-ran p c₁ k (rw (u .size, fits) (next (blockBytes p) k (p .N) h))) .here)
-          done m a f (no x) = (erase-ran p c₁ k (rw (u .size, fits) (next (blockBytes p) k (p .N) h))) .else m x ∙ u .done m (omega arith) f
 
 -- ---- the state that is left
 
@@ -81,9 +50,12 @@ module _ (p : Params) (b : Board) (e : replyOf p b format ≡ Accepted) where
   chip-fits : length (b .chip) ≡ p .N * blockBytes p
   chip-fits = lengths .chipLength
 
-  cleared : Cleared p (b .chip) ((formatted p b) .chip) (p .N)
-  unfolding formatted formatOps
-  cleared = upto p (b .chip) chip-fits (p .N) (omega arith)
+  abbrev good : ℕ → Bool
+  good n = not (bad p (b .chip) n)
+
+  cleared : Cleared p good (b .chip) ((formatted p b) .chip) (p .N)
+  unfolding formatted formatOps eraseWhere erasesBelow
+  cleared = erases-ran p good (b .chip) chip-fits (p .N) (omega arith)
 
   kind : (m : ℕ) → m < p .N → bstAt ((formatted p b) .bst) m ≡ cond (bad p (b .chip) m) 2 0
   unfolding bstAt formatted
@@ -125,7 +97,7 @@ module _ (p : Params) (b : Board) (e : replyOf p b format ≡ Accepted) where
         used = λ m h x. absurd ((two (bad p (b .chip) m)) .1 (sym (kind m h) ∙ x));
         usedBack = λ i h m k x. absurd (omega (arith, entry i, x, z .blocks));
         room = room;
-        free = λ m h x. rw (cleared .done m h ((two (bad p (b .chip) m)) .2 (sym (kind m h) ∙ x))) (fresh-all p);
+        free = λ m h x. rw (cleared .done m h (ap not ((two (bad p (b .chip) m)) .2 (sym (kind m h) ∙ x)))) (fresh-all p);
       }
     where
       room : p .mu * p .gamma + 1 ≤ countBelow (p .N) (λ m. not (eqb (bstAt ((formatted p b) .bst) m) 2))
@@ -176,8 +148,8 @@ module _ (p : Params) (b : Board) (e : replyOf p b format ≡ Accepted) where
   format-reads c j = rw (no-segment (regionOf p c) c)
 
   pub format-bad : (m : ℕ) → bad p (b .chip) m ≡ true → block p ((formatted p b) .chip) m ≡ block p (b .chip) m
-  format-bad = cleared .kept
+  format-bad m e = cleared .kept m (ap not e)
 
   -- and every other block is erased
   pub format-good : (m : ℕ) → m < p .N → bad p (b .chip) m ≡ false → block p ((formatted p b) .chip) m ≡ erasedBlock p
-  format-good = cleared .done
+  format-good m h e = cleared .done m h (ap not e)

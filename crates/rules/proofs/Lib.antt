@@ -25,6 +25,7 @@ pub mod ReclaimView
 pub mod Reclaims
 pub mod Writes
 pub mod WritePromise
+pub mod Erases
 pub mod FormatPromise
 pub mod Releases
 pub mod Totals

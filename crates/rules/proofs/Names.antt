@@ -1,11 +1,11 @@
 -- Lists of definitions for an `unfolding` line, where a claim about them is computed.
 -- Assumes nothing.
-use Rattle.lists.specs.Below.{allBelow, allTrue, countBelow, firstBelow, lastBelow, leastBelow, keepBelow, joinBelow, listBelow, bitsBelow, updated}
+use Rattle.lists.specs.Below.{allBelow, allTrue, countBelow, firstBelow, lastBelow, leastBelow, mostBelow, keepBelow, joinBelow, listBelow, bitsBelow, updated}
 use Rattle.lists.specs.Parts.{part, putPart, allAre, sameList}
 use Rattle.rules.specs.Parameters.{frames, pages, pageBytes, frameBytes, blockBytes, chipBytes, perRegion, within, allowed}
 use Rattle.rules.specs.Tables.{ctAt, btEntry, btAt, fstAt, bstAt, wearAt, wordAt, stampAt}
-use Rattle.rules.specs.Pages.{block, frame, page, spare, le32, bytes32, spareBytes, held, stampOf, pageUsed, programmed, whole, holds, filled, lastIn, programmedDownTo}
-use Rattle.rules.specs.Regions.{bodyAt, viewOf, assigned, valid, validFrames, frameOf, sectorIn, sector, looksIn, looksAt}
+use Rattle.rules.specs.Pages.{block, frame, page, spare, le32, bytes32, spareBytes, held, stampOf, vblockIn, pageUsed, programmed, whole, holds, filled, isFull, lastIn, programmedDownTo}
+use Rattle.rules.specs.Regions.{bodyAt, viewOf, assigned, valid, validFrames, frameOf, sectorIn, sector, looksIn, looksAt, regionFrames, frameIn, stampIn, largestStamp}
 use Rattle.rules.specs.Marks.{wordOf, entryOf, tableOf, marked, marksIn}
 use Rattle.rules.specs.Orderly.{
   bstRule,
@@ -36,7 +36,7 @@ use Rattle.rules.specs.Orderly.{
   rulesOf,
   orderly,
 }
-use Rattle.rules.specs.Traces.{onChip, onWear, replayChip, replayWear, clean, isErase, programsIn, erasesIn, frameOps, framesOps}
+use Rattle.rules.specs.Traces.{onChip, onWear, replayChip, replayWear, clean, isErase, programsIn, erasesIn, eraseWhere, frameOps, framesOps}
 use Rattle.rules.specs.Requests.{lies, itemRequest, itemRequests, lent, lentAnswers}
 use Rattle.rules.specs.Format.{badMark, bad, goodBlocks, formatOps, formatted}
 use Rattle.rules.specs.Write.{
@@ -121,11 +121,11 @@ use Rattle.rules.specs.BoardT.{
 
 -- what the calls are defined by
 unfoldable pub all-rules : Unit {0}
-unfolding allBelow allTrue countBelow firstBelow lastBelow leastBelow keepBelow joinBelow listBelow bitsBelow updated part putPart allAre sameList frames pages pageBytes
-    frameBytes blockBytes chipBytes perRegion within allowed ctAt btEntry btAt fstAt bstAt wearAt wordAt stampAt block frame page spare le32 bytes32 spareBytes held stampOf pageUsed programmed whole holds
-    filled lastIn programmedDownTo bodyAt viewOf assigned valid validFrames frameOf sectorIn sector looksIn looksAt wordOf entryOf tableOf marked marksIn bstRule btRule
+unfolding allBelow allTrue countBelow firstBelow lastBelow leastBelow mostBelow keepBelow joinBelow listBelow bitsBelow updated part putPart allAre sameList frames pages pageBytes
+    frameBytes blockBytes chipBytes perRegion within allowed ctAt btEntry btAt fstAt bstAt wearAt wordAt stampAt block frame page spare le32 bytes32 spareBytes held stampOf vblockIn pageUsed programmed whole holds
+    filled isFull lastIn programmedDownTo bodyAt viewOf assigned valid validFrames frameOf sectorIn sector looksIn looksAt regionFrames frameIn stampIn largestStamp wordOf entryOf tableOf marked marksIn bstRule btRule
     onceRule named usedRule roomRule freeRule usedPages goodPages goodFrame goodUpTo blockRule regionBlocks blocksRule fullRule openRule regionFst fstRule entryRule clusterRule ctRule marksRule stampsTo regionStamps stampRule
-    rulesOf orderly onChip onWear replayChip replayWear clean isErase programsIn erasesIn frameOps framesOps lies itemRequest itemRequests lent lentAnswers badMark bad
+    rulesOf orderly onChip onWear replayChip replayWear clean isErase programsIn erasesIn eraseWhere frameOps framesOps lies itemRequest itemRequests lent lentAnswers badMark bad
     goodBlocks formatOps formatted hasRoom lowestUnassigned victim planOf planVBlock copies planFrame planErases newSector newPage newFrame freeBlock planBlock eraseOps
     roomOps planOps followCt planBst nextStamp writtenBy writeOps written released isAccepted lengthsFit badParameter wrongLength badCount badAddress badCluster wrongData tooFewBlocks
     notOrderly tooFewAnswers noStampLeft firstRow lentRows accessRows orderRow stampRow rowsOf replyOf whyRows whyReply answerOf single refuses does readBytes writeWork writeAll queueWork workOf

@@ -10,7 +10,7 @@ use Rattle.rules.specs.declared.Params.{Params}
 use Rattle.rules.specs.Parameters.{pages}
 use Rattle.rules.specs.Tables.{Board, none}
 use Rattle.rules.specs.Pages.{block, spare}
-use Rattle.rules.specs.Traces.{Op, erase, finish}
+use Rattle.rules.specs.Traces.{Op, eraseWhere, finish}
 
 -- "byte 5 of the spare area is not 255" in page j of block n
 unfoldable pub badMark : Params → List ℕ → ℕ → ℕ → Bool
@@ -25,7 +25,7 @@ goodBlocks p chip = countBelow (p .N) (λ n. not (bad p chip n))
 
 -- "Bad blocks .. are not touched. All others are erased (one erase each)"
 unfoldable pub formatOps : Params → List ℕ → List Op
-formatOps p chip = joinBelow (p .N) (λ n. cond (bad p chip n) [] (erase n ∷ []))
+formatOps p chip = eraseWhere p (λ n. not (bad p chip n))
 
 -- "Bad blocks become reserved .. All others .. become free. CT, BT and FST become none"; T-07: a last stamp is "0 at format"
 unfoldable pub formatted : Params → Board → Board

@@ -9,6 +9,7 @@ pub mod Orderly
 pub mod Traces
 pub mod Requests
 pub mod Format
+pub mod Start
 pub mod Write
 pub mod Release
 pub mod Replies

@@ -48,6 +48,10 @@ held p fr = le32 (spare p fr 0)
 unfoldable pub stampOf : Params → List ℕ → ℕ
 stampOf p fr = le32 (drop 7 (spare p fr 0))
 
+-- and the virtual block
+unfoldable pub vblockIn : Params → List ℕ → ℕ
+vblockIn p fr = getD (spare p fr 0) 11 255
+
 -- page j of a frame is programmed
 unfoldable pub pageUsed : Params → List ℕ → ℕ → Bool
 pageUsed p fr j = eqb (getD (spare p fr j) 6 255) 0
@@ -68,6 +72,10 @@ holds p fr c = whole p fr && eqb (le32 (spare p fr (p .alpha - 1))) c
 -- how many frames of a block are programmed
 unfoldable pub filled : Params → List ℕ → ℕ
 filled p blk = countBelow (frames p) (λ f. programmed p (frame p blk f))
+
+-- T-07: "a page of every frame programmed (full)"
+unfoldable pub isFull : Params → List ℕ → Bool
+isFull p blk = eqb (filled p blk) (frames p)
 
 -- the last whole frame of the segment in place k of a block that holds cluster c
 unfoldable pub lastIn : Params → List ℕ → ℕ → ℕ → ℕ

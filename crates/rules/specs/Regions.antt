@@ -1,17 +1,17 @@
 -- A region's view of a board, the frames that are valid in it, what its sectors read as, and what the search for a valid frame looks at. The plan of a write and the view after it are
 -- functions of the view alone, which is what condition 3 rests on.
 -- Assumes nothing.
-use Prim.Native.Nat.{ℕ, _/_}
+use Prim.Native.Nat.{ℕ, _*_, _/_, _%_}
 use mathlib.Core.Bool.{Bool, _&&_, cond}
 use mathlib.Core.List.{List, []}
 use lib.ListN.{length, take, replicate}
 use lib.Dec.{ltb, eqb}
-use Rattle.lists.specs.Below.{keepBelow}
+use Rattle.lists.specs.Below.{keepBelow, mostBelow}
 use Rattle.rules.specs.declared.Params.{Params}
 use Rattle.rules.specs.Parameters.{frames}
 use Rattle.rules.specs.Numbers.{regionOf, vblockOf, placeOf, segmentOf}
-use Rattle.rules.specs.Tables.{Board, none, ctAt, btAt, fstAt}
-use Rattle.rules.specs.Pages.{block, frame, page, held, programmed, lastIn, programmedDownTo}
+use Rattle.rules.specs.Tables.{Board, none, notFound, ctAt, btAt, fstAt}
+use Rattle.rules.specs.Pages.{block, frame, page, held, stampOf, programmed, lastIn, programmedDownTo}
 
 -- The CT entries of the region's clusters (none for another region's), its FST entry, and the bytes of its virtual blocks, [] for one without a
 -- physical block. No physical block number and no wear is in it.
@@ -70,3 +70,20 @@ looksIn p vw c =
 
 unfoldable pub looksAt : Params → Board → ℕ → ℕ
 looksAt p b c = looksIn p (view p b (regionOf p c)) c
+
+-- ---- the frames of a region, counted through its virtual blocks
+
+unfoldable pub regionFrames : Params → ℕ
+regionFrames p = p .gamma * frames p
+
+unfoldable pub frameIn : Params → View → ℕ → List ℕ
+frameIn p vw i = frame p (vw .body (i / frames p)) (i % frames p)
+
+unfoldable pub stampIn : Params → View → ℕ → ℕ
+stampIn p vw i = stampOf p (frameIn p vw i)
+
+-- T-07: the "largest on the region's pages, else 0"; the pages of a frame have one stamp
+unfoldable pub largestStamp : Params → View → ℕ
+largestStamp p vw =
+    let i = mostBelow (stampIn p vw) notFound (regionFrames p) (λ i. programmed p (frameIn p vw i)) in
+    cond (eqb i notFound) 0 (stampIn p vw i)

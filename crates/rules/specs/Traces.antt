@@ -59,6 +59,10 @@ unfoldable pub erasesIn : List Op → ℕ
 erasesIn [] = 0
 erasesIn (o ∷ os) = cond (isErase o) 1 0 + erasesIn os
 
+-- the blocks below N that pass, erased in rising order
+unfoldable pub eraseWhere : Params → (ℕ → Bool) → List Op
+eraseWhere p f = joinBelow (p .N) (λ n. cond (f n) (erase n ∷ []) [])
+
 -- the first k pages of frame f of block n, programmed with those of x in order
 unfoldable pub frameOps : Params → ℕ → ℕ → List ℕ → ℕ → List Op
 frameOps p n f x k = joinBelow k (λ j. program n (f * p .alpha + j) (page p x j) ∷ [])

@@ -34,7 +34,7 @@ add-k c =
     let at-loop = at-loop-test .before in
     let entered = at-loop .before .before .before .before in
     let a = entered .pre in
-    omega (arith, (turn _ _ _ _ a _ (at-loop-test .loop-test .taken) _ _ _ _ (at-loop .loop .inv .1 a) _ _ _ _ (at-format-block .format-block .ensures)) .few)
+    omega (arith, (turn _ _ _ _ a _ (at-loop-test .loop-test .taken) _ _ _ _ (at-loop .loop .inv .1 a) _ _ _ _ (at-format-block .format-block .ensures)) .erased .few)
 
 add-n : tie.Need-add-n Inv-loop μ-loop
 add-n c = omega arith
