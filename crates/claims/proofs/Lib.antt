@@ -16,6 +16,4 @@ pub mod Unique
 pub mod Queues
 pub mod OldForm
 pub mod Frames
-pub mod Timely
-pub mod RoomTimely
 pub mod StampsOverRuns

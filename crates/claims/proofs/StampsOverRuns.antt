@@ -33,11 +33,12 @@ use Rattle.rules.proofs.Stamps.{stood-bounded}
 use Rattle.rules.proofs.Views.{body-size}
 use Rattle.rules.proofs.WritePromise.{makes, write-promise}
 use Rattle.claims.specs.Runs.{boardAfter, leaves}
-use Rattle.claims.specs.Stamps.{StampsOverRuns, Timely, WholeAt, stampIn}
-use Rattle.claims.proofs.RoomTimely.{room-timely}
+use Rattle.starts.specs.Timely.{Timely, WholeAt, frameStamp}
+use Rattle.starts.proofs.RoomTimely.{room-timely}
+use Rattle.starts.proofs.Timely.{none-timely, put-timely, whole-bound, whole-has, whole-low, without-timely}
+use Rattle.claims.specs.Stamps.{StampsOverRuns}
 use Rattle.claims.proofs.Singles.{AllSingle, Single, all-single, board-same, refused-leaves, singlesOf}
 use Rattle.claims.proofs.Steps.{format-leaves, read-leaves, release-leaves, write-leaves}
-use Rattle.claims.proofs.Timely.{none-timely, put-timely, whole-bound, whole-has, whole-low, without-timely}
 
 -- ---- a format: no region has a block
 
@@ -89,7 +90,7 @@ module _ (p : Params) (b : Board) (q : Request) (e : replyOf p b (write q) ≡ A
   fronts = base-fronts p (acc .sized) region room (planVBlock plan) (planFrame p here plan) (made .base)
 
   -- the frames that the room has are old ones, so none has a stamp above the region's last
-  bound : (c u g : ℕ) → WholeAt p room c u g → stampIn p room u g ≤ stampAt (b .stamps) region
+  bound : (c u g : ℕ) → WholeAt p room c u g → frameStamp p room u g ≤ stampAt (b .stamps) region
   bound = whole-bound p (acc .sized) region room fronts (stampAt (b .stamps) region) (stood-bounded p here room (stampAt (b .stamps) region) (made .stood) (acc .stamped region low))
 
   own-timely : Timely p here → Timely p (view p (written p b q) region)

@@ -1,5 +1,6 @@
 pub mod Tests
 pub mod Searches
+pub mod Most
 pub mod Ranks
 pub mod Counts
 pub mod Parts

@@ -141,7 +141,7 @@ module _ (p : Params) (z : Sizes p) (vw : View) (v f c : ℕ) (x : List ℕ) (re
       let t : holds p (frame p (vw .body v) f) c′ ≡ true = rw e at ((last-holds p z (vw .body v) k c′ h) .1) in
       never t (erased-holds p (frame p (vw .body v) f) c′ (ready .rest f (omega arith) (ready .low)))
 
-  same-frame : (c′ : ℕ) → (c′ ≡ c → ⊥) → (u k : ℕ) → lastIn p (vw .body u) k c′ < frames p
+  pub same-frame : (c′ : ℕ) → (c′ ≡ c → ⊥) → (u k : ℕ) → lastIn p (vw .body u) k c′ < frames p
       → frame p ((withFrame p vw v f c x) .body u) (lastIn p ((withFrame p vw v f c x) .body u) k c′) ≡ frame p (vw .body u) (lastIn p (vw .body u) k c′)
   same-frame c′ ne u k h = go (ℕ-discrete u v)
     where

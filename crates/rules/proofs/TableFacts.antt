@@ -82,11 +82,11 @@ once-out p b h = all-below-intro (p .mu * p .gamma) _ (λ i a. all-below-intro (
     go i j a c (no k) (no m) (no l) = rw (ne-eqb i j k, ne-eqb (btEntry (b .bt) i) none m, ne-eqb (btEntry (b .bt) i) (btEntry (b .bt) j) l)
     go i j a c (no k) (no m) (yes l) = absurd (k (h i j a c l m))
 
-named-in : (p : Params) (b : Board) (n : ℕ) → named p (b .bt) n ≡ true → (i : ℕ) × (i < p .mu * p .gamma) × (btEntry (b .bt) i ≡ n)
+pub named-in : (p : Params) (b : Board) (n : ℕ) → named p (b .bt) n ≡ true → (i : ℕ) × (i < p .mu * p .gamma) × (btEntry (b .bt) i ≡ n)
 unfolding named
 named-in p b n h = let w = some-fails (p .mu * p .gamma) (λ i. not (eqb (btEntry (b .bt) i) n)) (not-true _ h) in (w .0, w .1, eqb-true _ _ (not-false _ (w .2)))
 
-named-out : (p : Params) (b : Board) (n i : ℕ) → i < p .mu * p .gamma → btEntry (b .bt) i ≡ n → named p (b .bt) n ≡ true
+pub named-out : (p : Params) (b : Board) (n i : ℕ) → i < p .mu * p .gamma → btEntry (b .bt) i ≡ n → named p (b .bt) n ≡ true
 unfolding named
 named-out p b n i k e = go (so (allBelow (p .mu * p .gamma) (λ i. not (eqb (btEntry (b .bt) i) n))))
   where

@@ -33,8 +33,8 @@ use Rattle.rules.proofs.TableFacts.{Tables}
 use Rattle.rules.proofs.ValidFrames.{held-is, is-valid}
 use Rattle.rules.proofs.Victims.{Valid, valid-one, valid-out}
 use Rattle.rules.proofs.Views.{body-size}
-use Rattle.claims.specs.Stamps.{Timely, WholeAt, stampIn}
-use Rattle.claims.proofs.Timely.{whole-good, whole-low}
+use Rattle.starts.specs.Timely.{Timely, WholeAt, frameStamp}
+use Rattle.starts.proofs.Timely.{whole-good, whole-low}
 
 -- ---- a plan that reclaims
 
@@ -69,7 +69,7 @@ module _ (p : Params) (z : Sizes p) (r : ℕ) (vw : View) (neat : Neat p r vw) (
       let s = (valid-one p z vw v (nthValid p vw v g) v (nthValid p vw v h) (w .0) (y .0) (w .1) (y .1) e) .1 in
       sym (w .2) ∙ ap (λ (x : ℕ). countBelow x (valid p vw v)) s ∙ y .2
 
-  old-stamp : (c u g : ℕ) → Origin c u g → (u₀ : ℕ) × (g₀ : ℕ) × WholeAt p vw c u₀ g₀ × (stampIn p (withRoom p vw (reclaims v)) u g ≡ stampIn p vw u₀ g₀)
+  old-stamp : (c u g : ℕ) → Origin c u g → (u₀ : ℕ) × (g₀ : ℕ) × WholeAt p vw c u₀ g₀ × (frameStamp p (withRoom p vw (reclaims v)) u g ≡ frameStamp p vw u₀ g₀)
   old-stamp c u g (copied k h a e) = (v, nthValid p vw v g, a, ap (stampOf p) e)
   old-stamp c u g (stood ne a e) = (u, g, a, ap (stampOf p) e)
 
@@ -138,7 +138,7 @@ module _ (p : Params) (z : Sizes p) (r : ℕ) (vw : View) (neat : Neat p r vw) (
         newest = λ c u g some a. newest c u g some (old-stamp c u g (origin c u g a));
       }
     where
-      apart : (c v₁ f₁ v₂ f₂ : ℕ) → Origin c v₁ f₁ → Origin c v₂ f₂ → stampIn p (withRoom p vw (reclaims v)) v₁ f₁ ≡ stampIn p (withRoom p vw (reclaims v)) v₂ f₂ → (v₁ ≡ v₂) × (f₁ ≡ f₂)
+      apart : (c v₁ f₁ v₂ f₂ : ℕ) → Origin c v₁ f₁ → Origin c v₂ f₂ → frameStamp p (withRoom p vw (reclaims v)) v₁ f₁ ≡ frameStamp p (withRoom p vw (reclaims v)) v₂ f₂ → (v₁ ≡ v₂) × (f₁ ≡ f₂)
       apart c v₁ f₁ v₂ f₂ (copied k h a e) (copied k′ h′ a′ e′) s = (k ∙ sym k′, one-copy c f₁ f₂ h h′ a a′)
       apart c v₁ f₁ v₂ f₂ (copied k h a e) (stood ne a′ e′) s =
           absurd (ne (sym ((t .apart c v (nthValid p vw v f₁) v₂ f₂ a a′ (sym (ap (stampOf p) e) ∙ s ∙ ap (stampOf p) e′)) .0)))
@@ -146,17 +146,17 @@ module _ (p : Params) (z : Sizes p) (r : ℕ) (vw : View) (neat : Neat p r vw) (
           absurd (ne ((t .apart c v₁ f₁ v (nthValid p vw v f₂) a a′ (sym (ap (stampOf p) e) ∙ s ∙ ap (stampOf p) e′)) .0))
       apart c v₁ f₁ v₂ f₂ (stood ne a e) (stood ne′ a′ e′) s = t .apart c v₁ f₁ v₂ f₂ a a′ (sym (ap (stampOf p) e) ∙ s ∙ ap (stampOf p) e′)
 
-      rises : (c u g h : ℕ) → Origin c u g → Origin c u h → g / p .beta ≡ h / p .beta → g < h → stampIn p (withRoom p vw (reclaims v)) u g < stampIn p (withRoom p vw (reclaims v)) u h
+      rises : (c u g h : ℕ) → Origin c u g → Origin c u h → g / p .beta ≡ h / p .beta → g < h → frameStamp p (withRoom p vw (reclaims v)) u g < frameStamp p (withRoom p vw (reclaims v)) u h
       rises c u g h (copied k i a e) (copied k′ i′ a′ e′) s l = absurd (omega (arith, one-copy c g h i i′ a a′, l))
       rises c u g h (copied k i a e) (stood ne a′ e′) s l = absurd (ne k)
       rises c u g h (stood ne a e) (copied k′ i′ a′ e′) s l = absurd (ne k′)
       rises c u g h (stood ne a e) (stood ne′ a′ e′) s l = rw (ap (stampOf p) e, ap (stampOf p) e′) (t .rises c u g h a a′ s l)
 
-      newest : (c u g : ℕ) → ((withRoom p vw (reclaims v)) .segOf c ≡ none → ⊥) → (u₀ : ℕ) × (g₀ : ℕ) × WholeAt p vw c u₀ g₀ × (stampIn p (withRoom p vw (reclaims v)) u g ≡ stampIn p vw u₀ g₀)
-          → stampIn p (withRoom p vw (reclaims v)) u g ≤ stampOf p (frameOf p (withRoom p vw (reclaims v)) c)
+      newest : (c u g : ℕ) → ((withRoom p vw (reclaims v)) .segOf c ≡ none → ⊥) → (u₀ : ℕ) × (g₀ : ℕ) × WholeAt p vw c u₀ g₀ × (frameStamp p (withRoom p vw (reclaims v)) u g ≡ frameStamp p vw u₀ g₀)
+          → frameStamp p (withRoom p vw (reclaims v)) u g ≤ stampOf p (frameOf p (withRoom p vw (reclaims v)) c)
       newest c u g some (u₀, g₀, a, e) = go (neat .entries c (whole-low p z r vw (neat-fronts neat) c u₀ g₀ a))
         where
-          go : (vw .segOf c ≡ none) ⊎ Entry p vw c → stampIn p (withRoom p vw (reclaims v)) u g ≤ stampOf p (frameOf p (withRoom p vw (reclaims v)) c)
+          go : (vw .segOf c ≡ none) ⊎ Entry p vw c → frameStamp p (withRoom p vw (reclaims v)) u g ≤ stampOf p (frameOf p (withRoom p vw (reclaims v)) c)
           go (inl n) = absurd (some (reclaim-none c n))
           go (inr k) = rw (e, reclaim-frame c k) (t .newest c u₀ g₀ (λ n. some (reclaim-none c n)) a)
 
@@ -186,7 +186,7 @@ module _ (p : Params) (z : Sizes p) (r : ℕ) (vw : View) (neat : Neat p r vw) (
           let e : frame p ((withRoom p vw (opens v)) .body u) g ≡ frame p (vw .body u) g = ap (λ (y : List ℕ). frame p y g) (open-else u k) in
           (e, record { block = a .block; low = a .low; whole = rw e at (a .whole) })
 
-  open-stamp : (c u g : ℕ) → WholeAt p (withRoom p vw (opens v)) c u g → stampIn p (withRoom p vw (opens v)) u g ≡ stampIn p vw u g
+  open-stamp : (c u g : ℕ) → WholeAt p (withRoom p vw (opens v)) c u g → frameStamp p (withRoom p vw (opens v)) u g ≡ frameStamp p vw u g
   open-stamp c u g a = ap (stampOf p) ((open-origin c u g a) .0)
 
   open-frame : (c : ℕ) → Entry p vw c → frameOf p (withRoom p vw (opens v)) c ≡ frameOf p vw c
@@ -202,7 +202,7 @@ module _ (p : Params) (z : Sizes p) (r : ℕ) (vw : View) (neat : Neat p r vw) (
       }
     where
       newest : (c u g : ℕ) → ((withRoom p vw (opens v)) .segOf c ≡ none → ⊥) → WholeAt p (withRoom p vw (opens v)) c u g → (vw .segOf c ≡ none) ⊎ Entry p vw c
-          → stampIn p (withRoom p vw (opens v)) u g ≤ stampOf p (frameOf p (withRoom p vw (opens v)) c)
+          → frameStamp p (withRoom p vw (opens v)) u g ≤ stampOf p (frameOf p (withRoom p vw (opens v)) c)
       newest c u g some a (inl e) = absurd (some (seg-same c ∙ e))
       newest c u g some a (inr e) = rw (open-stamp c u g a, open-frame c e) (t .newest c u g (λ x. some (seg-same c ∙ x)) ((open-origin c u g a) .1))
 

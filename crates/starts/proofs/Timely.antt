@@ -15,18 +15,18 @@ use Rattle.lists.specs.Parts.{allAre}
 use Rattle.lists.proofs.Joins.{allAre-part, updated-other, updated-same}
 use Rattle.lists.proofs.Tests.{never, so}
 use Rattle.rules.specs.declared.Params.{Params}
-use Rattle.rules.specs.Parameters.{frameBytes, frames}
+use Rattle.rules.specs.Parameters.{frameBytes}
 use Rattle.rules.specs.Numbers.{placeOf, vblockOf}
 use Rattle.rules.specs.Tables.{none}
-use Rattle.rules.specs.Pages.{filled, frame, holds, lastIn, stampOf}
+use Rattle.rules.specs.Pages.{filled, frame, holds, stampOf}
 use Rattle.rules.specs.Regions.{View, assigned, frameOf}
 use Rattle.rules.specs.Machine.{withFrame, without}
-use Rattle.rules.proofs.FramePut.{Ready, Sheet, body-old, frame-new, frame-old, last-holds, last-new, last-old, seg-new, seg-old, sheet-holds, sheet-stamp}
+use Rattle.rules.proofs.FramePut.{Ready, Sheet, body-old, frame-new, frame-old, last-new, same-frame, seg-new, seg-old, sheet-holds, sheet-stamp}
 use Rattle.rules.proofs.Frames.{erased-holds, seg-place, seg-vblock}
 use Rattle.rules.proofs.RegionFacts.{Entry, Fronts, GoodFrame, UpTo, good-held, holds-front}
 use Rattle.rules.proofs.Sizes.{Sizes}
 use Rattle.rules.proofs.Stamps.{Bounded}
-use Rattle.claims.specs.Stamps.{Timely, WholeAt, stampIn}
+use Rattle.starts.specs.Timely.{Timely, WholeAt, frameStamp}
 
 -- ---- no frame
 
@@ -52,7 +52,7 @@ without-timely p vw c t =
     same : (d v f : ℕ) → WholeAt p (without vw c) d v f → WholeAt p vw d v f
     same d v f a = record { block = a .block; low = a .low; whole = a .whole }
 
-    go : (d u g : ℕ) → Dec (d ≡ c) → ((without vw c) .segOf d ≡ none → ⊥) → WholeAt p (without vw c) d u g → stampIn p (without vw c) u g ≤ stampOf p (frameOf p (without vw c) d)
+    go : (d u g : ℕ) → Dec (d ≡ c) → ((without vw c) .segOf d ≡ none → ⊥) → WholeAt p (without vw c) d u g → frameStamp p (without vw c) u g ≤ stampOf p (frameOf p (without vw c) d)
     go d u g (yes e) ne a = absurd (ne (ap (updated (vw .segOf) c none) e ∙ updated-same (vw .segOf) c none))
     go d u g (no e) ne a =
         let k : (without vw c) .segOf d ≡ vw .segOf d = updated-other (vw .segOf) c none d e in
@@ -87,14 +87,14 @@ module _ (p : Params) (z : Sizes p) (r : ℕ) (vw : View) (fronts : Fronts p r v
   whole-low c u g a = rw (← good-held p z r u (frame p (vw .body u) g) (whole-good c u g a) c (a .whole)) ((whole-good c u g a) .low)
 
   -- its stamp is at most the bound of the programmed frames
-  pub whole-bound : (t : ℕ) → Bounded p vw t → (c u g : ℕ) → WholeAt p vw c u g → stampIn p vw u g ≤ t
+  pub whole-bound : (t : ℕ) → Bounded p vw t → (c u g : ℕ) → WholeAt p vw c u g → frameStamp p vw u g ≤ t
   whole-bound t h c u g a = h u g (a .block) (a .low) ((whole-good c u g a) .on)
 
 -- ---- a host's frame
 
 -- no stamp of the view's whole frames is above `top`, and the sheet's is
 module _ (p : Params) (z : Sizes p) (vw : View) (v f c : ℕ) (x : List ℕ) (ready : Ready p vw v f) (sheet : Sheet p v c x) (top : ℕ)
-    (bound : (d u g : ℕ) → WholeAt p vw d u g → stampIn p vw u g ≤ top) (above : top < sheet .stamp) where
+    (bound : (d u g : ℕ) → WholeAt p vw d u g → frameStamp p vw u g ≤ top) (above : top < sheet .stamp) where
   -- a frame of the view that is left is the new one, or stood there
   data Which (u g : ℕ) : Type 0 where
     new : u ≡ v → g ≡ f → frame p ((withFrame p vw v f c x) .body u) g ≡ x → Which u g
@@ -112,14 +112,14 @@ module _ (p : Params) (z : Sizes p) (vw : View) (v f c : ℕ) (x : List ℕ) (re
   stood d u g e a = record { block = a .block; low = a .low; whole = rw e at (a .whole) }
 
   -- the new one's stamp is above
-  new-stamp : (u g : ℕ) → frame p ((withFrame p vw v f c x) .body u) g ≡ x → stampIn p (withFrame p vw v f c x) u g ≡ sheet .stamp
+  new-stamp : (u g : ℕ) → frame p ((withFrame p vw v f c x) .body u) g ≡ x → frameStamp p (withFrame p vw v f c x) u g ≡ sheet .stamp
   new-stamp u g e = ap (stampOf p) e ∙ sheet-stamp p z v c x sheet
 
-  old-stamp : (d u g : ℕ) → frame p ((withFrame p vw v f c x) .body u) g ≡ frame p (vw .body u) g → WholeAt p (withFrame p vw v f c x) d u g → stampIn p (withFrame p vw v f c x) u g ≤ top
+  old-stamp : (d u g : ℕ) → frame p ((withFrame p vw v f c x) .body u) g ≡ frame p (vw .body u) g → WholeAt p (withFrame p vw v f c x) d u g → frameStamp p (withFrame p vw v f c x) u g ≤ top
   old-stamp d u g e a = rw (ap (stampOf p) e) (bound d u g (stood d u g e a))
 
   new-apart : (d v₁ f₁ v₂ f₂ : ℕ) → WholeAt p (withFrame p vw v f c x) d v₁ f₁ → WholeAt p (withFrame p vw v f c x) d v₂ f₂ → Timely p vw
-      → stampIn p (withFrame p vw v f c x) v₁ f₁ ≡ stampIn p (withFrame p vw v f c x) v₂ f₂ → (v₁ ≡ v₂) × (f₁ ≡ f₂)
+      → frameStamp p (withFrame p vw v f c x) v₁ f₁ ≡ frameStamp p (withFrame p vw v f c x) v₂ f₂ → (v₁ ≡ v₂) × (f₁ ≡ f₂)
   new-apart d v₁ f₁ v₂ f₂ a b t e = go (which v₁ f₁) (which v₂ f₂)
     where
       go : Which v₁ f₁ → Which v₂ f₂ → (v₁ ≡ v₂) × (f₁ ≡ f₂)
@@ -133,10 +133,10 @@ module _ (p : Params) (z : Sizes p) (vw : View) (v f c : ℕ) (x : List ℕ) (re
   none-behind d g l a = never (a .whole) (erased-holds p (frame p (vw .body v) g) d (ready .rest g (omega arith) (a .low)))
 
   new-rises : (d u g h : ℕ) → WholeAt p (withFrame p vw v f c x) d u g → WholeAt p (withFrame p vw v f c x) d u h → Timely p vw → g / p .beta ≡ h / p .beta → g < h
-      → stampIn p (withFrame p vw v f c x) u g < stampIn p (withFrame p vw v f c x) u h
+      → frameStamp p (withFrame p vw v f c x) u g < frameStamp p (withFrame p vw v f c x) u h
   new-rises d u g h a b t s l = go (which u g) (which u h)
     where
-      go : Which u g → Which u h → stampIn p (withFrame p vw v f c x) u g < stampIn p (withFrame p vw v f c x) u h
+      go : Which u g → Which u h → frameStamp p (withFrame p vw v f c x) u g < frameStamp p (withFrame p vw v f c x) u h
       go (new j k i) (new j′ k′ i′) = absurd (omega (arith, k, k′, l))
       go (new j k i) (old i′) = absurd (none-behind d h (rw (← k) l) (rw j at (stood d u h i′ b)))
       go (old i) (new j′ k′ i′) = omega (arith, new-stamp u h i′, old-stamp d u g i a, above)
@@ -147,24 +147,10 @@ module _ (p : Params) (z : Sizes p) (vw : View) (v f c : ℕ) (x : List ℕ) (re
   own-frame =
       rw (seg-new p z vw v f c x ready sheet, seg-vblock p z v f (ready .low), seg-place p z v f (ready .low), last-new p z vw v f c x ready sheet, frame-new p z vw v f c x ready sheet)
 
-  -- another cluster's last frame in a place is what it was
-  behind : (d k : ℕ) → lastIn p (vw .body v) k d < frames p → lastIn p (vw .body v) k d ≡ f → ⊥
-  behind d k h e =
-      let t : holds p (frame p (vw .body v) f) d ≡ true = rw e at ((last-holds p z (vw .body v) k d h) .1) in
-      never t (erased-holds p (frame p (vw .body v) f) d (ready .rest f (omega arith) (ready .low)))
-
-  same-frame : (d : ℕ) → (d ≡ c → ⊥) → (u k : ℕ) → lastIn p (vw .body u) k d < frames p
-      → frame p ((withFrame p vw v f c x) .body u) (lastIn p ((withFrame p vw v f c x) .body u) k d) ≡ frame p (vw .body u) (lastIn p (vw .body u) k d)
-  same-frame d ne u k h = go (ℕ-discrete u v)
-    where
-      go : Dec (u ≡ v) → frame p ((withFrame p vw v f c x) .body u) (lastIn p ((withFrame p vw v f c x) .body u) k d) ≡ frame p (vw .body u) (lastIn p (vw .body u) k d)
-      go (yes e) = rw (e, last-old p z vw v f c x ready sheet d ne k) (frame-old p z vw v f c x ready sheet _ (behind d k (rw e at h)))
-      go (no e) = rw (body-old p z vw v f c x ready sheet u e)
-
   other-frame : (d : ℕ) → (d ≡ c → ⊥) → (vw .segOf d ≡ none) ⊎ Entry p vw d → (vw .segOf d ≡ none → ⊥) → frameOf p (withFrame p vw v f c x) d ≡ frameOf p vw d
   unfolding frameOf
   other-frame d ne (inl e) some = absurd (some e)
-  other-frame d ne (inr e) some = rw (seg-old p z vw v f c x ready sheet d ne) (same-frame d ne (vblockOf p (vw .segOf d)) (placeOf p (vw .segOf d)) (e .held))
+  other-frame d ne (inr e) some = rw (seg-old p z vw v f c x ready sheet d ne) (same-frame p z vw v f c x ready sheet d ne (vblockOf p (vw .segOf d)) (placeOf p (vw .segOf d)) (e .held))
 
   -- a host write's frame keeps it
   pub put-timely : Timely p vw → ((d u g : ℕ) → WholeAt p vw d u g → (vw .segOf d ≡ none) ⊎ Entry p vw d) → Timely p (withFrame p vw v f c x)
@@ -176,10 +162,10 @@ module _ (p : Params) (z : Sizes p) (vw : View) (v f c : ℕ) (x : List ℕ) (re
       }
     where
       newest : (d u g : ℕ) → ((withFrame p vw v f c x) .segOf d ≡ none → ⊥) → WholeAt p (withFrame p vw v f c x) d u g → Dec (d ≡ c) → Which u g
-          → stampIn p (withFrame p vw v f c x) u g ≤ stampOf p (frameOf p (withFrame p vw v f c x) d)
+          → frameStamp p (withFrame p vw v f c x) u g ≤ stampOf p (frameOf p (withFrame p vw v f c x) d)
       newest d u g some a (yes e) w = rw (e, own-frame, sheet-stamp p z v c x sheet) (top-of w)
         where
-          top-of : Which u g → stampIn p (withFrame p vw v f c x) u g ≤ sheet .stamp
+          top-of : Which u g → frameStamp p (withFrame p vw v f c x) u g ≤ sheet .stamp
           top-of (new h k i) = omega (arith, new-stamp u g i)
           top-of (old i) = omega (arith, old-stamp d u g i a, above)
       newest d u g some a (no e) (new h k i) =
