@@ -98,8 +98,15 @@ fifths-good p chip n z h = rw (h 0 (some-page p z)) (go (decLt 1 (pages p)))
     go (yes k) = rw (h 1 k) (and-false (leb 2 (pages p)))
     go (no k) = rw (lt-leb 2 (pages p) (omega arith))
 
+-- so one that is erased throughout, and one whose first frames are programmed and whose rest is erased
+pub blank-good : (p : Params) (chip : List ℕ) (n : ℕ) → Sizes p → length (block p chip n) ≡ blockBytes p → allAre 255 (block p chip n) ≡ true → bad p chip n ≡ false
+blank-good p chip n z w e = fifths-good p chip n z (free-fifth p (block p chip n) w e)
+
+pub up-to-good : (p : Params) (chip : List ℕ) (n : ℕ) → Sizes p → length (block p chip n) ≡ blockBytes p → (r v k : ℕ) → UpTo p r v k (block p chip n) → bad p chip n ≡ false
+up-to-good p chip n z w r v k u = fifths-good p chip n z (used-fifth p (block p chip n) w z r v k u)
+
 -- the bytes of a block say whether it is bad
-bytes-bad : (p : Params) (chip chip′ : List ℕ) (n : ℕ) → block p chip′ n ≡ block p chip n → bad p chip′ n ≡ bad p chip n
+pub bytes-bad : (p : Params) (chip chip′ : List ℕ) (n : ℕ) → block p chip′ n ≡ block p chip n → bad p chip′ n ≡ bad p chip n
 unfolding bad badMark
 bytes-bad p chip chip′ n e = rw e
 
@@ -128,7 +135,7 @@ module _ (p : Params) (b : Board) (o : OrderlyBoard p b) where
       go (inl a) =
           let u = (neat p r (view p b r) (orderly-region p b (o .tidy) r region)) .blocks v low a in
           let body = body-some p z b tables r v region low some in
-          fifths-good p (b .chip) n z (used-fifth p (block p (b .chip) n) (whole n h) z r v _ (rw (body, e) at (u .1)))
+          up-to-good p (b .chip) n z (whole n h) r v _ (rw (body, e) at (u .1))
       go (inr a) = absurd (some (no-block p z b tables r v region low (z .some) a))
 
   -- so is one that BT names
@@ -142,7 +149,7 @@ module _ (p : Params) (b : Board) (o : OrderlyBoard p b) where
   unreserved-good n h ne = go (bstAt (b .bst) n) refl (tables .kinds n h)
     where
       go : (kind : ℕ) → bstAt (b .bst) n ≡ kind → kind ≤ 2 → bad p (b .chip) n ≡ false
-      go zero e k = fifths-good p (b .chip) n z (free-fifth p (block p (b .chip) n) (whole n h) (tables .free n h e))
+      go zero e k = blank-good p (b .chip) n z (whole n h) (tables .free n h e)
       go (suc zero) e k = let w = tables .used n h e in named-good n h (w .0) (w .1) (w .2)
       go (suc (suc zero)) e k = absurd (ne e)
       go (suc (suc (suc x))) e k = absurd (omega arith)
@@ -157,8 +164,7 @@ format-same-bad p b e n h = go (so (bad p (b .chip) n))
     go (inl k) = bytes-bad p (b .chip) ((formatted p b) .chip) n (format-bad p b e n k)
     go (inr k) =
         let is = format-good p b e n h k in
-        fifths-good p ((formatted p b) .chip) n (sizes p ((format-admitted p b e) .fine))
-        (free-fifth p (block p ((formatted p b) .chip) n) (rw is (fresh-size p)) (rw is (fresh-all p))) ∙ sym k
+        blank-good p ((formatted p b) .chip) n (sizes p ((format-admitted p b e) .fine)) (rw is (fresh-size p)) (rw is (fresh-all p)) ∙ sym k
 
 -- ---- a write
 

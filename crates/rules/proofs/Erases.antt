@@ -35,6 +35,12 @@ pub one-more : (f : ℕ → Bool) (k : ℕ) → erasesBelow f (k + 1) ≡ erases
 unfolding erasesBelow joinBelow
 one-more f k = rw add-one
 
+-- where no block passes there is none
+pub none-pass : (f : ℕ → Bool) (k : ℕ) → ((n : ℕ) → n < k → f n ≡ false) → erasesBelow f k ≡ []
+unfolding erasesBelow joinBelow
+none-pass f zero h = refl
+none-pass f (suc k) h = rw (h k (omega arith), none-pass f k (λ n l. h n (omega arith)))
+
 -- ---- the counts, and the pages programmed
 
 pub erases-counted : (f : ℕ → Bool) (k : ℕ) → (programsIn (erasesBelow f k) ≡ 0) × (erasesIn (erasesBelow f k) ≡ countBelow k f)

@@ -21,13 +21,35 @@ use Rattle.rules.specs.Numbers.{placeOf, segmentOf, vblockOf}
 use Rattle.rules.specs.Tables.{none, notFound}
 use Rattle.rules.specs.Pages.{filled, frame, holds, isFull, lastIn, programmed, stampOf}
 use Rattle.rules.specs.Regions.{View, assigned, frameIn, largestStamp, regionFrames, stampIn}
-use Rattle.rules.specs.Start.{foundFst, foundSegment, isOpen, openOnce}
+use Rattle.rules.specs.Start.{foundFst, foundSegment, isOpen, openOnce, sameStamp, stampsApart}
 use Rattle.rules.proofs.Frames.{seg-low, seg-place, seg-vblock}
+use Rattle.rules.proofs.Isolation.{view-path}
 use Rattle.rules.proofs.RegionFacts.{Entry, Open, filled-le}
 use Rattle.rules.proofs.Sizes.{Sizes}
 use Rattle.rules.proofs.Stamps.{Bounded}
 use Rattle.starts.specs.Timely.{WholeAt, frameStamp}
 use Rattle.starts.proofs.Timely.{whole-has}
+
+-- ---- by the bytes of the region's blocks alone
+
+module _ (p : Params) (vw vw′ : View) (bodies : (v : ℕ) → vw .body v ≡ vw′ .body v) where
+  same-bodies : vw ≡ record { segOf = vw .segOf; lastSeg = vw .lastSeg; body = vw′ .body }
+  same-bodies = view-path (λ c. refl) refl bodies
+
+  pub same-fst : foundFst p vw ≡ foundFst p vw′
+  same-fst = ap (foundFst p) same-bodies ∙ unfold foundFst isOpen assigned in refl
+
+  pub same-once : openOnce p vw ≡ openOnce p vw′
+  same-once = ap (openOnce p) same-bodies ∙ unfold openOnce isOpen assigned in refl
+
+  pub same-segment : (c : ℕ) → foundSegment p vw c ≡ foundSegment p vw′ c
+  same-segment c = ap (λ (y : View). foundSegment p y c) same-bodies ∙ unfold foundSegment stampIn frameIn in refl
+
+  pub same-largest : largestStamp p vw ≡ largestStamp p vw′
+  same-largest = ap (largestStamp p) same-bodies ∙ unfold largestStamp stampIn frameIn in refl
+
+  pub same-apart : stampsApart p vw ≡ stampsApart p vw′
+  same-apart = ap (stampsApart p) same-bodies ∙ unfold stampsApart sameStamp stampIn frameIn in refl
 
 -- ---- the frames of a region, counted through its virtual blocks
 

@@ -33,11 +33,22 @@ use Rattle.rules.specs.Start.{
   regionStarts,
   sound,
   soundRule,
+  stampsApart,
   startable,
   vblockNamed,
 }
 use Rattle.rules.proofs.Isolation.{index-low}
 use Rattle.rules.proofs.Sizes.{Sizes}
+
+-- ---- what a block says
+
+pub region-low : (p : Params) → Sizes p → (blk : List ℕ) → regionNamed p blk < p .mu
+unfolding regionNamed
+region-low p z blk = mod-lt _ (z .regions)
+
+pub vblock-low : (p : Params) (blk : List ℕ) → sound p blk ≡ true → vblockNamed p blk < p .gamma
+unfolding sound
+vblock-low p blk h = ltb-true _ _ (and-left (ltb (vblockNamed p blk) (p .gamma)) _ h)
 
 -- at most two of which, where there are two, exactly one is of the first kind: at most one of each
 one-each : (k m n : ℕ) → m + n ≡ k → leb k 1 || (eqb k 2 && eqb m 1) ≡ true → (m ≤ 1) × (n ≤ 1)
@@ -57,6 +68,14 @@ module _ (p : Params) (z : Sizes p) (chip : List ℕ) where
       ⊎ ((fullBlock p chip r v < p .N) × (namesFull p chip r v (fullBlock p chip r v) ≡ true))
   unfolding fullBlock
   full-spec r v = first-spec none (p .N) (namesFull p chip r v) (z .blocks)
+
+  pub none-full : (r v : ℕ) → fullBlock p chip r v ≡ none → (i : ℕ) → i < p .N → namesFull p chip r v i ≡ false
+  none-full r v e i l = go (full-spec r v)
+    where
+      go : ((fullBlock p chip r v ≡ none) × ((i : ℕ) → i < p .N → namesFull p chip r v i ≡ false))
+          ⊎ ((fullBlock p chip r v < p .N) × (namesFull p chip r v (fullBlock p chip r v) ≡ true)) → namesFull p chip r v i ≡ false
+      go (inl w) = w .1 i l
+      go (inr w) = absurd (omega (arith, w .0, e, z .blocks))
 
   -- a full one, or one that is not where none is full
   pub data Kept (r v : ℕ) : Type 0 where
@@ -90,6 +109,14 @@ module _ (p : Params) (z : Sizes p) (chip : List ℕ) where
   unfolding namesOpen
   open-in r v n t = (and-left (names p chip r v n) _ t, not-true _ (and-right (names p chip r v n) t))
 
+  pub full-out : (r v n : ℕ) → names p chip r v n ≡ true → isFull p (block p chip n) ≡ true → namesFull p chip r v n ≡ true
+  unfolding namesFull
+  full-out r v n a b = and-intro a b
+
+  pub open-out : (r v n : ℕ) → names p chip r v n ≡ true → isFull p (block p chip n) ≡ false → namesOpen p chip r v n ≡ true
+  unfolding namesOpen
+  open-out r v n a b = and-intro a (ap not b)
+
   pub kept-names : (r v : ℕ) → (keptBlock p chip r v ≡ none → ⊥) → (keptBlock p chip r v < p .N) × (names p chip r v (keptBlock p chip r v) ≡ true)
   kept-names r v ne = go (kept r v)
     where
@@ -110,6 +137,13 @@ module _ (p : Params) (z : Sizes p) (chip : List ℕ) where
   pub named-vblock : (r v n : ℕ) → names p chip r v n ≡ true → vblockNamed p (block p chip n) ≡ v
   unfolding names
   named-vblock r v n t = eqb-true _ _ (and-right (eqb (regionNamed p (block p chip n)) r) (and-right (inUse p chip n) t))
+
+  -- a block in use names what its first page says
+  pub own-names : (n : ℕ) → inUse p chip n ≡ true → names p chip (regionNamed p (block p chip n)) (vblockNamed p (block p chip n)) n ≡ true
+  unfolding names
+  own-names n u =
+      and-intro u
+      (and-intro (eq-eqb (regionNamed p (block p chip n)) (regionNamed p (block p chip n)) refl) (eq-eqb (vblockNamed p (block p chip n)) (vblockNamed p (block p chip n)) refl))
 
   -- a kept block is not erased
   pub kept-stays : (r v : ℕ) → (keptBlock p chip r v ≡ none → ⊥) → leftOver p chip (keptBlock p chip r v) ≡ false
@@ -151,6 +185,10 @@ module _ (p : Params) (z : Sizes p) (chip : List ℕ) (starts : startable p chip
   unfolding regionStarts
   opened-once r h = (truths _ (region-starts r h)) .1 .0
 
+  pub stamps-apart : (r : ℕ) → r < p .mu → stampsApart p (foundView p chip (foundBt p chip) r) ≡ true
+  unfolding regionStarts
+  stamps-apart r h = (truths _ (region-starts r h)) .1 .1 .0
+
   pair : (r v : ℕ) → r < p .mu → v < p .gamma → pairRule p chip r v ≡ true
   unfolding regionStarts
   pair r v h k = all-at (p .gamma) (pairRule p chip r) ((truths _ (region-starts r h)) .0) v k
@@ -165,45 +203,21 @@ module _ (p : Params) (z : Sizes p) (chip : List ℕ) (starts : startable p chip
   left-at : (r v n : ℕ) → r < p .mu → v < p .gamma → n < p .N → names p chip r v n ≡ true → (keptBlock p chip r v ≡ n → ⊥) → leftOver p chip n ≡ true
   left-at r v n low-r low-v h here ne = go (so (isFull p (block p chip n))) (kept p z chip r v)
     where
-      is-full : isFull p (block p chip n) ≡ true → namesFull p chip r v n ≡ true
-      is-full f = unfold namesFull in and-intro here f
-
-      is-open : isFull p (block p chip n) ≡ false → namesOpen p chip r v n ≡ true
-      is-open f = unfold namesOpen in and-intro here (ap not f)
-
-      none-full : fullBlock p chip r v ≡ none → (i : ℕ) → i < p .N → namesFull p chip r v i ≡ false
-      none-full e i l = pick (full-spec p z chip r v)
-        where
-          pick : ((fullBlock p chip r v ≡ none) × ((i : ℕ) → i < p .N → namesFull p chip r v i ≡ false)) ⊎ ((fullBlock p chip r v < p .N) × (namesFull p chip r v (fullBlock p chip r v) ≡ true)) → namesFull p chip r v i ≡ false
-          pick (inl w) = w .1 i l
-          pick (inr w) = absurd (omega (arith, w .0, e, z .blocks))
-
       go : (isFull p (block p chip n) ≡ true) ⊎ (isFull p (block p chip n) ≡ false) → Kept p z chip r v → leftOver p chip n ≡ true
-      go (inl f) (full k t) = absurd (ne (count-unique (p .N) (namesFull p chip r v) ((few r v low-r low-v) .0) _ n k h t (is-full f)))
-      go (inl f) (part k e t) = absurd (never (is-full f) (none-full e n h))
-      go (inl f) (neither e a o) = absurd (never (is-full f) (a n h))
+      go (inl f) (full k t) = absurd (ne (count-unique (p .N) (namesFull p chip r v) ((few r v low-r low-v) .0) _ n k h t (full-out p z chip r v n here f)))
+      go (inl f) (part k e t) = absurd (never (full-out p z chip r v n here f) (none-full p z chip r v e n h))
+      go (inl f) (neither e a o) = absurd (never (full-out p z chip r v n here f) (a n h))
       go (inr f) (full k t) =
           unfold leftOver in rw (
             named-use p z chip r v n here,
             f,
             named-region p z chip r v n here,
             named-vblock p z chip r v n here,
-            ne-eqb (fullBlock p chip r v) none (λ e. never t (none-full e (keptBlock p chip r v) k)),
+            ne-eqb (fullBlock p chip r v) none (λ e. never t (none-full p z chip r v e (keptBlock p chip r v) k)),
           )
-      go (inr f) (part k e t) = absurd (ne (count-unique (p .N) (namesOpen p chip r v) ((few r v low-r low-v) .1) _ n k h t (is-open f)))
-      go (inr f) (neither e a o) = absurd (never (is-open f) (o n h))
-
-  pub own-names : (n : ℕ) → inUse p chip n ≡ true → names p chip (regionNamed p (block p chip n)) (vblockNamed p (block p chip n)) n ≡ true
-  unfolding names
-  own-names n u = and-intro u (and-intro (eq-eqb (regionNamed p (block p chip n)) (regionNamed p (block p chip n)) refl) (eq-eqb (vblockNamed p (block p chip n)) (vblockNamed p (block p chip n)) refl))
-
-  pub own-region : (n : ℕ) → regionNamed p (block p chip n) < p .mu
-  unfolding regionNamed
-  own-region n = mod-lt _ (z .regions)
-
-  pub own-vblock : (n : ℕ) → n < p .N → inUse p chip n ≡ true → vblockNamed p (block p chip n) < p .gamma
-  unfolding sound
-  own-vblock n h u = ltb-true _ _ (and-left (ltb (vblockNamed p (block p chip n)) (p .gamma)) _ (sounds n h u))
+      go (inr f) (part k e t) = absurd (ne (count-unique (p .N) (namesOpen p chip r v) ((few r v low-r low-v) .1) _ n k h t (open-out p z chip r v n here f)))
+      go (inr f) (neither e a o) = absurd (never (open-out p z chip r v n here f) (o n h))
 
   pub left-over : (n : ℕ) → n < p .N → inUse p chip n ≡ true → (keptBlock p chip (regionNamed p (block p chip n)) (vblockNamed p (block p chip n)) ≡ n → ⊥) → leftOver p chip n ≡ true
-  left-over n h u ne = left-at (regionNamed p (block p chip n)) (vblockNamed p (block p chip n)) n (own-region n) (own-vblock n h u) h (own-names n u) ne
+  left-over n h u ne =
+      left-at (regionNamed p (block p chip n)) (vblockNamed p (block p chip n)) n (region-low p z (block p chip n)) (vblock-low p (block p chip n) (sounds n h u)) h (own-names p z chip n u) ne

@@ -4,3 +4,7 @@ pub mod Found
 pub mod KeptBlocks
 pub mod StartTables
 pub mod StartPromise
+pub mod UsedGood
+pub mod Shows
+pub mod ShowsStarts
+pub mod Again

@@ -15,21 +15,20 @@ use Rattle.rules.specs.declared.Params.{Params}
 use Rattle.rules.specs.Numbers.{regionOf}
 use Rattle.rules.specs.Tables.{Board, btAt, ctAt, fstAt, none, stampAt}
 use Rattle.rules.specs.Pages.{block, filled}
-use Rattle.rules.specs.Regions.{assigned, bodyAt, frameIn, largestStamp, stampIn, view, viewOf}
+use Rattle.rules.specs.Regions.{assigned, bodyAt, largestStamp, view, viewOf}
 use Rattle.rules.specs.Marks.{marksOf}
 use Rattle.rules.specs.Orderly.{blockRule, orderly, stampRule}
-use Rattle.rules.specs.Start.{foundBt, foundFst, foundSegment, foundView, isOpen, keptBlock, openOnce, regionNamed, sound, started, vblockNamed}
+use Rattle.rules.specs.Start.{foundBt, foundFst, foundSegment, foundView, keptBlock, openOnce, regionNamed, sound, stampsApart, started, vblockNamed}
 use Rattle.rules.specs.Replies.{lengthsFit}
 use Rattle.rules.proofs.Admitted.{orderly-all}
-use Rattle.rules.proofs.Isolation.{view-path}
 use Rattle.rules.proofs.RegionFacts.{Entry, UpTo, block-in, neat-none, neat-out, regionOrderly}
 use Rattle.rules.proofs.Sizes.{Sizes, sizes}
 use Rattle.rules.proofs.Stamps.{stamps-out}
 use Rattle.rules.proofs.TableFacts.{Tables, lengths-out}
 use Rattle.rules.proofs.Views.{body-some, has-block}
 use Rattle.starts.specs.Admitted.{StartAdmitted}
-use Rattle.starts.proofs.Found.{entry-found, largest-bounds, none-found, open-found}
-use Rattle.starts.proofs.KeptBlocks.{at-is, kept-names, kept-stays, named-region, named-use, named-vblock, opened-once, sounds}
+use Rattle.starts.proofs.Found.{entry-found, largest-bounds, none-found, open-found, same-apart, same-fst, same-largest, same-once, same-segment}
+use Rattle.starts.proofs.KeptBlocks.{at-is, kept-names, kept-stays, named-region, named-use, named-vblock, opened-once, sounds, stamps-apart}
 use Rattle.starts.proofs.StartTables.{start-tables, swept}
 
 own-rule : (p : Params) (r v : ℕ) (blk : List ℕ) → sound p blk ≡ true → regionNamed p blk ≡ r → vblockNamed p blk ≡ v → blockRule p r v blk ≡ true
@@ -71,25 +70,15 @@ module _ (p : Params) (b : Board) (acc : StartAdmitted p b) where
         go false e = refl
 
     -- so what is found is found in the view that is left
-    found-path : foundView p (b .chip) (foundBt p (b .chip)) r
-        ≡ record { segOf = (foundView p (b .chip) (foundBt p (b .chip)) r) .segOf; lastSeg = (foundView p (b .chip) (foundBt p (b .chip)) r) .lastSeg; body = (view p (started p b) r) .body }
-    found-path = view-path (λ c. refl) refl body-same
+    pub once-left : openOnce p (view p (started p b) r) ≡ true
+    once-left = sym (same-once p (foundView p (b .chip) (foundBt p (b .chip)) r) (view p (started p b) r) body-same) ∙ opened-once p z (b .chip) (acc .starts) r region
 
-    fst-same : foundFst p (foundView p (b .chip) (foundBt p (b .chip)) r) ≡ foundFst p (view p (started p b) r)
-    fst-same = ap (foundFst p) found-path ∙ unfold foundFst isOpen assigned in refl
-
-    once-same : openOnce p (view p (started p b) r) ≡ true
-    once-same = sym (ap (openOnce p) found-path ∙ unfold openOnce isOpen assigned in refl) ∙ opened-once p z (b .chip) (acc .starts) r region
-
-    seg-same : (c : ℕ) → foundSegment p (foundView p (b .chip) (foundBt p (b .chip)) r) c ≡ foundSegment p (view p (started p b) r) c
-    seg-same c = ap (λ x. foundSegment p x c) found-path ∙ unfold foundSegment stampIn frameIn in refl
-
-    pub stamp-same : largestStamp p (foundView p (b .chip) (foundBt p (b .chip)) r) ≡ largestStamp p (view p (started p b) r)
-    stamp-same = ap (largestStamp p) found-path ∙ unfold largestStamp stampIn frameIn in refl
+    pub apart-left : stampsApart p (view p (started p b) r) ≡ true
+    apart-left = sym (same-apart p (foundView p (b .chip) (foundBt p (b .chip)) r) (view p (started p b) r) body-same) ∙ stamps-apart p z (b .chip) (acc .starts) r region
 
     last-is : (view p (started p b) r) .lastSeg ≡ foundFst p (view p (started p b) r)
     unfolding viewOf fstAt started
-    last-is = list-at (p .mu) (λ r. foundFst p (foundView p (b .chip) (foundBt p (b .chip)) r)) r none region ∙ fst-same
+    last-is = list-at (p .mu) (λ r. foundFst p (foundView p (b .chip) (foundBt p (b .chip)) r)) r none region ∙ same-fst p (foundView p (b .chip) (foundBt p (b .chip)) r) (view p (started p b) r) body-same
 
     named-some : (v : ℕ) → v < p .gamma → assigned (view p (started p b) r) v ≡ true → btAt p (foundBt p (b .chip)) r v ≡ none → ⊥
     unfolding started
@@ -100,18 +89,16 @@ module _ (p : Params) (b : Board) (acc : StartAdmitted p b) where
     body-here v h a = body-some p z (started p b) t r v region h (named-some v h a)
 
     -- each of its blocks is one that names it, and is sound
-    block-good : (v : ℕ) → v < p .gamma → assigned (view p (started p b) r) v ≡ true → blockRule p r v ((view p (started p b) r) .body v) ≡ true
-    block-good v h a =
-        let ne = named-some v h a in
+    pub rule-left : (v : ℕ) → v < p .gamma → (btAt p (foundBt p (b .chip)) r v ≡ none → ⊥) → blockRule p r v (block p ((started p b) .chip) (btAt p (foundBt p (b .chip)) r v)) ≡ true
+    rule-left v h ne =
         let e = at-is p z (b .chip) r v region h in
         let k = kept-names p z (b .chip) r v (λ x. ne (e ∙ x)) in
-        let here = body-here v h a in
-        let same : (view p (started p b) r) .body v ≡ block p (b .chip) (keptBlock p (b .chip) r v) = here ∙ stays v h ne ∙ ap (block p (b .chip)) e in
         let s = sounds p z (b .chip) (acc .starts) (keptBlock p (b .chip) r v) (k .0) (named-use p z (b .chip) r v _ (k .1)) in
-        rw same (own-rule p r v (block p (b .chip) (keptBlock p (b .chip) r v)) s (named-region p z (b .chip) r v _ (k .1)) (named-vblock p z (b .chip) r v _ (k .1)))
+        rw (stays v h ne, e) (own-rule p r v (block p (b .chip) (keptBlock p (b .chip) r v)) s (named-region p z (b .chip) r v _ (k .1)) (named-vblock p z (b .chip) r v _ (k .1)))
 
-    blocks : (v : ℕ) → v < p .gamma → assigned (view p (started p b) r) v ≡ true → (0 < filled p ((view p (started p b) r) .body v)) × UpTo p r v (filled p ((view p (started p b) r) .body v)) ((view p (started p b) r) .body v)
-    blocks v h a = block-in p r v ((view p (started p b) r) .body v) (block-good v h a)
+    blocks : (v : ℕ) → v < p .gamma → assigned (view p (started p b) r) v ≡ true
+        → (0 < filled p ((view p (started p b) r) .body v)) × UpTo p r v (filled p ((view p (started p b) r) .body v)) ((view p (started p b) r) .body v)
+    blocks v h a = block-in p r v ((view p (started p b) r) .body v) (rw (body-here v h a) (rule-left v h (named-some v h a)))
 
     entries : (c : ℕ) → c < p .C → ((view p (started p b) r) .segOf c ≡ none) ⊎ Entry p (view p (started p b) r) c
     entries c h = go (ℕ-discrete (regionOf p c) r)
@@ -124,7 +111,7 @@ module _ (p : Params) (b : Board) (acc : StartAdmitted p b) where
                 unfold viewOf ctAt started in rw (eq-eqb (regionOf p c) r e) (list-at (p .C) (λ c. foundSegment p (foundView p (b .chip) (foundBt p (b .chip)) (regionOf p c)) c) c none h)
 
             mine : regionOf p c ≡ r → (view p (started p b) r) .segOf c ≡ foundSegment p (view p (started p b) r) c
-            mine e = found e ∙ ap (λ (x : ℕ). foundSegment p (foundView p (b .chip) (foundBt p (b .chip)) x) c) e ∙ seg-same c
+            mine e = found e ∙ ap (λ (x : ℕ). foundSegment p (foundView p (b .chip) (foundBt p (b .chip)) x) c) e ∙ same-segment p (foundView p (b .chip) (foundBt p (b .chip)) r) (view p (started p b) r) body-same c
         go (no e) = inl (unfold viewOf in rw (ne-eqb (regionOf p c) r e))
 
     pub region-orderly : regionOrderly p r (view p (started p b) r) ≡ true
@@ -142,7 +129,7 @@ module _ (p : Params) (b : Board) (acc : StartAdmitted p b) where
         go (inr e) =
             let w = some-fails (p .gamma) _ e in
             let a = not-false _ (w .2) in
-            neat-out p r (view p (started p b) r) (w .0) (w .1) a blocks (open-found p z (view p (started p b) r) last-is once-same some (w .0) (w .1) a) entries
+            neat-out p r (view p (started p b) r) (w .0) (w .1) a blocks (open-found p z (view p (started p b) r) last-is once-left some (w .0) (w .1) a) entries
         go (inl e) = lacking e
 
   -- the marks are those of the board that is left
@@ -152,7 +139,7 @@ module _ (p : Params) (b : Board) (acc : StartAdmitted p b) where
 
   pub start-stamp : (r : ℕ) → r < p .mu → stampAt ((started p b) .stamps) r ≡ largestStamp p (view p (started p b) r)
   unfolding stampAt started
-  start-stamp r h = list-at (p .mu) (λ r. largestStamp p (foundView p (b .chip) (foundBt p (b .chip)) r)) r 0 h ∙ stamp-same r h
+  start-stamp r h = list-at (p .mu) (λ r. largestStamp p (foundView p (b .chip) (foundBt p (b .chip)) r)) r 0 h ∙ same-largest p (foundView p (b .chip) (foundBt p (b .chip)) r) (view p (started p b) r) (body-same r h)
 
   start-stamps : stampRule p (started p b) ≡ true
   start-stamps = stamps-out p (started p b) (λ r h. rw (start-stamp r h) (largest-bounds p z (view p (started p b) r)))

@@ -27,7 +27,7 @@ use Rattle.rules.proofs.Sizes.{Sizes, sizes}
 use Rattle.rules.proofs.TableFacts.{Lengths, Tables, lengths-in, named-in, named-out}
 use Rattle.rules.proofs.Writes.{wear-length}
 use Rattle.starts.specs.Admitted.{StartAdmitted}
-use Rattle.starts.proofs.KeptBlocks.{at-is, entry-is, kept-names, left-over, named-region, named-use, named-vblock, own-region, own-vblock}
+use Rattle.starts.proofs.KeptBlocks.{at-is, entry-is, kept-names, left-over, named-region, named-use, named-vblock, region-low, sounds, vblock-low}
 
 module _ (p : Params) (b : Board) (acc : StartAdmitted p b) where
   z : Sizes p
@@ -71,7 +71,7 @@ module _ (p : Params) (b : Board) (acc : StartAdmitted p b) where
       (sym (named-vblock p z (b .chip) (i / p .gamma) (i % p .gamma) n a) ∙ named-vblock p z (b .chip) (j / p .gamma) (j % p .gamma) n c′)
 
   -- a block in use is not bad
-  used-good : (n : ℕ) → inUse p (b .chip) n ≡ true → bad p (b .chip) n ≡ false
+  pub used-good : (n : ℕ) → inUse p (b .chip) n ≡ true → bad p (b .chip) n ≡ false
   unfolding inUse
   used-good n u = not-true _ (and-left (not (bad p (b .chip) n)) _ u)
 
@@ -97,8 +97,8 @@ module _ (p : Params) (b : Board) (acc : StartAdmitted p b) where
         where
           unkept : keptBlock p (b .chip) (regionNamed p (block p (b .chip) n)) (vblockNamed p (block p (b .chip) n)) ≡ n → ⊥
           unkept k =
-              let lr = own-region p z (b .chip) (acc .starts) n in
-              let lv = own-vblock p z (b .chip) (acc .starts) n h u in
+              let lr = region-low p z (block p (b .chip) n) in
+              let lv = vblock-low p (block p (b .chip) n) (sounds p z (b .chip) (acc .starts) n h u) in
               never (named-at n (regionNamed p (block p (b .chip) n)) (vblockNamed p (block p (b .chip) n)) lr lv k) (w .1)
       go (inr u) = rw (swept .kept n (unfold leftOver in rw u)) (not-false _ (blank u))
         where
