@@ -183,6 +183,11 @@ module _ (p : Params) (b : Board) (q : Request) (e : replyOf p b (write q) ≡ A
   unfolding plan
   room = makes p (acc .sized) b (acc .tables) (requestRegion p q) region (neat p (requestRegion p q) (view p b (requestRegion p q)) (acc .tidy (requestRegion p q) region))
 
+  -- the same blocks are reserved
+  pub write-same-reserved : (n : ℕ) → n < p .N → eqb (bstAt (b .bst) n) 2 ≡ eqb (bstAt ((written p b q) .bst) n) 2
+  unfolding written plan
+  write-same-reserved n h = reserved-same p b q acc (requestRegion p q) refl plan room (stamp-left p b q e) n h
+
   -- a reserved block keeps its bytes, and every other is not bad before or after
   pub write-same-bad : (n : ℕ) → n < p .N → bad p ((written p b q) .chip) n ≡ bad p (b .chip) n
   unfolding written plan
@@ -197,5 +202,5 @@ module _ (p : Params) (b : Board) (q : Request) (e : replyOf p b (write q) ≡ A
       go : Dec (bstAt (b .bst) n ≡ 2) → bad p ((written p b q) .chip) n ≡ bad p (b .chip) n
       go (yes k) = bytes-bad p (b .chip) ((written p b q) .chip) n (reserved-bytes p b q acc (requestRegion p q) refl plan room (stamp-left p b q e) n h k)
       go (no k) =
-          unreserved-good p (written p b q) after n h (eqb-false _ _ (sym (reserved-same p b q acc (requestRegion p q) refl plan room (stamp-left p b q e) n h) ∙ ne-eqb (bstAt (b .bst) n) 2 k))
+          unreserved-good p (written p b q) after n h (eqb-false _ _ (sym (write-same-reserved n h) ∙ ne-eqb (bstAt (b .bst) n) 2 k))
           ∙ sym (unreserved-good p b before n h k)

@@ -57,7 +57,7 @@ module _ (p : Params) (b : Board) (e : replyOf p b format ≡ Accepted) where
   unfolding formatted formatOps eraseWhere erasesBelow
   cleared = erases-ran p good (b .chip) chip-fits (p .N) (omega arith)
 
-  kind : (m : ℕ) → m < p .N → bstAt ((formatted p b) .bst) m ≡ cond (bad p (b .chip) m) 2 0
+  pub kind : (m : ℕ) → m < p .N → bstAt ((formatted p b) .bst) m ≡ cond (bad p (b .chip) m) 2 0
   unfolding bstAt formatted
   kind m h = tab-at (p .N) (λ n. cond (bad p (b .chip) n) 2 0) m 0 h
 

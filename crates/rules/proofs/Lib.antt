@@ -24,6 +24,7 @@ pub mod Victims
 pub mod ReclaimView
 pub mod Reclaims
 pub mod Writes
+pub mod PlanCases
 pub mod WritePromise
 pub mod Erases
 pub mod FormatPromise

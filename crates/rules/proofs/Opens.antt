@@ -70,15 +70,15 @@ all-full p z r vw neat no-room u h a = go (neat .opened)
         pick (no e) = w .1 .full u h e a
 
 module _ (p : Params) (z : Sizes p) (r : ℕ) (vw : View) (neat : Neat p r vw) (no-room : hasRoom p vw ≡ false) (v : ℕ) (low : v < p .gamma) (lacks : assigned vw v ≡ false) where
-  body-here : (withRoom p vw (opens v)) .body v ≡ erasedBlock p
+  pub body-here : (withRoom p vw (opens v)) .body v ≡ erasedBlock p
   unfolding withRoom
   body-here = updated-same (vw .body) v (erasedBlock p)
 
-  body-else : (u : ℕ) → (u ≡ v → ⊥) → (withRoom p vw (opens v)) .body u ≡ vw .body u
+  pub body-else : (u : ℕ) → (u ≡ v → ⊥) → (withRoom p vw (opens v)) .body u ≡ vw .body u
   unfolding withRoom
   body-else u ne = updated-other (vw .body) v (erasedBlock p) u ne
 
-  seg-same : (c : ℕ) → (withRoom p vw (opens v)) .segOf c ≡ vw .segOf c
+  pub seg-same : (c : ℕ) → (withRoom p vw (opens v)) .segOf c ≡ vw .segOf c
   unfolding withRoom
   seg-same c = refl
 

@@ -76,7 +76,7 @@ module _ (p : Params) (vw : View) (c : ℕ) where
   unfolding without updated
   gone = rw (eq-eqb c c refl)
 
-  other : (x : ℕ) → (x ≡ c → ⊥) → (without vw c) .segOf x ≡ vw .segOf x
+  pub other : (x : ℕ) → (x ≡ c → ⊥) → (without vw c) .segOf x ≡ vw .segOf x
   unfolding without updated
   other x ne = rw (ne-eqb x c ne)
 

@@ -1,25 +1,19 @@
 -- The promises of a write, over all allowed parameters.
 -- Assumes nothing.
 use mathlib.Core.Path.{_≡_, refl, sym, _∙_}
-use mathlib.Core.Logic.{_⊎_, inl, inr}
 use Prim.Native.Nat.{ℕ, zero, suc, _+_, _-_, _*_, _≤_, _<_}
 use native.Mathlib.Nat.{mod-lt, mul-zero, mul-le-mul, le-refl}
 use native.Mathlib.Omega.{arith}
-use mathlib.Core.Bool.{true, false, not, false≢true}
+use mathlib.Core.Bool.{true}
 use mathlib.Core.List.{List, [], _∷_, _++_}
-use lib.Dec.{eqb}
-use borrow.Author.Tests.{eqb-true, eqb-false, not-true, not-false}
 use lib.ListN.{length, length-map}
 use Rattle.lists.specs.Below.{joinBelow}
 use Rattle.lists.specs.Parts.{part}
-use Rattle.lists.proofs.Parts.{next}
-use Rattle.lists.proofs.Searches.{first-spec, least-spec}
-use Rattle.lists.proofs.Tests.{so}
 use Rattle.rules.specs.declared.Params.{Params}
 use Rattle.rules.specs.declared.Reply.the-variants.{Accepted}
 use Rattle.rules.specs.Parameters.{blockBytes, frames, pages}
 use Rattle.rules.specs.Numbers.{regionOf, sectorOf, vblockOf}
-use Rattle.rules.specs.Tables.{Board, none}
+use Rattle.rules.specs.Tables.{Board}
 use Rattle.rules.specs.Pages.{filled, frame, page}
 use Rattle.rules.specs.Regions.{View, assigned, sector, validFrames, view}
 use Rattle.rules.specs.Orderly.{orderly}
@@ -31,7 +25,6 @@ use Rattle.rules.specs.Write.{
   copies,
   eraseOps,
   hasRoom,
-  lowestUnassigned,
   newFrame,
   nextStamp,
   opens,
@@ -42,7 +35,6 @@ use Rattle.rules.specs.Write.{
   planVBlock,
   reclaims,
   roomOps,
-  victim,
   writeOps,
   written,
   writtenBy,
@@ -50,68 +42,32 @@ use Rattle.rules.specs.Write.{
 use Rattle.rules.specs.Replies.{lengthsFit, replyOf}
 use Rattle.rules.specs.Requests.{Request, write, requestCluster, requestRegion}
 use Rattle.rules.specs.Machine.{viewAfter}
-use Rattle.rules.proofs.Admitted.{Admitted, admitted, stamp-left, write-checks}
+use Rattle.rules.proofs.Admitted.{admitted, stamp-left, write-checks}
 use Rattle.rules.proofs.Continues.{Makes, continue-base, continue-makes, is-open}
 use Rattle.rules.proofs.Sizes.{Sizes}
 use Rattle.rules.proofs.Opens.{open-makes}
+use Rattle.rules.proofs.PlanCases.{Case, goes-on, plan-case, renews, takes}
 use Rattle.rules.proofs.Reclaims.{reclaim-makes}
 use Rattle.rules.proofs.RegionFacts.{Neat, neat}
 use Rattle.rules.proofs.TableFacts.{Tables, lengths-out}
-use Rattle.rules.proofs.Victims.{victim-room}
 use Rattle.rules.proofs.Views.{body-size}
 use Rattle.rules.proofs.Writes.{others-same, own-is, reads-else, reads-given, reads-rest, tables-after, write-clean, write-orderly, write-marks}
 
 -- ---- every plan makes room
 
 module _ (p : Params) (z : Sizes p) (b : Board) (t : Tables p b) (r : ℕ) (region : r < p .mu) (nt : Neat p r (view p b r)) where
-  γ-few : p .gamma ≤ none
-  γ-few = omega (arith, next (p .gamma) 0 (p .d) (z .segments), z .few)
-
   to-continue : hasRoom p (view p b r) ≡ true → Makes p b r (continues (vblockOf p ((view p b r) .lastSeg)) (filled p ((view p b r) .body (vblockOf p ((view p b r) .lastSeg)))))
   to-continue h =
       let s : (u : ℕ) → u < p .gamma → assigned (view p b r) u ≡ true → length ((view p b r) .body u) ≡ blockBytes p = λ u k a. body-size p z b t r u region k a in
       continue-makes p z b t r region nt _ _ (continue-base p z r (view p b r) nt s h) ((is-open p z r (view p b r) nt s h) .has)
 
-  to-open : hasRoom p (view p b r) ≡ false → (lowestUnassigned p (view p b r) ≡ none → ⊥) → Makes p b r (opens (lowestUnassigned p (view p b r)))
-  unfolding lowestUnassigned
-  to-open h ne = go (first-spec none (p .gamma) (λ v. not (assigned (view p b r) v)) γ-few)
-    where
-      go : ((lowestUnassigned p (view p b r) ≡ none) × ((i : ℕ) → i < p .gamma → not (assigned (view p b r) i) ≡ false))
-          ⊎ ((lowestUnassigned p (view p b r) < p .gamma) × (not (assigned (view p b r) (lowestUnassigned p (view p b r))) ≡ true)) → Makes p b r (opens (lowestUnassigned p (view p b r)))
-      go (inl w) = absurd (ne (w .0))
-      go (inr w) = open-makes p z b t r region nt h (lowestUnassigned p (view p b r)) (w .0) (not-true _ (w .1))
-
-  every : lowestUnassigned p (view p b r) ≡ none → (u : ℕ) → u < p .gamma → assigned (view p b r) u ≡ true
-  unfolding lowestUnassigned
-  every e u k = go (first-spec none (p .gamma) (λ v. not (assigned (view p b r) v)) γ-few)
-    where
-      go : ((lowestUnassigned p (view p b r) ≡ none) × ((i : ℕ) → i < p .gamma → not (assigned (view p b r) i) ≡ false))
-          ⊎ ((lowestUnassigned p (view p b r) < p .gamma) × (not (assigned (view p b r) (lowestUnassigned p (view p b r))) ≡ true)) → assigned (view p b r) u ≡ true
-      go (inl w) = not-false _ (w .1 u k)
-      go (inr w) = absurd (omega (arith, γ-few, e, w .0))
-
-  to-reclaim : hasRoom p (view p b r) ≡ false → lowestUnassigned p (view p b r) ≡ none → Makes p b r (reclaims (victim p (view p b r)))
-  unfolding victim
-  to-reclaim h e = go (least-spec (λ v. length (validFrames p (view p b r) v)) none (p .gamma) (λ v. true) γ-few)
-    where
-      go : ((victim p (view p b r) ≡ none) × ((i : ℕ) → i < p .gamma → true ≡ false))
-          ⊎ ((victim p (view p b r) < p .gamma) × (true ≡ true)
-          × ((i : ℕ) → i < p .gamma → true ≡ true → length (validFrames p (view p b r) (victim p (view p b r))) ≤ length (validFrames p (view p b r) i)))
-          → Makes p b r (reclaims (victim p (view p b r)))
-      go (inl w) = absurd (false≢true (sym (w .1 0 (z .vblocks))))
-      go (inr w) =
-          reclaim-makes p z b t r region nt h (every e) (victim p (view p b r)) (w .0)
-          (victim-room p z (view p b r) r nt h (every e) (victim p (view p b r)) (w .0) (λ u k. w .2 u k refl))
-
   pub makes : Makes p b r (planOf p (view p b r))
-  unfolding planOf
-  makes = go (so (hasRoom p (view p b r))) (so (eqb (lowestUnassigned p (view p b r)) none))
+  makes = go (planOf p (view p b r)) (plan-case p z r (view p b r) nt)
     where
-      go : (hasRoom p (view p b r) ≡ true) ⊎ (hasRoom p (view p b r) ≡ false) → (eqb (lowestUnassigned p (view p b r)) none ≡ true) ⊎ (eqb (lowestUnassigned p (view p b r)) none ≡ false)
-          → Makes p b r (planOf p (view p b r))
-      go (inl h) s = rw h (to-continue h)
-      go (inr h) (inl e) = rw (h, e) (to-reclaim h (eqb-true _ _ e))
-      go (inr h) (inr e) = rw (h, e) (to-open h (eqb-false _ _ e))
+      go : (pl : Plan) → Case p (view p b r) pl → Makes p b r pl
+      go pl (goes-on h e) = rw e (to-continue h)
+      go pl (takes h v low lacks e) = rw e (open-makes p z b t r region nt h v low lacks)
+      go pl (renews h every v low few e) = rw e (reclaim-makes p z b t r region nt h every v low few)
 
 -- ---- the counts
 

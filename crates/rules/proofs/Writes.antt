@@ -72,10 +72,10 @@ module _ (p : Params) (b : Board) (q : Request) (acc : Admitted p b q) (r : ℕ)
   sized-r : (v : ℕ) → v < p .gamma → assigned (view p b r) v ≡ true → length ((view p b r) .body v) ≡ blockBytes p
   sized-r v h a = body-size p (acc .sized) b (acc .tables) r v region h a
 
-  sheet : Sheet p (planVBlock pl) (requestCluster p q) (newFrame p (view p b r) q (nextStamp b r) (planVBlock pl))
+  pub sheet : Sheet p (planVBlock pl) (requestCluster p q) (newFrame p (view p b r) q (nextStamp b r) (planVBlock pl))
   sheet = host-sheet p (acc .sized) (view p b r) sized-r q (acc .asked) (neat-r .entries (requestCluster p q) (acc .asked .cluster)) (nextStamp b r) (planVBlock pl) left
 
-  sheet-is : sheet .stamp ≡ nextStamp b r
+  pub sheet-is : sheet .stamp ≡ nextStamp b r
   unfolding sheet
   sheet-is = host-stamp p (acc .sized) (view p b r) sized-r q (acc .asked) (neat-r .entries (requestCluster p q) (acc .asked .cluster)) (nextStamp b r) (planVBlock pl) left
 

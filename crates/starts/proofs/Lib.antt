@@ -1,5 +1,8 @@
 pub mod Timely
 pub mod RoomTimely
+pub mod Carries
+pub mod Written
+pub mod Stands
 pub mod Found
 pub mod KeptBlocks
 pub mod StartTables

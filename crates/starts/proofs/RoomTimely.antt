@@ -1,38 +1,32 @@
 -- What the stamps of a region's whole frames say is kept by a plan that makes room: every whole frame that then stands stood before, with its stamp, and CT leads to the same frames.
 -- Assumes nothing.
-use mathlib.Core.Path.{_≡_, refl, sym, ap, _∙_}
+use mathlib.Core.Path.{_≡_, sym, ap, _∙_}
 use mathlib.Core.Logic.{_⊎_, inl, inr}
 use Prim.Native.Nat.{ℕ, _/_, _≤_, _<_}
 use native.Mathlib.Omega.{arith}
 use native.Mathlib.Decide.{ℕ-discrete, decLt}
-use mathlib.Core.Bool.{true, false, not}
+use mathlib.Core.Bool.{true, false}
 use mathlib.Core.List.{List}
-use lib.Dec.{eqb}
 use lib.ListN.{length}
-use borrow.Author.Tests.{eqb-false, eqb-true, not-false, not-true}
 use Rattle.lists.specs.Below.{countBelow}
-use Rattle.lists.proofs.Joins.{updated-other, updated-same}
 use Rattle.lists.proofs.Ranks.{keep-at, keep-length, rank-low}
-use Rattle.lists.proofs.Searches.{first-spec}
-use Rattle.lists.proofs.Tests.{never, so}
+use Rattle.lists.proofs.Tests.{never}
 use Rattle.rules.specs.declared.Params.{Params}
 use Rattle.rules.specs.Parameters.{blockBytes, frames}
 use Rattle.rules.specs.Numbers.{placeOf, segmentOf, vblockOf}
-use Rattle.rules.specs.Tables.{Board, none}
+use Rattle.rules.specs.Tables.{none}
 use Rattle.rules.specs.Pages.{frame, held, holds, lastIn, stampOf}
-use Rattle.rules.specs.Regions.{View, assigned, frameOf, valid, validFrames, view}
-use Rattle.rules.specs.Write.{Plan, continues, hasRoom, lowestUnassigned, opens, planFrame, planOf, planVBlock, reclaims}
+use Rattle.rules.specs.Regions.{View, assigned, frameOf, valid, validFrames}
+use Rattle.rules.specs.Write.{hasRoom, opens, reclaims}
 use Rattle.rules.specs.Machine.{erasedBlock, withRoom}
-use Rattle.rules.proofs.Continues.{Makes}
 use Rattle.rules.proofs.Frames.{erased-holds, seg-low, seg-place, seg-vblock}
 use Rattle.rules.proofs.Opens.{fresh-frame}
+use Rattle.rules.proofs.Opens as opening
 use Rattle.rules.proofs.ReclaimView.{body-else, copy-valid, frame-copy, nth-spec, nthValid, reclaim-base, stays}
 use Rattle.rules.proofs.RegionFacts.{Entry, Neat, good-held, neat-fronts}
 use Rattle.rules.proofs.Sizes.{Sizes}
-use Rattle.rules.proofs.TableFacts.{Tables}
 use Rattle.rules.proofs.ValidFrames.{held-is, is-valid}
 use Rattle.rules.proofs.Victims.{Valid, valid-one, valid-out}
-use Rattle.rules.proofs.Views.{body-size}
 use Rattle.starts.specs.Timely.{Timely, WholeAt, frameStamp}
 use Rattle.starts.proofs.Timely.{whole-good, whole-low}
 
@@ -78,12 +72,12 @@ module _ (p : Params) (z : Sizes p) (r : ℕ) (vw : View) (neat : Neat p r vw) (
   names-v c f h ok e = ap (vw .segOf) (sym e) ∙ ok .names
 
   -- a cluster whose entry names another block keeps its entry, and the frame is where it was
-  kept-frame : (c : ℕ) → Entry p vw c → (vblockOf p (vw .segOf c) ≡ v → ⊥) → frameOf p (withRoom p vw (reclaims v)) c ≡ frameOf p vw c
+  kept-seg : (c : ℕ) → (vblockOf p (vw .segOf c) ≡ v → ⊥) → (withRoom p vw (reclaims v)) .segOf c ≡ vw .segOf c
+  kept-seg c ne = stays p z r vw neat no-room every sized v low few c (λ f h ok is. ne (ap (vblockOf p) (names-v c f h ok is) ∙ seg-vblock p z v f h))
+
+  kept-frame : (c : ℕ) → (vblockOf p (vw .segOf c) ≡ v → ⊥) → frameOf p (withRoom p vw (reclaims v)) c ≡ frameOf p vw c
   unfolding frameOf
-  kept-frame c e ne =
-      let s : (withRoom p vw (reclaims v)) .segOf c ≡ vw .segOf c =
-      stays p z r vw neat no-room every sized v low few c (λ f h ok is. ne (ap (vblockOf p) (names-v c f h ok is) ∙ seg-vblock p z v f h)) in
-      rw (s, body-else p z r vw neat no-room every sized v low few (vblockOf p (vw .segOf c)) ne)
+  kept-frame c ne = rw (kept-seg c ne, body-else p z r vw neat no-room every sized v low few (vblockOf p (vw .segOf c)) ne)
 
   -- one whose entry names the victim has its frame among the copies, valid where it now stands
   module _ (c f : ℕ) (h : f < frames p) (ok : Valid p vw v f) (is : held p (frame p (vw .body v) f) ≡ c) where
@@ -104,31 +98,69 @@ module _ (p : Params) (z : Sizes p) (r : ℕ) (vw : View) (neat : Neat p r vw) (
     copy : frame p ((withRoom p vw (reclaims v)) .body v) rank ≡ frame p (vw .body v) f
     copy = frame-copy p z r vw neat no-room every sized v low few rank few-ranks ∙ ap (frame p (vw .body v)) nth-rank
 
+    copy-held : held p (frame p ((withRoom p vw (reclaims v)) .body v) rank) ≡ c
+    copy-held = ap (held p) copy ∙ is
+
+    moved-seg : (withRoom p vw (reclaims v)) .segOf c ≡ segmentOf p v rank
+    moved-seg = ap ((withRoom p vw (reclaims v)) .segOf) (sym copy-held) ∙ (copy-valid p z r vw neat no-room every sized v low few rank few-ranks) .names
+
     moved-frame : frameOf p (withRoom p vw (reclaims v)) c ≡ frame p (vw .body v) f
     unfolding frameOf
     moved-frame =
         let ok′ = copy-valid p z r vw neat no-room every sized v low few rank few-ranks in
-        let n : held p (frame p ((withRoom p vw (reclaims v)) .body v) rank) ≡ c = ap (held p) copy ∙ is in
-        let s : (withRoom p vw (reclaims v)) .segOf c ≡ segmentOf p v rank = ap ((withRoom p vw (reclaims v)) .segOf) (sym n) ∙ ok′ .names in
-        let l : lastIn p ((withRoom p vw (reclaims v)) .body v) (rank / p .beta) c ≡ rank = ap (lastIn p ((withRoom p vw (reclaims v)) .body v) (rank / p .beta)) (sym n) ∙ ok′ .last in
-        rw (s, seg-vblock p z v rank rank-frames, seg-place p z v rank rank-frames, l) copy
+        let l : lastIn p ((withRoom p vw (reclaims v)) .body v) (rank / p .beta) c ≡ rank = ap (lastIn p ((withRoom p vw (reclaims v)) .body v) (rank / p .beta)) (sym copy-held) ∙ ok′ .last in
+        rw (moved-seg, seg-vblock p z v rank rank-frames, seg-place p z v rank rank-frames, l) copy
+
+  -- the valid frame of a cluster whose entry names the victim
+  last-of : ℕ → ℕ
+  last-of c = lastIn p (vw .body v) (placeOf p (vw .segOf c)) c
+
+  module _ (c : ℕ) (e : Entry p vw c) (at : vblockOf p (vw .segOf c) ≡ v) where
+    last-low : last-of c < frames p
+    unfolding last-of
+    last-low = rw at at (e .held)
+
+    last-valid : Valid p vw v (last-of c)
+    unfolding last-of
+    last-valid = rw at at (is-valid p z r vw (neat-fronts neat) c e)
+
+    last-held : held p (frame p (vw .body v) (last-of c)) ≡ c
+    unfolding last-of
+    last-held = rw at at (held-is p z r vw (neat-fronts neat) c e)
 
   -- the valid frame of a cluster is the one it was, byte for byte
   reclaim-frame : (c : ℕ) → Entry p vw c → frameOf p (withRoom p vw (reclaims v)) c ≡ frameOf p vw c
   reclaim-frame c e = go (ℕ-discrete (vblockOf p (vw .segOf c)) v)
     where
       go : Dec (vblockOf p (vw .segOf c) ≡ v) → frameOf p (withRoom p vw (reclaims v)) c ≡ frameOf p vw c
-      go (no ne) = kept-frame c e ne
-      go (yes at) =
-          let f = lastIn p (vw .body v) (placeOf p (vw .segOf c)) c in
-          let h : f < frames p = rw at at (e .held) in
-          let ok : Valid p vw v f = rw at at (is-valid p z r vw (neat-fronts neat) c e) in
-          let is : held p (frame p (vw .body v) f) ≡ c = rw at at (held-is p z r vw (neat-fronts neat) c e) in
-          moved-frame c f h ok is ∙ unfold frameOf in rw at
+      go (no ne) = kept-frame c ne
+      go (yes at) = moved-frame c (last-of c) (last-low c e at) (last-valid c e at) (last-held c e at) ∙ unfold frameOf last-of in rw at
 
   -- a cluster without an entry gets none
   reclaim-none : (c : ℕ) → vw .segOf c ≡ none → (withRoom p vw (reclaims v)) .segOf c ≡ none
   reclaim-none c e = stays p z r vw neat no-room every sized v low few c (λ f h ok is. omega (arith, names-v c f h ok is, seg-low p z v f h low, z .few)) ∙ e
+
+  -- and one with an entry keeps one
+  pub reclaim-lives : (c : ℕ) → c < p .C → (withRoom p vw (reclaims v)) .segOf c ≡ none → vw .segOf c ≡ none
+  reclaim-lives c h n = go (neat .entries c h)
+    where
+      go : (vw .segOf c ≡ none) ⊎ Entry p vw c → vw .segOf c ≡ none
+      go (inl e) = e
+      go (inr e) = pick (ℕ-discrete (vblockOf p (vw .segOf c)) v)
+        where
+          pick : Dec (vblockOf p (vw .segOf c) ≡ v) → vw .segOf c ≡ none
+          pick (no ne) = sym (kept-seg c ne) ∙ n
+          pick (yes at) =
+              let ok = last-valid c e at in
+              let is = last-held c e at in
+              let l = last-low c e at in
+              absurd (omega (
+                arith,
+                moved-seg c (last-of c) l ok is,
+                n,
+                seg-low p z v (rank c (last-of c) l ok is) (rank-frames c (last-of c) l ok is) low,
+                z .few,
+              ))
 
   pub reclaim-timely : Timely p vw → Timely p (withRoom p vw (reclaims v))
   reclaim-timely t =
@@ -162,25 +194,19 @@ module _ (p : Params) (z : Sizes p) (r : ℕ) (vw : View) (neat : Neat p r vw) (
 
 -- ---- a plan that opens a block: nothing stands there yet
 
-module _ (p : Params) (z : Sizes p) (r : ℕ) (vw : View) (neat : Neat p r vw) (v : ℕ) (lacks : assigned vw v ≡ false) where
-  open-here : (withRoom p vw (opens v)) .body v ≡ erasedBlock p
-  unfolding withRoom
-  open-here = updated-same (vw .body) v (erasedBlock p)
-
+module _ (p : Params) (z : Sizes p) (r : ℕ) (vw : View) (neat : Neat p r vw) (no-room : hasRoom p vw ≡ false) (v : ℕ) (low : v < p .gamma) (lacks : assigned vw v ≡ false) where
   open-else : (u : ℕ) → (u ≡ v → ⊥) → (withRoom p vw (opens v)) .body u ≡ vw .body u
-  unfolding withRoom
-  open-else u ne = updated-other (vw .body) v (erasedBlock p) u ne
+  open-else = opening.body-else p z r vw neat no-room v low lacks
 
   seg-same : (c : ℕ) → (withRoom p vw (opens v)) .segOf c ≡ vw .segOf c
-  unfolding withRoom
-  seg-same c = refl
+  seg-same = opening.seg-same p z r vw neat no-room v low lacks
 
   open-origin : (c u g : ℕ) → WholeAt p (withRoom p vw (opens v)) c u g → (frame p ((withRoom p vw (opens v)) .body u) g ≡ frame p (vw .body u) g) × WholeAt p vw c u g
   open-origin c u g a = go (ℕ-discrete u v)
     where
       go : Dec (u ≡ v) → (frame p ((withRoom p vw (opens v)) .body u) g ≡ frame p (vw .body u) g) × WholeAt p vw c u g
       go (yes k) =
-          let e : holds p (frame p (erasedBlock p) g) c ≡ true = rw (k, open-here) at (a .whole) in
+          let e : holds p (frame p (erasedBlock p) g) c ≡ true = rw (k, opening.body-here p z r vw neat no-room v low lacks) at (a .whole) in
           absurd (never e (erased-holds p (frame p (erasedBlock p) g) c (fresh-frame p g)))
       go (no k) =
           let e : frame p ((withRoom p vw (opens v)) .body u) g ≡ frame p (vw .body u) g = ap (λ (y : List ℕ). frame p y g) (open-else u k) in
@@ -205,39 +231,3 @@ module _ (p : Params) (z : Sizes p) (r : ℕ) (vw : View) (neat : Neat p r vw) (
           → frameStamp p (withRoom p vw (opens v)) u g ≤ stampOf p (frameOf p (withRoom p vw (opens v)) c)
       newest c u g some a (inl e) = absurd (some (seg-same c ∙ e))
       newest c u g some a (inr e) = rw (open-stamp c u g a, open-frame c e) (t .newest c u g (λ x. some (seg-same c ∙ x)) ((open-origin c u g a) .1))
-
--- ---- the region's plan
-
-module _ (p : Params) (z : Sizes p) (b : Board) (t : Tables p b) (r : ℕ) (region : r < p .mu) (neat : Neat p r (view p b r)) where
-  -- what the rules for the choice of a plan say of it
-  abbrev Fits : Plan → Type 0
-  Fits (continues v f) = Unit {0}
-  Fits (opens v) = assigned (view p b r) v ≡ false
-  Fits (reclaims v) = (hasRoom p (view p b r) ≡ false) × ((u : ℕ) → u < p .gamma → assigned (view p b r) u ≡ true)
-
-  fits : Fits (planOf p (view p b r))
-  unfolding planOf lowestUnassigned
-  fits = go (so (hasRoom p vw)) (so (eqb (lowestUnassigned p vw) none)) (first-spec none (p .gamma) (λ v. not (assigned vw v)) (omega (arith, z .gammaHigh)))
-    where
-      vw : View
-      vw = view p b r
-
-      go : (hasRoom p vw ≡ true) ⊎ (hasRoom p vw ≡ false) → (eqb (lowestUnassigned p vw) none ≡ true) ⊎ (eqb (lowestUnassigned p vw) none ≡ false)
-          → ((lowestUnassigned p vw ≡ none) × ((i : ℕ) → i < p .gamma → not (assigned vw i) ≡ false))
-          ⊎ ((lowestUnassigned p vw < p .gamma) × (not (assigned vw (lowestUnassigned p vw)) ≡ true)) → Fits (planOf p vw)
-      go (inl h) s w = rw h tt
-      go (inr h) (inl s) (inl w) = rw (h, s) (h, λ u k. not-false _ (w .1 u k))
-      go (inr h) (inl s) (inr w) = absurd (omega (arith, eqb-true (lowestUnassigned p vw) none s, w .0, z .gammaHigh))
-      go (inr h) (inr s) (inl w) = absurd (eqb-false _ _ s (w .0))
-      go (inr h) (inr s) (inr w) = rw (h, s) (not-true _ (w .1))
-
-  by-plan : (pl : Plan) → Makes p b r pl → Fits pl → Timely p (view p b r) → Timely p (withRoom p (view p b r) pl)
-  unfolding planVBlock planFrame
-  by-plan (continues v f) m h s = unfold withRoom in s
-  by-plan (opens v) m h s = open-timely p z r (view p b r) neat v h s
-  by-plan (reclaims v) m h s =
-      reclaim-timely p z r (view p b r) neat (h .0) (h .1) (λ u k. body-size p z b t r u region k (h .1 u k)) v (m .base .ready .mine) (m .base .ready .low) s
-
-  -- the room that a write's plan makes
-  pub room-timely : Makes p b r (planOf p (view p b r)) → Timely p (view p b r) → Timely p (withRoom p (view p b r) (planOf p (view p b r)))
-  room-timely m s = by-plan (planOf p (view p b r)) m fits s

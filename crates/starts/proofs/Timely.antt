@@ -92,9 +92,7 @@ module _ (p : Params) (z : Sizes p) (r : ℕ) (vw : View) (fronts : Fronts p r v
 
 -- ---- a host's frame
 
--- no stamp of the view's whole frames is above `top`, and the sheet's is
-module _ (p : Params) (z : Sizes p) (vw : View) (v f c : ℕ) (x : List ℕ) (ready : Ready p vw v f) (sheet : Sheet p v c x) (top : ℕ)
-    (bound : (d u g : ℕ) → WholeAt p vw d u g → frameStamp p vw u g ≤ top) (above : top < sheet .stamp) where
+module _ (p : Params) (z : Sizes p) (vw : View) (v f c : ℕ) (x : List ℕ) (ready : Ready p vw v f) (sheet : Sheet p v c x) where
   -- a frame of the view that is left is the new one, or stood there
   data Which (u g : ℕ) : Type 0 where
     new : u ≡ v → g ≡ f → frame p ((withFrame p vw v f c x) .body u) g ≡ x → Which u g
@@ -111,67 +109,77 @@ module _ (p : Params) (z : Sizes p) (vw : View) (v f c : ℕ) (x : List ℕ) (re
   stood : (d u g : ℕ) → frame p ((withFrame p vw v f c x) .body u) g ≡ frame p (vw .body u) g → WholeAt p (withFrame p vw v f c x) d u g → WholeAt p vw d u g
   stood d u g e a = record { block = a .block; low = a .low; whole = rw e at (a .whole) }
 
-  -- the new one's stamp is above
-  new-stamp : (u g : ℕ) → frame p ((withFrame p vw v f c x) .body u) g ≡ x → frameStamp p (withFrame p vw v f c x) u g ≡ sheet .stamp
-  new-stamp u g e = ap (stampOf p) e ∙ sheet-stamp p z v c x sheet
-
-  old-stamp : (d u g : ℕ) → frame p ((withFrame p vw v f c x) .body u) g ≡ frame p (vw .body u) g → WholeAt p (withFrame p vw v f c x) d u g → frameStamp p (withFrame p vw v f c x) u g ≤ top
-  old-stamp d u g e a = rw (ap (stampOf p) e) (bound d u g (stood d u g e a))
-
-  new-apart : (d v₁ f₁ v₂ f₂ : ℕ) → WholeAt p (withFrame p vw v f c x) d v₁ f₁ → WholeAt p (withFrame p vw v f c x) d v₂ f₂ → Timely p vw
-      → frameStamp p (withFrame p vw v f c x) v₁ f₁ ≡ frameStamp p (withFrame p vw v f c x) v₂ f₂ → (v₁ ≡ v₂) × (f₁ ≡ f₂)
-  new-apart d v₁ f₁ v₂ f₂ a b t e = go (which v₁ f₁) (which v₂ f₂)
+  -- a whole frame of another cluster stood there
+  pub put-old : (d u g : ℕ) → (d ≡ c → ⊥) → WholeAt p (withFrame p vw v f c x) d u g
+      → (frame p ((withFrame p vw v f c x) .body u) g ≡ frame p (vw .body u) g) × WholeAt p vw d u g
+  put-old d u g ne a = go (which u g)
     where
-      go : Which v₁ f₁ → Which v₂ f₂ → (v₁ ≡ v₂) × (f₁ ≡ f₂)
-      go (new h k i) (new h′ k′ i′) = (h ∙ sym h′, k ∙ sym k′)
-      go (new h k i) (old i′) = absurd (omega (arith, new-stamp v₁ f₁ i, old-stamp d v₂ f₂ i′ b, e, above))
-      go (old i) (new h′ k′ i′) = absurd (omega (arith, new-stamp v₂ f₂ i′, old-stamp d v₁ f₁ i a, e, above))
-      go (old i) (old i′) = t .apart d v₁ f₁ v₂ f₂ (stood d v₁ f₁ i a) (stood d v₂ f₂ i′ b) (sym (ap (stampOf p) i) ∙ e ∙ ap (stampOf p) i′)
-
-  -- no frame of the view stands behind the new one
-  none-behind : (d g : ℕ) → f < g → WholeAt p vw d v g → ⊥
-  none-behind d g l a = never (a .whole) (erased-holds p (frame p (vw .body v) g) d (ready .rest g (omega arith) (a .low)))
-
-  new-rises : (d u g h : ℕ) → WholeAt p (withFrame p vw v f c x) d u g → WholeAt p (withFrame p vw v f c x) d u h → Timely p vw → g / p .beta ≡ h / p .beta → g < h
-      → frameStamp p (withFrame p vw v f c x) u g < frameStamp p (withFrame p vw v f c x) u h
-  new-rises d u g h a b t s l = go (which u g) (which u h)
-    where
-      go : Which u g → Which u h → frameStamp p (withFrame p vw v f c x) u g < frameStamp p (withFrame p vw v f c x) u h
-      go (new j k i) (new j′ k′ i′) = absurd (omega (arith, k, k′, l))
-      go (new j k i) (old i′) = absurd (none-behind d h (rw (← k) l) (rw j at (stood d u h i′ b)))
-      go (old i) (new j′ k′ i′) = omega (arith, new-stamp u h i′, old-stamp d u g i a, above)
-      go (old i) (old i′) = let w = t .rises d u g h (stood d u g i a) (stood d u h i′ b) s l in rw (ap (stampOf p) i, ap (stampOf p) i′) w
-
-  own-frame : frameOf p (withFrame p vw v f c x) c ≡ x
-  unfolding frameOf
-  own-frame =
-      rw (seg-new p z vw v f c x ready sheet, seg-vblock p z v f (ready .low), seg-place p z v f (ready .low), last-new p z vw v f c x ready sheet, frame-new p z vw v f c x ready sheet)
-
-  other-frame : (d : ℕ) → (d ≡ c → ⊥) → (vw .segOf d ≡ none) ⊎ Entry p vw d → (vw .segOf d ≡ none → ⊥) → frameOf p (withFrame p vw v f c x) d ≡ frameOf p vw d
-  unfolding frameOf
-  other-frame d ne (inl e) some = absurd (some e)
-  other-frame d ne (inr e) some = rw (seg-old p z vw v f c x ready sheet d ne) (same-frame p z vw v f c x ready sheet d ne (vblockOf p (vw .segOf d)) (placeOf p (vw .segOf d)) (e .held))
-
-  -- a host write's frame keeps it
-  pub put-timely : Timely p vw → ((d u g : ℕ) → WholeAt p vw d u g → (vw .segOf d ≡ none) ⊎ Entry p vw d) → Timely p (withFrame p vw v f c x)
-  put-timely t entries =
-      record {
-        apart = λ d v₁ f₁ v₂ f₂ a b e. new-apart d v₁ f₁ v₂ f₂ a b t e;
-        rises = λ d u g h a b s l. new-rises d u g h a b t s l;
-        newest = λ d u g some a. newest d u g some a (ℕ-discrete d c) (which u g);
-      }
-    where
-      newest : (d u g : ℕ) → ((withFrame p vw v f c x) .segOf d ≡ none → ⊥) → WholeAt p (withFrame p vw v f c x) d u g → Dec (d ≡ c) → Which u g
-          → frameStamp p (withFrame p vw v f c x) u g ≤ stampOf p (frameOf p (withFrame p vw v f c x) d)
-      newest d u g some a (yes e) w = rw (e, own-frame, sheet-stamp p z v c x sheet) (top-of w)
-        where
-          top-of : Which u g → frameStamp p (withFrame p vw v f c x) u g ≤ sheet .stamp
-          top-of (new h k i) = omega (arith, new-stamp u g i)
-          top-of (old i) = omega (arith, old-stamp d u g i a, above)
-      newest d u g some a (no e) (new h k i) =
+      go : Which u g → (frame p ((withFrame p vw v f c x) .body u) g ≡ frame p (vw .body u) g) × WholeAt p vw d u g
+      go (new h k i) =
           let y : holds p x d ≡ true = rw i at (a .whole) in
-          absurd (e (sym (eqb-true c d (sym (sheet-holds p z v c x sheet d) ∙ y))))
-      newest d u g some a (no e) (old i) =
-          let b = stood d u g i a in
-          let s : vw .segOf d ≡ none → ⊥ = λ n. some (seg-old p z vw v f c x ready sheet d e ∙ n) in
-          rw (other-frame d e (entries d u g b) s, ap (stampOf p) i) (t .newest d u g s b)
+          absurd (ne (sym (eqb-true c d (sym (sheet-holds p z v c x sheet d) ∙ y))))
+      go (old i) = (i, stood d u g i a)
+
+  -- no stamp of the view's whole frames is above `top`, and the sheet's is
+  module _ (top : ℕ) (bound : (d u g : ℕ) → WholeAt p vw d u g → frameStamp p vw u g ≤ top) (above : top < sheet .stamp) where
+    -- the new one's stamp is above
+    new-stamp : (u g : ℕ) → frame p ((withFrame p vw v f c x) .body u) g ≡ x → frameStamp p (withFrame p vw v f c x) u g ≡ sheet .stamp
+    new-stamp u g e = ap (stampOf p) e ∙ sheet-stamp p z v c x sheet
+
+    old-stamp : (d u g : ℕ) → frame p ((withFrame p vw v f c x) .body u) g ≡ frame p (vw .body u) g → WholeAt p (withFrame p vw v f c x) d u g → frameStamp p (withFrame p vw v f c x) u g ≤ top
+    old-stamp d u g e a = rw (ap (stampOf p) e) (bound d u g (stood d u g e a))
+
+    new-apart : (d v₁ f₁ v₂ f₂ : ℕ) → WholeAt p (withFrame p vw v f c x) d v₁ f₁ → WholeAt p (withFrame p vw v f c x) d v₂ f₂ → Timely p vw
+        → frameStamp p (withFrame p vw v f c x) v₁ f₁ ≡ frameStamp p (withFrame p vw v f c x) v₂ f₂ → (v₁ ≡ v₂) × (f₁ ≡ f₂)
+    new-apart d v₁ f₁ v₂ f₂ a b t e = go (which v₁ f₁) (which v₂ f₂)
+      where
+        go : Which v₁ f₁ → Which v₂ f₂ → (v₁ ≡ v₂) × (f₁ ≡ f₂)
+        go (new h k i) (new h′ k′ i′) = (h ∙ sym h′, k ∙ sym k′)
+        go (new h k i) (old i′) = absurd (omega (arith, new-stamp v₁ f₁ i, old-stamp d v₂ f₂ i′ b, e, above))
+        go (old i) (new h′ k′ i′) = absurd (omega (arith, new-stamp v₂ f₂ i′, old-stamp d v₁ f₁ i a, e, above))
+        go (old i) (old i′) = t .apart d v₁ f₁ v₂ f₂ (stood d v₁ f₁ i a) (stood d v₂ f₂ i′ b) (sym (ap (stampOf p) i) ∙ e ∙ ap (stampOf p) i′)
+
+    -- no frame of the view stands behind the new one
+    none-behind : (d g : ℕ) → f < g → WholeAt p vw d v g → ⊥
+    none-behind d g l a = never (a .whole) (erased-holds p (frame p (vw .body v) g) d (ready .rest g (omega arith) (a .low)))
+
+    new-rises : (d u g h : ℕ) → WholeAt p (withFrame p vw v f c x) d u g → WholeAt p (withFrame p vw v f c x) d u h → Timely p vw → g / p .beta ≡ h / p .beta → g < h
+        → frameStamp p (withFrame p vw v f c x) u g < frameStamp p (withFrame p vw v f c x) u h
+    new-rises d u g h a b t s l = go (which u g) (which u h)
+      where
+        go : Which u g → Which u h → frameStamp p (withFrame p vw v f c x) u g < frameStamp p (withFrame p vw v f c x) u h
+        go (new j k i) (new j′ k′ i′) = absurd (omega (arith, k, k′, l))
+        go (new j k i) (old i′) = absurd (none-behind d h (rw (← k) l) (rw j at (stood d u h i′ b)))
+        go (old i) (new j′ k′ i′) = omega (arith, new-stamp u h i′, old-stamp d u g i a, above)
+        go (old i) (old i′) = let w = t .rises d u g h (stood d u g i a) (stood d u h i′ b) s l in rw (ap (stampOf p) i, ap (stampOf p) i′) w
+
+    own-frame : frameOf p (withFrame p vw v f c x) c ≡ x
+    unfolding frameOf
+    own-frame =
+        rw (seg-new p z vw v f c x ready sheet, seg-vblock p z v f (ready .low), seg-place p z v f (ready .low), last-new p z vw v f c x ready sheet, frame-new p z vw v f c x ready sheet)
+
+    other-frame : (d : ℕ) → (d ≡ c → ⊥) → (vw .segOf d ≡ none) ⊎ Entry p vw d → (vw .segOf d ≡ none → ⊥) → frameOf p (withFrame p vw v f c x) d ≡ frameOf p vw d
+    unfolding frameOf
+    other-frame d ne (inl e) some = absurd (some e)
+    other-frame d ne (inr e) some = rw (seg-old p z vw v f c x ready sheet d ne) (same-frame p z vw v f c x ready sheet d ne (vblockOf p (vw .segOf d)) (placeOf p (vw .segOf d)) (e .held))
+
+    -- a host write's frame keeps it
+    pub put-timely : Timely p vw → ((d u g : ℕ) → WholeAt p vw d u g → (vw .segOf d ≡ none) ⊎ Entry p vw d) → Timely p (withFrame p vw v f c x)
+    put-timely t entries =
+        record {
+          apart = λ d v₁ f₁ v₂ f₂ a b e. new-apart d v₁ f₁ v₂ f₂ a b t e;
+          rises = λ d u g h a b s l. new-rises d u g h a b t s l;
+          newest = λ d u g some a. newest d u g some a (ℕ-discrete d c) (which u g);
+        }
+      where
+        newest : (d u g : ℕ) → ((withFrame p vw v f c x) .segOf d ≡ none → ⊥) → WholeAt p (withFrame p vw v f c x) d u g → Dec (d ≡ c) → Which u g
+            → frameStamp p (withFrame p vw v f c x) u g ≤ stampOf p (frameOf p (withFrame p vw v f c x) d)
+        newest d u g some a (yes e) w = rw (e, own-frame, sheet-stamp p z v c x sheet) (top-of w)
+          where
+            top-of : Which u g → frameStamp p (withFrame p vw v f c x) u g ≤ sheet .stamp
+            top-of (new h k i) = omega (arith, new-stamp u g i)
+            top-of (old i) = omega (arith, old-stamp d u g i a, above)
+        newest d u g some a (no e) w =
+            let o = put-old d u g e a in
+            let s : vw .segOf d ≡ none → ⊥ = λ n. some (seg-old p z vw v f c x ready sheet d e ∙ n) in
+            rw (other-frame d e (entries d u g (o .1)) s, ap (stampOf p) (o .0)) (t .newest d u g s (o .1))

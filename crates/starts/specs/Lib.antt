@@ -1,3 +1,4 @@
 pub mod Admitted
 pub mod Timely
 pub mod Again
+pub mod Stands
