@@ -1,13 +1,13 @@
 -- Blocks that pass a test, erased in rising order, as a format and a start do it: what becomes of the chip, and what is counted. By the blocks below k, for each k.
 -- Assumes nothing.
-use mathlib.Core.Path.{_≡_, refl, sym, ap, _∙_}
+use mathlib.Core.Path.{_≡_, refl, ap, _∙_}
 use Prim.Native.Nat.{ℕ, zero, suc, _+_, _*_, _≤_, _<_, min}
 use native.Mathlib.Numerals.{add-one}
 use native.Mathlib.Omega.{arith}
 use native.Mathlib.Decide.{ℕ-discrete}
 use mathlib.Core.Bool.{Bool, true, false, cond}
 use mathlib.Core.List.{List, [], _∷_, _++_}
-use lib.ListN.{length, replicate, set}
+use lib.ListN.{length, length-append, replicate, set}
 use Rattle.lists.specs.Below.{countBelow, joinBelow}
 use Rattle.lists.specs.Parts.{putPart}
 use Rattle.lists.proofs.Parts.{next}
@@ -54,6 +54,15 @@ erases-counted f (suc k) =
     one : (t : Bool) → (programsIn (cond t (erase k ∷ []) []) ≡ 0) × (erasesIn (cond t (erase k ∷ []) []) ≡ cond t 1 0)
     one true = (refl, refl)
     one false = (refl, refl)
+
+pub erases-long : (f : ℕ → Bool) (k : ℕ) → length (erasesBelow f k) ≡ countBelow k f
+unfolding erasesBelow joinBelow countBelow
+erases-long f zero = refl
+erases-long f (suc k) = length-append (erasesBelow f k) (cond (f k) (erase k ∷ []) []) ∙ rw (erases-long f k, one (f k))
+  where
+    one : (t : Bool) → length (cond t (erase k ∷ []) []) ≡ cond t 1 0
+    one true = refl
+    one false = refl
 
 pub erases-clean : (p : Params) (f : ℕ → Bool) (chip : List ℕ) (k : ℕ) → clean p chip (erasesBelow f k) ≡ true
 unfolding erasesBelow joinBelow clean

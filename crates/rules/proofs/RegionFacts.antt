@@ -165,7 +165,7 @@ pub block-in : (p : Params) (r v : ℕ) (blk : List ℕ) → blockRule p r v blk
 unfolding blockRule
 block-in p r v blk k = (ltb-true _ _ (and-left (ltb 0 (filled p blk)) _ k), up-to p r v _ blk (and-right (ltb 0 (filled p blk)) k))
 
-block-out : (p : Params) (r v : ℕ) (blk : List ℕ) → (0 < filled p blk) × UpTo p r v (filled p blk) blk → blockRule p r v blk ≡ true
+pub block-out : (p : Params) (r v : ℕ) (blk : List ℕ) → (0 < filled p blk) × UpTo p r v (filled p blk) blk → blockRule p r v blk ≡ true
 unfolding blockRule
 block-out p r v blk k = and-intro (lt-ltb _ _ (k .0)) (up-to-back p r v _ blk (k .1))
 

@@ -18,22 +18,21 @@ use Rattle.rules.specs.Tables.{Board, bstAt, btAt, none}
 use Rattle.rules.specs.Pages.{block}
 use Rattle.rules.specs.Regions.{View, largestStamp}
 use Rattle.rules.specs.Orderly.{blockRule, named}
-use Rattle.rules.specs.Traces.{NewTables, Op, eraseWhere, finish, replayChip, replayWear}
+use Rattle.rules.specs.Traces.{NewTables, Op, finish, replayChip, replayWear}
 use Rattle.rules.specs.Format.{bad, goodBlocks}
 use Rattle.rules.specs.Start.{foundBt, foundFst, foundSegment, foundView, inUse, keptBlock, leftOver, startOps, startable, started}
 use Rattle.rules.proofs.BadBlocks.{blank-good, bytes-bad}
-use Rattle.rules.proofs.Erases.{erasesBelow, none-pass}
 use Rattle.rules.proofs.Opens.{fresh-all, fresh-size}
 use Rattle.rules.proofs.Sizes.{Sizes, sizes}
 use Rattle.rules.proofs.TableFacts.{Tables}
 use Rattle.starts.specs.Admitted.{StartAdmitted}
 use Rattle.starts.specs.Again.{SameButWear}
 use Rattle.starts.proofs.Found.{same-fst, same-largest, same-segment}
-use Rattle.starts.proofs.KeptBlocks.{at-is}
+use Rattle.starts.proofs.KeptBlocks.{at-is, use-good}
 use Rattle.starts.proofs.Shows.{Shows, found-body, kept-is}
-use Rattle.starts.proofs.ShowsStarts.{left-x, shows-startable}
+use Rattle.starts.proofs.ShowsStarts.{no-erase, shows-startable}
 use Rattle.starts.proofs.StartPromise.{apart-left, body-same, once-left, rule-left, start-lengths}
-use Rattle.starts.proofs.StartTables.{kind, start-tables, swept, used-good}
+use Rattle.starts.proofs.StartTables.{kind, start-tables, swept}
 
 -- the tables that a start makes of a chip
 abbrev foundKind : Params → List ℕ → ℕ → ℕ
@@ -78,7 +77,7 @@ module _ (p : Params) (b : Board) (acc : StartAdmitted p b) where
       go : (leftOver p (b .chip) n ≡ true) ⊎ (leftOver p (b .chip) n ≡ false) → bad p ((started p b) .chip) n ≡ bad p (b .chip) n
       go (inl e) =
           let is = (swept p b acc) .done n h e in
-          blank-good p ((started p b) .chip) n z (rw is (fresh-size p)) (rw is (fresh-all p)) ∙ sym (used-good p b acc n (was e))
+          blank-good p ((started p b) .chip) n z (rw is (fresh-size p)) (rw is (fresh-all p)) ∙ sym (use-good p (b .chip) n (was e))
       go (inr e) = bytes-bad p (b .chip) ((started p b) .chip) n ((swept p b acc) .kept n e)
 
   pub good-same : goodBlocks p ((started p b) .chip) ≡ goodBlocks p (b .chip)
@@ -116,16 +115,8 @@ module _ (p : Params) (b : Board) (acc : StartAdmitted p b) where
   pub again-startable : startable p ((started p b) .chip) ≡ true
   again-startable = shows-startable p z ((started p b) .chip) (started p b) t (p .N) shows-itself (once-left p b acc) (apart-left p b acc)
 
-  none-left : (n : ℕ) → n < p .N → leftOver p ((started p b) .chip) n ≡ false
-  none-left n h = go (so (leftOver p ((started p b) .chip) n))
-    where
-      go : (leftOver p ((started p b) .chip) n ≡ true) ⊎ (leftOver p ((started p b) .chip) n ≡ false) → leftOver p ((started p b) .chip) n ≡ false
-      go (inl e) = absurd (omega (arith, (left-x p z ((started p b) .chip) (started p b) t (p .N) shows-itself n h e) .0))
-      go (inr e) = e
-
   pub again-ops : startOps p ((started p b) .chip) ≡ []
-  unfolding startOps eraseWhere erasesBelow
-  again-ops = none-pass (leftOver p ((started p b) .chip)) (p .N) none-left
+  again-ops = no-erase p z ((started p b) .chip) (started p b) t shows-itself
 
   again-kept : (r v : ℕ) → r < p .mu → v < p .gamma → keptBlock p ((started p b) .chip) r v ≡ keptBlock p (b .chip) r v
   unfolding started

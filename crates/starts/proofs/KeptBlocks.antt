@@ -17,6 +17,7 @@ use Rattle.lists.proofs.Tests.{all-at, and-intro, and-left, and-right, never, o
 use Rattle.rules.specs.declared.Params.{Params}
 use Rattle.rules.specs.Tables.{btAt, btEntry, none}
 use Rattle.rules.specs.Pages.{block, isFull}
+use Rattle.rules.specs.Format.{bad}
 use Rattle.rules.specs.Start.{
   foundBt,
   foundView,
@@ -49,6 +50,11 @@ region-low p z blk = mod-lt _ (z .regions)
 pub vblock-low : (p : Params) (blk : List ℕ) → sound p blk ≡ true → vblockNamed p blk < p .gamma
 unfolding sound
 vblock-low p blk h = ltb-true _ _ (and-left (ltb (vblockNamed p blk) (p .gamma)) _ h)
+
+-- one in use is not bad
+pub use-good : (p : Params) (chip : List ℕ) (n : ℕ) → inUse p chip n ≡ true → bad p chip n ≡ false
+unfolding inUse
+use-good p chip n u = not-true _ (and-left (not (bad p chip n)) _ u)
 
 -- at most two of which, where there are two, exactly one is of the first kind: at most one of each
 one-each : (k m n : ℕ) → m + n ≡ k → leb k 1 || (eqb k 2 && eqb m 1) ≡ true → (m ≤ 1) × (n ≤ 1)

@@ -11,3 +11,8 @@ pub mod UsedGood
 pub mod Shows
 pub mod ShowsStarts
 pub mod Again
+pub mod Refound
+pub mod Steady
+pub mod Returns
+pub mod Latest
+pub mod Keeps

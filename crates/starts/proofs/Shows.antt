@@ -87,6 +87,13 @@ module _ (p : Params) (z : Sizes p) (chip : List ℕ) (b : Board) (t : Tables p 
 
   -- ---- a block in use is one that BT names, or x
 
+  -- a used block by its region and virtual block
+  pub owner : (n : ℕ) → n < p .N → bstAt (b .bst) n ≡ 1 → (r : ℕ) × (v : ℕ) × (r < p .mu) × (v < p .gamma) × (btAt p (b .bt) r v ≡ n)
+  unfolding btAt
+  owner n h q =
+      let w = t .used n h q in
+      (w .0 / p .gamma, w .0 % p .gamma, div-lt-iff-lt-mul (z .vblocks) .1 (w .1), mod-lt (w .0) (z .vblocks), ap (btEntry (b .bt)) (div-add-mod' (w .0) (p .gamma)) ∙ w .2)
+
   pub data InUse (n : ℕ) : Type 0 where
     own : (r v : ℕ) → r < p .mu → v < p .gamma → btAt p (b .bt) r v ≡ n → InUse n
     left : n ≡ x → LeftOver p chip b x → InUse n
@@ -98,11 +105,7 @@ module _ (p : Params) (z : Sizes p) (chip : List ℕ) (b : Board) (t : Tables p 
       kind k zero q l =
           let f : allAre 255 (block p chip n) ≡ true = rw (s .else n h k) (t .free n h q) in
           absurd (never u (erased-unused p chip n f))
-      kind k (suc zero) q l =
-          let w = t .used n h q in
-          let i = w .0 in
-          let at : btAt p (b .bt) (i / p .gamma) (i % p .gamma) ≡ n = unfold btAt in (ap (btEntry (b .bt)) (div-add-mod' i (p .gamma)) ∙ w .2) in
-          own (i / p .gamma) (i % p .gamma) (div-lt-iff-lt-mul (z .vblocks) .1 (w .1)) (mod-lt i (z .vblocks)) at
+      kind k (suc zero) q l = let w = owner n h q in own (w .0) (w .1) (w .2) (w .3) (w .4)
       kind k (suc (suc zero)) q l = absurd (never u (bad-unused p chip n (s .marked n h q)))
       kind k (suc (suc (suc m))) q l = absurd (omega arith)
 

@@ -7,7 +7,7 @@ use Prim.Native.Nat.{ℕ, _+_, _≤_, _<_}
 use native.Mathlib.Omega.{arith}
 use native.Mathlib.Decide.{ℕ-discrete, decLt}
 use mathlib.Core.Bool.{Bool, true, false, not, _&&_, _||_}
-use mathlib.Core.List.{List}
+use mathlib.Core.List.{List, []}
 use lib.Dec.{eqb, leb}
 use borrow.Author.Tests.{eq-eqb, le-leb, lt-ltb, ne-eqb}
 use Rattle.lists.specs.Below.{countBelow}
@@ -37,10 +37,12 @@ use Rattle.rules.specs.Start.{
   sound,
   soundRule,
   stampsApart,
+  startOps,
   startable,
   vblockNamed,
 }
-use Rattle.rules.proofs.Erases.{Cleared}
+use Rattle.rules.specs.Traces.{eraseWhere}
+use Rattle.rules.proofs.Erases.{Cleared, erasesBelow, none-pass}
 use Rattle.rules.proofs.Opens.{erased-fresh}
 use Rattle.rules.proofs.Replays.{block-size}
 use Rattle.rules.proofs.Sizes.{Sizes}
@@ -164,3 +166,12 @@ module _ (p : Params) (z : Sizes p) (chip : List ℕ) (b : Board) (t : Tables p 
               same : (block p chip x ≡ block p (b .chip) x) ⊎ LeftOver p chip b x → block p chip x ≡ block p (b .chip) x
               same (inl y) = y
               same (inr l) = absurd (never (x-left l) (sym (ap (leftOver p chip) k) ∙ e))
+
+-- where no block is left over it erases none
+pub no-erase : (p : Params) (z : Sizes p) (chip : List ℕ) (b : Board) (t : Tables p b) → Shows p chip b (p .N) → startOps p chip ≡ []
+unfolding startOps eraseWhere erasesBelow
+no-erase p z chip b t s = none-pass (leftOver p chip) (p .N) (λ n h. go n h (so (leftOver p chip n)))
+  where
+    go : (n : ℕ) → n < p .N → (leftOver p chip n ≡ true) ⊎ (leftOver p chip n ≡ false) → leftOver p chip n ≡ false
+    go n h (inl e) = absurd (omega (arith, (left-x p z chip b t (p .N) s n h e) .0))
+    go n h (inr e) = e

@@ -7,12 +7,12 @@ use native.Mathlib.Omega.{arith}
 use native.Mathlib.Decide.{ℕ-discrete}
 use mathlib.Core.Bool.{Bool, true, false, not, _&&_, cond}
 use lib.Dec.{eqb}
-use borrow.Author.Tests.{not-true, not-false}
+use borrow.Author.Tests.{not-false}
 use Rattle.lists.specs.Below.{countBelow}
 use Rattle.lists.specs.Parts.{allAre}
 use Rattle.lists.proofs.Lists.{list-at, list-length}
 use Rattle.lists.proofs.Parts.{rejoin}
-use Rattle.lists.proofs.Tests.{and-left, count-cong, never, so}
+use Rattle.lists.proofs.Tests.{count-cong, never, so}
 use Rattle.rules.specs.declared.Params.{Params}
 use Rattle.rules.specs.Tables.{Board, bstAt, btAt, btEntry, none}
 use Rattle.rules.specs.Pages.{block}
@@ -27,7 +27,7 @@ use Rattle.rules.proofs.Sizes.{Sizes, sizes}
 use Rattle.rules.proofs.TableFacts.{Lengths, Tables, lengths-in, named-in, named-out}
 use Rattle.rules.proofs.Writes.{wear-length}
 use Rattle.starts.specs.Admitted.{StartAdmitted}
-use Rattle.starts.proofs.KeptBlocks.{at-is, entry-is, kept-names, left-over, named-region, named-use, named-vblock, region-low, sounds, vblock-low}
+use Rattle.starts.proofs.KeptBlocks.{at-is, entry-is, kept-names, left-over, named-region, named-use, named-vblock, region-low, sounds, use-good, vblock-low}
 
 module _ (p : Params) (b : Board) (acc : StartAdmitted p b) where
   z : Sizes p
@@ -70,17 +70,12 @@ module _ (p : Params) (b : Board) (acc : StartAdmitted p b) where
       (sym (named-region p z (b .chip) (i / p .gamma) (i % p .gamma) n a) ∙ named-region p z (b .chip) (j / p .gamma) (j % p .gamma) n c′)
       (sym (named-vblock p z (b .chip) (i / p .gamma) (i % p .gamma) n a) ∙ named-vblock p z (b .chip) (j / p .gamma) (j % p .gamma) n c′)
 
-  -- a block in use is not bad
-  pub used-good : (n : ℕ) → inUse p (b .chip) n ≡ true → bad p (b .chip) n ≡ false
-  unfolding inUse
-  used-good n u = not-true _ (and-left (not (bad p (b .chip) n)) _ u)
-
   used-back : (i : ℕ) → i < p .mu * p .gamma → (n : ℕ) → n < p .N → btEntry (foundBt p (b .chip)) i ≡ n → bstAt ((started p b) .bst) n ≡ 1
   used-back i h n k e =
       let w = entry-names i h (λ x. omega (arith, x, e, k, z .blocks)) in
       let u = named-use p z (b .chip) (i / p .gamma) (i % p .gamma) n (rw e at (w .1)) in
       let m : named p (foundBt p (b .chip)) n ≡ true = unfold started in named-out p (started p b) n i h e in
-      rw (kind n k, used-good n u, m)
+      rw (kind n k, use-good p (b .chip) n u, m)
 
   named-at : (n r v : ℕ) → r < p .mu → v < p .gamma → keptBlock p (b .chip) r v ≡ n → named p (foundBt p (b .chip)) n ≡ true
   unfolding started btAt
