@@ -1,11 +1,11 @@
--- Lists given element by element: how long one is, what stands where, and when two are the same.
+-- Lists given element by element: how long one is, what stands where, and when two are the same. The first elements of two lists, one after the other.
 -- Assumes nothing.
-use mathlib.Core.Path.{refl, sym, _∙_, _≡_}
+use mathlib.Core.Path.{ap, refl, sym, _∙_, _≡_}
 use mathlib.Core.List.{List, [], _++_, _∷_}
-use Prim.Native.Nat.{_<_, suc, zero, ℕ}
+use Prim.Native.Nat.{_-_, _<_, suc, zero, ℕ}
 use native.Mathlib.Decide.{ℕ-discrete}
 use native.Mathlib.Omega.{arith}
-use lib.ListN.{List·getD-append, getD, length, length-append, length-set, set}
+use lib.ListN.{List·getD-append, getD, length, length-append, length-set, set, take}
 use lib.Seq.{ext-getD, getD-at, getD-set-other, getD-set-same}
 use Rattle.lists.specs.Below.{updated, listBelow}
 use Rattle.lists.proofs.Joins.{updated-other, updated-same}
@@ -40,3 +40,13 @@ list-set {A = A} n f i x h = list-is x n (updated f i x) (set (listBelow n f) i 
     go : (k : ℕ) → k < n → Dec (k ≡ i) → getD (set (listBelow n f) i x) k x ≡ updated f i x k
     go k l (yes e) = rw (e, getD-set-same (listBelow n f) i x x (omega (arith, list-length n f))) (sym (updated-same f i x))
     go k l (no e) = getD-set-other (listBelow n f) i k x x e ∙ list-at n f k x l ∙ sym (updated-other f i x k e)
+
+-- the first n of xs and then of ys
+pub take-append {ℓ} : {A : Type ℓ} (n : ℕ) (xs ys : List A) → take n (xs ++ ys) ≡ take n xs ++ take (n - length xs) ys
+take-append n [] ys = nil n (n - 0) (omega arith)
+  where
+    nil : (n m : ℕ) → m ≡ n → take n ys ≡ take n [] ++ take m ys
+    nil zero m e = rw e
+    nil (suc n) m e = rw e
+take-append zero (x ∷ xs) ys = let e : 0 - length (x ∷ xs) ≡ 0 = omega arith in rw e
+take-append {A = A} (suc n) (x ∷ xs) ys = let e : suc n - length (x ∷ xs) ≡ n - length xs = omega arith in rw e (ap (λ (l : List A). x ∷ l) (take-append n xs ys))

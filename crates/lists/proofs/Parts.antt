@@ -38,14 +38,14 @@ pub part-length : (w i : ℕ) (l : List ℕ) → i * w + w ≤ length l → leng
 unfolding part
 part-length w i l h = simp (length-take, length-drop) (omega arith)
 
-front : (w a : ℕ) (xs ys : List ℕ) → a + w ≤ length xs → take w (drop a (xs ++ ys)) ≡ take w (drop a xs)
+pub front : (w a : ℕ) (xs ys : List ℕ) → a + w ≤ length xs → take w (drop a (xs ++ ys)) ≡ take w (drop a xs)
 front w a xs ys h =
     let ha : a ≤ length xs = omega arith in
     let hw : w ≤ length (drop a xs) = simp length-drop (omega arith) in
     rw (drop-append-le, take-append-le)
 
 -- a part of a part
-window : (w b a : ℕ) (d : List ℕ) → a + w ≤ b → take w (drop a (take b d)) ≡ take w (drop a d)
+pub window : (w b a : ℕ) (d : List ℕ) → a + w ≤ b → take w (drop a (take b d)) ≡ take w (drop a d)
 window w b zero d h = take-take w b d (omega arith)
 window w zero (suc a) d h = absurd (omega arith)
 window w (suc b) (suc a) [] h = refl

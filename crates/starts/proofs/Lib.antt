@@ -16,3 +16,5 @@ pub mod Steady
 pub mod Returns
 pub mod Latest
 pub mod Keeps
+pub mod Prefixes
+pub mod Begun
