@@ -18,3 +18,5 @@ pub mod Latest
 pub mod Keeps
 pub mod Prefixes
 pub mod Begun
+pub mod Alike
+pub mod Settled
