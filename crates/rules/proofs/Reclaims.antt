@@ -35,7 +35,7 @@ module _ (p : Params) (z : Sizes p) (b : Board) (t : Tables p b) (r : ℕ) (regi
   sized : (u : ℕ) → u < p .gamma → length ((view p b r) .body u) ≡ blockBytes p
   sized u h = body-size p z b t r u region h (every u h)
 
-  taken : btAt p (b .bt) r v ≡ none → ⊥
+  pub taken : btAt p (b .bt) r v ≡ none → ⊥
   taken = has-block p z b t r v region low (every v low)
 
   index : r * p .gamma + v < p .mu * p .gamma
@@ -47,10 +47,10 @@ module _ (p : Params) (z : Sizes p) (b : Board) (t : Tables p b) (r : ℕ) (regi
   differ : btAt p (b .bt) r v ≡ freeBlock p (b .bst) (b .wear) → ⊥
   differ e = omega (arith, old-used, free-block p z b t .1, ap (bstAt (b .bst)) e)
 
-  free-fits : freeBlock p (b .bst) (b .wear) * blockBytes p + blockBytes p ≤ length (b .chip)
+  pub free-fits : freeBlock p (b .bst) (b .wear) * blockBytes p + blockBytes p ≤ length (b .chip)
   free-fits = rw (t .chipLength) (next (blockBytes p) (freeBlock p (b .bst) (b .wear)) (p .N) (free-block p z b t .0))
 
-  whole : (i : ℕ) → i < length (copies p (view p b r) (reclaims v)) → length (getD (copies p (view p b r) (reclaims v)) i []) ≡ frameBytes p
+  pub whole : (i : ℕ) → i < length (copies p (view p b r) (reclaims v)) → length (getD (copies p (view p b r) (reclaims v)) i []) ≡ frameBytes p
   whole = wholes p z r (view p b r) neat no-room every sized v low few
 
   fit : 0 + length (copies p (view p b r) (reclaims v)) ≤ frames p
@@ -86,7 +86,7 @@ module _ (p : Params) (z : Sizes p) (b : Board) (t : Tables p b) (r : ℕ) (regi
   not-old i h ne k e = ne (t .once i (r * p .gamma + v) h index e k)
 
   -- the copied frames' clusters
-  good-copy : (i : ℕ) → i < length (copies p (view p b r) (reclaims v)) → GoodFrame p r v (getD (copies p (view p b r) (reclaims v)) i [])
+  pub good-copy : (i : ℕ) → i < length (copies p (view p b r) (reclaims v)) → GoodFrame p r v (getD (copies p (view p b r) (reclaims v)) i [])
   good-copy i h =
       let k : i < length (validFrames p (view p b r) v) = rw (copies-length p z r (view p b r) neat no-room every sized v low few) at h in
       rw (copy-at p z r (view p b r) neat no-room every sized v low few i k)

@@ -20,3 +20,5 @@ pub mod Prefixes
 pub mod Begun
 pub mod Alike
 pub mod Settled
+pub mod PartCopies
+pub mod CutCopies

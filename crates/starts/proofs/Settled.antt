@@ -1,12 +1,11 @@
 -- Boards on which a plan has made room, with a frame begun or without: they are steady and read as the board before, since their regions' views are like those with room made, which read so.
 -- Assumes nothing.
 use mathlib.Core.Path.{_≡_, refl, sym, ap, _∙_}
-use mathlib.Core.Logic.{_⊎_, inl, inr}
+use mathlib.Core.Logic.{_⊎_}
 use Prim.Native.Nat.{ℕ, _+_, _*_, _≤_, _<_}
 use native.Mathlib.Nat.{mod-lt}
-use native.Mathlib.Omega.{arith}
 use native.Mathlib.Decide.{ℕ-discrete}
-use mathlib.Core.Bool.{true, false}
+use mathlib.Core.Bool.{true}
 use mathlib.Core.List.{List}
 use borrow.Author.Tests.{eq-eqb, eqb-true}
 use lib.ListN.{length, length-set, set}
@@ -17,7 +16,7 @@ use Rattle.rules.specs.declared.Params.{Params}
 use Rattle.rules.specs.Parameters.{frames}
 use Rattle.rules.specs.Numbers.{regionOf}
 use Rattle.rules.specs.Tables.{Board, bstAt, btAt, btEntry, ctAt, none}
-use Rattle.rules.specs.Pages.{block, filled, frame}
+use Rattle.rules.specs.Pages.{filled, frame}
 use Rattle.rules.specs.Regions.{View, assigned, sector, view, viewOf}
 use Rattle.rules.specs.Format.{bad}
 use Rattle.rules.specs.Start.{openOnce}
