@@ -88,7 +88,7 @@ module _ (p : Params) (z : Sizes p) (r : ℕ) (vw : View) (neat : Neat p r vw) (
       rw body-here (sym (ap (frame p (putFrames p 0 (copies p vw (reclaims v)) (erasedBlock p))) (zero-add i))
       ∙ put-frames-new p (copies p vw (reclaims v)) 0 (erasedBlock p) (fresh-size p) wholes copies-fit i (rw copies-length h) ∙ copy-at i h)
 
-  frame-rest : (g : ℕ) → length (validFrames p vw v) ≤ g → allAre 255 (frame p ((withRoom p vw (reclaims v)) .body v) g) ≡ true
+  pub frame-rest : (g : ℕ) → length (validFrames p vw v) ≤ g → allAre 255 (frame p ((withRoom p vw (reclaims v)) .body v) g) ≡ true
   frame-rest g h =
       rw (body-here, put-frames-else p (copies p vw (reclaims v)) 0 (erasedBlock p) (fresh-size p) wholes copies-fit g (λ a k. omega (arith, copies-length))) (fresh-frame p g)
 

@@ -22,3 +22,7 @@ pub mod Alike
 pub mod Settled
 pub mod PartCopies
 pub mod CutCopies
+pub mod Vacant
+pub mod CutBegun
+pub mod CutRooms
+pub mod CutWrites

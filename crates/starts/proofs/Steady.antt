@@ -23,7 +23,7 @@ use Rattle.rules.specs.Start.{isOpen, openOnce, regionNamed, vblockNamed}
 use Rattle.rules.proofs.Admitted.{orderly-region}
 use Rattle.rules.proofs.BadBlocks.{bytes-bad}
 use Rattle.rules.proofs.RegionFacts.{Entry, Neat, Open, UpTo, block-out, neat}
-use Rattle.rules.proofs.Sizes.{Sizes}
+use Rattle.rules.proofs.Sizes.{Sizes, sizes}
 use Rattle.rules.proofs.TableFacts.{Tables, tables-in}
 use Rattle.rules.proofs.Views.{body-some, named-assigned}
 use Rattle.starts.specs.Stands.{Clear, Stands}
@@ -124,3 +124,11 @@ pub record Old (p : Params) (b b′ : Board) : Type 0 where
 
 pub old-refl : (p : Params) (b : Board) → Old p b b
 old-refl p b = record { reads = λ c h j. refl; clear = λ c h x. x }
+
+-- a chip shows a steady board that reads as b
+pub data ReadsOld (p : Params) (b : Board) (chip : List ℕ) : Type 0 where
+  reads-old : (b′ : Board) (x : ℕ) → Steady p b′ → Shown p chip b′ x → Old p b b′ → ReadsOld p b chip
+
+-- as b's own chip does
+pub untouched : (p : Params) (b : Board) → Stands p b → ReadsOld p b (b .chip)
+untouched p b st = reads-old b (p .N) (stands-steady p b st) (own-shown p (sizes p (st .fine)) b (stands-steady p b st)) (old-refl p b)
