@@ -26,3 +26,4 @@ pub mod Vacant
 pub mod CutBegun
 pub mod CutRooms
 pub mod CutWrites
+pub mod Recovers

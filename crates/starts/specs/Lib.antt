@@ -4,3 +4,4 @@ pub mod Again
 pub mod Stands
 pub mod Latest
 pub mod Keeps
+pub mod Recovers

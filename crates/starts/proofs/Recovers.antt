@@ -1,0 +1,68 @@
+-- A chip that shows a board that reads as b gives b back: a start on it recovers it, and a start on it that is cut leaves such a chip again. A board that stands has such a chip, and a write that is
+-- cut after any of its operations leaves one, of the board before the write or of the one after it.
+-- Assumes nothing.
+use mathlib.Core.Path.{_≡_, _∙_}
+use mathlib.Core.Logic.{_⊎_, inl, inr}
+use Prim.Native.Nat.{ℕ, zero, suc, _≤_}
+use native.Mathlib.Omega.{arith}
+use mathlib.Core.Bool.{true}
+use mathlib.Core.List.{List}
+use lib.ListN.{length, take}
+use lib.Seq.{take-all}
+use Rattle.rules.specs.declared.Params.{Params}
+use Rattle.rules.specs.declared.Reply.the-variants.{Accepted}
+use Rattle.rules.specs.Parameters.{allowed}
+use Rattle.rules.specs.Tables.{Board}
+use Rattle.rules.specs.Requests.{Request, write}
+use Rattle.rules.specs.Replies.{lengthsFit, replyOf}
+use Rattle.rules.specs.Traces.{replayChip}
+use Rattle.rules.specs.Start.{startOps, started}
+use Rattle.rules.specs.Write.{writeOps, written}
+use Rattle.starts.specs.Recovers.{Recovers}
+use Rattle.starts.specs.Stands.{Stands}
+use Rattle.starts.proofs.CutWrites.{CutForm, before, cut-form, is-whole}
+use Rattle.starts.proofs.Latest.{latest-is}
+use Rattle.starts.proofs.Returns.{returns-admitted, returns-clear, returns-once, returns-read, returns-shown, returns-stands}
+use Rattle.starts.proofs.Stands.{written-stands}
+use Rattle.starts.proofs.Steady.{ReadsOld, reads-old, untouched}
+
+-- ---- a start
+
+module _ (p : Params) (fine : allowed p ≡ true) (b₀ b : Board) (lengths : lengthsFit p b₀ ≡ true) where
+  pub old-recovers : ReadsOld p b (b₀ .chip) → Recovers p b₀ b
+  old-recovers (reads-old b′ x st sh old) =
+      record {
+        admitted = returns-admitted p fine b₀ b′ x lengths st sh;
+        once = (returns-once p fine b₀ b′ x lengths st sh) .0;
+        reads = λ c h clear j. returns-read p fine b₀ b′ x lengths st sh c h (old .clear c h clear) j ∙ old .reads c h j;
+        returns = λ c h j. latest-is p fine b₀ b′ x lengths st sh c h j;
+        stands = returns-stands p fine b₀ b′ x lengths st sh;
+        clear = returns-clear p fine b₀ b′ x lengths st sh;
+      }
+
+  -- cut after any of its operations, of which there is one at most
+  pub start-cut : ReadsOld p b (b₀ .chip) → (k : ℕ) → ReadsOld p b (replayChip p (b₀ .chip) (take k (startOps p (b₀ .chip))))
+  start-cut old zero = unfold replayChip in old
+  start-cut (reads-old b′ x st sh old) (suc k) =
+      rw (take-all (suc k) (startOps p (b₀ .chip)) (omega (arith, (returns-once p fine b₀ b′ x lengths st sh) .1)))
+      (reads-old b′ (p .N) st (unfold started in returns-shown p fine b₀ b′ x lengths st sh) old)
+
+-- ---- a write
+
+pub write-cut : (p : Params) (b : Board) → Stands p b → (q : Request) → replyOf p b (write q) ≡ Accepted → (k : ℕ) → k ≤ length (writeOps p b q)
+    → ReadsOld p b (replayChip p (b .chip) (take k (writeOps p b q))) ⊎ ReadsOld p (written p b q) (replayChip p (b .chip) (take k (writeOps p b q)))
+write-cut p b st q e k h = go (replayChip p (b .chip) (take k (writeOps p b q))) (cut-form p b st q e k h)
+  where
+    go : (chip : List ℕ) → CutForm p b q chip → ReadsOld p b chip ⊎ ReadsOld p (written p b q) chip
+    go chip (before old) = inl old
+    go chip (is-whole i) = inr (rw i (untouched p (written p b q) ((written-stands p b st q e) .0)))
+
+-- so a start after it finds the write wholly old or wholly new
+pub write-cut-recovers : (p : Params) (b : Board) → Stands p b → (q : Request) → replyOf p b (write q) ≡ Accepted → (k : ℕ) → k ≤ length (writeOps p b q)
+    → (b₀ : Board) → lengthsFit p b₀ ≡ true → b₀ .chip ≡ replayChip p (b .chip) (take k (writeOps p b q)) → Recovers p b₀ b ⊎ Recovers p b₀ (written p b q)
+write-cut-recovers p b st q e k h b₀ lengths is = go (write-cut p b st q e k h)
+  where
+    go : ReadsOld p b (replayChip p (b .chip) (take k (writeOps p b q))) ⊎ ReadsOld p (written p b q) (replayChip p (b .chip) (take k (writeOps p b q)))
+        → Recovers p b₀ b ⊎ Recovers p b₀ (written p b q)
+    go (inl old) = inl (old-recovers p (st .fine) b₀ b lengths (rw is old))
+    go (inr old) = inr (old-recovers p (st .fine) b₀ (written p b q) lengths (rw is old))
