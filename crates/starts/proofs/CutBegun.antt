@@ -51,7 +51,8 @@ module _ (p : Params) (b : Board) (st : Stands p b) (q : Request) where
   t : Tables p b
   t = stands-tables p b st
 
-  module _ (acc : Admitted p b q) (r : ℕ) (is : regionOf p (requestCluster p q) ≡ r) (region : r < p .mu) (pl : Plan) (case : Case p (view p b r) pl) (makes : Makes p b r pl) (left : nextStamp b r < 4294967296)
+  module _ (acc : Admitted p b q) (r : ℕ) (is : regionOf p (requestCluster p q) ≡ r) (region : r < p .mu) (pl : Plan) (case : Case p (view p b r) pl) (makes : Makes p b r pl)
+      (left : nextStamp b r < 4294967296)
       (m : ℕ) (some : 0 < m) (part : m < p .alpha) where
     abbrev roomChip : List ℕ
     roomChip = replayChip p (b .chip) (roomOps p b r pl)
@@ -102,7 +103,9 @@ module _ (p : Params) (b : Board) (st : Stands p b) (q : Request) where
     upto = record { front = λ g a h. front g a h (ℕ-discrete g at); rest = λ g a h. rw (frame-else g (λ e. omega (arith, a, e))) (makes .base .ready .rest g (omega arith) h) }
       where
         front : (g : ℕ) → g < suc at → g < frames p → Dec (g ≡ at) → GoodFrame p r (planVBlock pl) (frame p (putPart (frameBytes p) at begun body) g)
-        front g a h (yes e) = rw (e, frame-here) (begun-good p z (planVBlock pl) (requestCluster p q) new (frame p body at) m the-sheet old-size old-blank some (omega arith) r (acc .asked .cluster) is)
+        front g a h (yes e) =
+            rw (e, frame-here)
+            (begun-good p z (planVBlock pl) (requestCluster p q) new (frame p body at) m the-sheet old-size old-blank some (omega arith) r (acc .asked .cluster) is)
         front g a h (no e) = rw (frame-else g e) (makes .base .front .front g (omega arith) h)
 
     like : (g : ℕ) → g < frames p → Alike p (frame p body g) (frame p (putPart (frameBytes p) at begun body) g)

@@ -39,7 +39,8 @@ use Rattle.starts.proofs.UsedGood.{names-region, names-vblock, used-in-
 
 -- i copies are whole, and k pages, one at least, of the next
 module _ (p : Params) (b : Board) (st : Stands p b) (r : ℕ) (region : r < p .mu) (no-room : hasRoom p (view p b r) ≡ false) (every : (u : ℕ) → u < p .gamma → assigned (view p b r) u ≡ true)
-    (v : ℕ) (low : v < p .gamma) (few : length (validFrames p (view p b r) v) < frames p) (i k : ℕ) (copies-left : i < length (copies p (view p b r) (reclaims v))) (some : 0 < k) (most : k ≤ p .alpha) where
+    (v : ℕ) (low : v < p .gamma) (few : length (validFrames p (view p b r) v) < frames p)
+    (i k : ℕ) (copies-left : i < length (copies p (view p b r) (reclaims v))) (some : 0 < k) (most : k ≤ p .alpha) where
   z : Sizes p
   z = sizes p (st .fine)
 

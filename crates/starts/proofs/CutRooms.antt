@@ -53,7 +53,8 @@ use Rattle.starts.proofs.Settled.{mid-old, mid-shown, mid-steady, midBo
 use Rattle.starts.proofs.Steady.{ReadsOld, Steady, old-refl, reads-old, same-shown, stands-neat, stands-steady, stands-tables, untouched}
 use Rattle.starts.proofs.Vacant.{vacant-marked, vacant-others, vacant-own, vacant-tables, vacantBoard, vacantView}
 
-module _ (p : Params) (b : Board) (st : Stands p b) (r : ℕ) (region : r < p .mu) (no-room : hasRoom p (view p b r) ≡ false) (every : (u : ℕ) → u < p .gamma → assigned (view p b r) u ≡ true) (v : ℕ) (low : v < p .gamma)
+module _ (p : Params) (b : Board) (st : Stands p b) (r : ℕ) (region : r < p .mu) (no-room : hasRoom p (view p b r) ≡ false)
+    (every : (u : ℕ) → u < p .gamma → assigned (view p b r) u ≡ true) (v : ℕ) (low : v < p .gamma)
     (few : length (validFrames p (view p b r) v) < frames p) (case : Case p (view p b r) (reclaims v)) (makes : Makes p b r (reclaims v)) where
   z : Sizes p
   z = sizes p (st .fine)
@@ -125,7 +126,9 @@ module _ (p : Params) (b : Board) (st : Stands p b) (r : ℕ) (region : r < p .m
         blank = unfold frame in allAre-part 255 (frameBytes p) g [] (unfold allAre in refl)
 
         go : Dec (u ≡ v) → Alike p (frame p ((withRoom p (view p b r) (reclaims v)) .body u) g) (frame p ((vacantView p b r v) .body u) g)
-        go (yes e) = rw (e, body-none) (neither (λ c. erased-holds p _ c (frame-rest p z r (view p b r) nt no-room every sized v low few g (omega (arith, nothing)))) (λ c. erased-holds p (frame p [] g) c blank))
+        go (yes e) =
+            rw (e, body-none)
+            (neither (λ c. erased-holds p _ c (frame-rest p z r (view p b r) nt no-room every sized v low few g (omega (arith, nothing)))) (λ c. erased-holds p (frame p [] g) c blank))
         go (no e) = equal (ap (λ (y : List ℕ). frame p y g) (bodies-else u e ∙ sym (body-else p z r (view p b r) nt no-room every sized v low few u e)))
 
     has-was : (u : ℕ) → assigned (vacantView p b r v) u ≡ true → (u ≡ v → ⊥) × (assigned (view p b r) u ≡ true)
@@ -135,7 +138,8 @@ module _ (p : Params) (b : Board) (st : Stands p b) (r : ℕ) (region : r < p .m
         go (yes e) = let y : assigned (vacantView p b r v) v ≡ true = rw e at a in absurd (never y (unfold assigned in rw body-none))
         go (no e) = (e, unfold assigned in rw (← bodies-else u e) (unfold assigned in a))
 
-    blocks : (u : ℕ) → u < p .gamma → assigned (vacantView p b r v) u ≡ true → (0 < filled p ((vacantView p b r v) .body u)) × UpTo p r u (filled p ((vacantView p b r v) .body u)) ((vacantView p b r v) .body u)
+    blocks : (u : ℕ) → u < p .gamma → assigned (vacantView p b r v) u ≡ true
+        → (0 < filled p ((vacantView p b r v) .body u)) × UpTo p r u (filled p ((vacantView p b r v) .body u)) ((vacantView p b r v) .body u)
     blocks u h a = let w = has-was u a in rw (bodies-else u (w .0)) (nt .blocks u h (w .1))
 
     full : (u : ℕ) → u < p .gamma → assigned (vacantView p b r v) u ≡ true → (u ≡ planVBlock (reclaims v) → ⊥) → filled p ((vacantView p b r v) .body u) ≡ frames p

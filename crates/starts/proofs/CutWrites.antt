@@ -83,7 +83,8 @@ module _ (p : Params) (b : Board) (st : Stands p b) (q : Request) (ok : replyOf 
   before-new pl (renews h every v lv few e) mk k low =
       rw e (room-form p b st r₀ region₀ h every v lv few (renews h every v lv few refl) (rw e at mk) k (rw e at low))
 
-  plan-form : (pl : Plan) → pl ≡ planOf p (view p b r₀) → Case p (view p b r₀) pl → Makes p b r₀ pl → (k : ℕ) → k ≤ length (planOps p b r₀ q pl) → CutForm p b q (replayChip p (b .chip) (take k (planOps p b r₀ q pl)))
+  plan-form : (pl : Plan) → pl ≡ planOf p (view p b r₀) → Case p (view p b r₀) pl → Makes p b r₀ pl → (k : ℕ) → k ≤ length (planOps p b r₀ q pl)
+      → CutForm p b q (replayChip p (b .chip) (take k (planOps p b r₀ q pl)))
   unfolding planOps
   plan-form pl is case mk k low = go (decLt (length (roomOps p b r₀ pl)) k)
     where
@@ -91,7 +92,9 @@ module _ (p : Params) (b : Board) (st : Stands p b) (q : Request) (ok : replyOf 
       new = frameOps p (planBlock p b r₀ pl) (planFrame p (view p b r₀) pl) (newFrame p (view p b r₀) q (nextStamp b r₀) (planVBlock pl)) (p .alpha)
 
       len : length (roomOps p b r₀ pl ++ new) ≡ length (roomOps p b r₀ pl) + p .alpha
-      len = length-append (roomOps p b r₀ pl) new ∙ ap (λ (m : ℕ). length (roomOps p b r₀ pl) + m) (frame-length p (planBlock p b r₀ pl) (planFrame p (view p b r₀) pl) (newFrame p (view p b r₀) q (nextStamp b r₀) (planVBlock pl)) (p .alpha))
+      len =
+          length-append (roomOps p b r₀ pl) new
+          ∙ ap (λ (m : ℕ). length (roomOps p b r₀ pl) + m) (frame-length p (planBlock p b r₀ pl) (planFrame p (view p b r₀) pl) (newFrame p (view p b r₀) q (nextStamp b r₀) (planVBlock pl)) (p .alpha))
 
       go : Dec (length (roomOps p b r₀ pl) < k) → CutForm p b q (replayChip p (b .chip) (take k (roomOps p b r₀ pl ++ new)))
       go (no d) =

@@ -61,7 +61,8 @@ module _ (p : Params) (z : Sizes p) (r v : ℕ) (xs : List (List ℕ)) (sizes : 
   base-new : (j : ℕ) → j < i → frame p base j ≡ getD xs j []
   unfolding base
   base-new j h =
-      sym (ap (frame p (putFrames p 0 (take i xs) (erasedBlock p))) (zero-add j)) ∙ put-frames-new p (take i xs) 0 (erasedBlock p) (fresh-size p) firsts (omega (arith, take-size)) j (omega (arith, take-size))
+      sym (ap (frame p (putFrames p 0 (take i xs) (erasedBlock p))) (zero-add j))
+      ∙ put-frames-new p (take i xs) 0 (erasedBlock p) (fresh-size p) firsts (omega (arith, take-size)) j (omega (arith, take-size))
       ∙ getD-take i xs j [] h
 
   base-rest : (j : ℕ) → i ≤ j → allAre 255 (frame p base j) ≡ true
@@ -89,7 +90,9 @@ module _ (p : Params) (z : Sizes p) (r v : ℕ) (xs : List (List ℕ)) (sizes : 
   part-upto some = record { front = λ f a b. front f a (ℕ-discrete f i); rest = λ f a b. rw (part-else f (λ e. omega (arith, a, e))) (base-rest f (omega arith)) }
     where
       front : (f : ℕ) → f < suc i → Dec (f ≡ i) → GoodFrame p r v (frame p partBlock f)
-      front f a (yes e) = rw (e, part-here) (unfold copy in begun-good p z v (held p (getD xs i [])) (getD xs i []) (frame p base i) k (sheets i low) base-frame (base-rest i (omega arith)) some few r ((good i low) .low) ((good i low) .mine))
+      front f a (yes e) =
+          rw (e, part-here)
+          (unfold copy in begun-good p z v (held p (getD xs i [])) (getD xs i []) (frame p base i) k (sheets i low) base-frame (base-rest i (omega arith)) some few r ((good i low) .low) ((good i low) .mine))
       front f a (no e) = rw (part-else f e, base-new f (omega arith)) (good f (omega arith))
 
   pub part-rule : 0 < k → blockRule p r v partBlock ≡ true
@@ -151,7 +154,9 @@ module _ (p : Params) (z : Sizes p) (r v : ℕ) (xs : List (List ℕ)) (sizes : 
         ∙ whole-put
       where
         whole-put : putPart (frameBytes p) (n * frames p + i) (begunFrame p (getD xs i []) (frame p base i) k) before ≡ putPart (blockBytes p) n partBlock before
-        whole-put = unfold copy partBlock in (put-is p before copy n i before-size copy-size (omega arith) ∙ ap (λ (y : List ℕ). putPart (blockBytes p) n (putPart (frameBytes p) i copy y) before) here-base)
+        whole-put =
+            unfold copy partBlock in (put-is p before copy n i before-size copy-size (omega arith)
+            ∙ ap (λ (y : List ℕ). putPart (blockBytes p) n (putPart (frameBytes p) i copy y) before) here-base)
 
     part-size : length partBlock ≡ blockBytes p
     unfolding partBlock

@@ -104,7 +104,8 @@ module _ (p : Params) (z : Sizes p) (vw vw′ : View) (bodies : (v : ℕ) → vw
   same-stamp v f = ap (stampOf p) (same-frame-at v f)
 
   -- the frame that is read
-  pub refound-frame : (c v f : ℕ) → WholeAt p vw c v f → ((u g : ℕ) → WholeAt p vw c u g → frameStamp p vw u g ≤ frameStamp p vw v f) → vw′ .segOf c ≡ segmentOf p v f → frameOf p vw′ c ≡ frame p (vw .body v) f
+  pub refound-frame : (c v f : ℕ) → WholeAt p vw c v f → ((u g : ℕ) → WholeAt p vw c u g → frameStamp p vw u g ≤ frameStamp p vw v f) → vw′ .segOf c ≡ segmentOf p v f
+      → frameOf p vw′ c ≡ frame p (vw .body v) f
   unfolding frameOf
   refound-frame c v f a most e = rw (e, seg-vblock p z v f (a .low), seg-place p z v f (a .low), bodies v, found-read p z vw t c v f a most)
 
@@ -127,7 +128,8 @@ module _ (p : Params) (z : Sizes p) (vw vw′ : View) (bodies : (v : ℕ) → vw
 -- ---- whole frames of a cluster differ in stamp
 
 -- where whole frames hold what their first page says
-pub timely-apart : (p : Params) (z : Sizes p) (vw : View) → Timely p vw → ((u g : ℕ) → u < p .gamma → g < frames p → whole p (frame p (vw .body u) g) ≡ true → holds p (frame p (vw .body u) g) (held p (frame p (vw .body u) g)) ≡ true)
+pub timely-apart : (p : Params) (z : Sizes p) (vw : View) → Timely p vw
+    → ((u g : ℕ) → u < p .gamma → g < frames p → whole p (frame p (vw .body u) g) ≡ true → holds p (frame p (vw .body u) g) (held p (frame p (vw .body u) g)) ≡ true)
     → stampsApart p vw ≡ true
 unfolding stampsApart
 timely-apart p z vw t good = all-below-intro (regionFrames p) _ (λ i hi. all-below-intro i _ (λ j hj. differ i j hi hj (so (sameStamp p vw i j))))

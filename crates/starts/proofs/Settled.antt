@@ -73,7 +73,8 @@ module _ (p : Params) (z : Sizes p) (b : Board) (st : Stands p b) (r : ℕ) (reg
         old : Steady p b
         old = stands-steady p b st
 
-        blocks-at : (r′ : ℕ) → r′ < p .mu → Dec (r′ ≡ r) → (v : ℕ) → v < p .gamma → assigned (view p b′ r′) v ≡ true → (0 < filled p ((view p b′ r′) .body v)) × UpTo p r′ v (filled p ((view p b′ r′) .body v)) ((view p b′ r′) .body v)
+        blocks-at : (r′ : ℕ) → r′ < p .mu → Dec (r′ ≡ r) → (v : ℕ) → v < p .gamma → assigned (view p b′ r′) v ≡ true
+            → (0 < filled p ((view p b′ r′) .body v)) × UpTo p r′ v (filled p ((view p b′ r′) .body v)) ((view p b′ r′) .body v)
         blocks-at r′ h (yes e) = rw (e, own) blocks
         blocks-at r′ h (no e) = rw (others r′ h e) (λ v. old .blocks r′ v h)
 
@@ -208,7 +209,8 @@ module _ (p : Params) (z : Sizes p) (b : Board) (st : Stands p b) (r : ℕ) (reg
   unfolding assigned
   else-has u ne a = rw (body-else u ne) at a
 
-  mid-blocks : (u : ℕ) → u < p .gamma → assigned (midView p b r pl blk) u ≡ true → (0 < filled p ((midView p b r pl blk) .body u)) × UpTo p r u (filled p ((midView p b r pl blk) .body u)) ((midView p b r pl blk) .body u)
+  mid-blocks : (u : ℕ) → u < p .gamma → assigned (midView p b r pl blk) u ≡ true
+      → (0 < filled p ((midView p b r pl blk) .body u)) × UpTo p r u (filled p ((midView p b r pl blk) .body u)) ((midView p b r pl blk) .body u)
   mid-blocks u h a = go (ℕ-discrete u (planVBlock pl))
     where
       go : Dec (u ≡ planVBlock pl) → (0 < filled p ((midView p b r pl blk) .body u)) × UpTo p r u (filled p ((midView p b r pl blk) .body u)) ((midView p b r pl blk) .body u)

@@ -45,7 +45,8 @@ module _ (p : Params) (b : Board) (acc : StartAdmitted p b) where
   t = start-tables p b acc
 
   module _ (r : ℕ) (region : r < p .mu) where
-    stays : (v : ℕ) → v < p .gamma → (btAt p (foundBt p (b .chip)) r v ≡ none → ⊥) → block p ((started p b) .chip) (btAt p (foundBt p (b .chip)) r v) ≡ block p (b .chip) (btAt p (foundBt p (b .chip)) r v)
+    stays : (v : ℕ) → v < p .gamma → (btAt p (foundBt p (b .chip)) r v ≡ none → ⊥)
+        → block p ((started p b) .chip) (btAt p (foundBt p (b .chip)) r v) ≡ block p (b .chip) (btAt p (foundBt p (b .chip)) r v)
     stays v h ne =
         let e = at-is p z (b .chip) r v region h in
         rw e ((swept p b acc) .kept (keptBlock p (b .chip) r v) (kept-stays p z (b .chip) r v (λ x. ne (e ∙ x))))
@@ -78,7 +79,9 @@ module _ (p : Params) (b : Board) (acc : StartAdmitted p b) where
 
     last-is : (view p (started p b) r) .lastSeg ≡ foundFst p (view p (started p b) r)
     unfolding viewOf fstAt started
-    last-is = list-at (p .mu) (λ r. foundFst p (foundView p (b .chip) (foundBt p (b .chip)) r)) r none region ∙ same-fst p (foundView p (b .chip) (foundBt p (b .chip)) r) (view p (started p b) r) body-same
+    last-is =
+        list-at (p .mu) (λ r. foundFst p (foundView p (b .chip) (foundBt p (b .chip)) r)) r none region
+        ∙ same-fst p (foundView p (b .chip) (foundBt p (b .chip)) r) (view p (started p b) r) body-same
 
     named-some : (v : ℕ) → v < p .gamma → assigned (view p (started p b) r) v ≡ true → btAt p (foundBt p (b .chip)) r v ≡ none → ⊥
     unfolding started
@@ -111,7 +114,9 @@ module _ (p : Params) (b : Board) (acc : StartAdmitted p b) where
                 unfold viewOf ctAt started in rw (eq-eqb (regionOf p c) r e) (list-at (p .C) (λ c. foundSegment p (foundView p (b .chip) (foundBt p (b .chip)) (regionOf p c)) c) c none h)
 
             mine : regionOf p c ≡ r → (view p (started p b) r) .segOf c ≡ foundSegment p (view p (started p b) r) c
-            mine e = found e ∙ ap (λ (x : ℕ). foundSegment p (foundView p (b .chip) (foundBt p (b .chip)) x) c) e ∙ same-segment p (foundView p (b .chip) (foundBt p (b .chip)) r) (view p (started p b) r) body-same c
+            mine e =
+                found e ∙ ap (λ (x : ℕ). foundSegment p (foundView p (b .chip) (foundBt p (b .chip)) x) c) e
+                ∙ same-segment p (foundView p (b .chip) (foundBt p (b .chip)) r) (view p (started p b) r) body-same c
         go (no e) = inl (unfold viewOf in rw (ne-eqb (regionOf p c) r e))
 
     pub region-orderly : regionOrderly p r (view p (started p b) r) ≡ true
@@ -125,7 +130,8 @@ module _ (p : Params) (b : Board) (acc : StartAdmitted p b) where
             let none-here : (v : ℕ) → v < p .gamma → assigned (view p (started p b) r) v ≡ false = λ v h. not-true _ (all-at (p .gamma) (λ v. not (assigned (view p (started p b) r) v)) e v h) in
             neat-none p r (view p (started p b) r) none-here (none-found p z (view p (started p b) r) last-is none-here) entries
 
-        go : (allBelow (p .gamma) (λ v. not (assigned (view p (started p b) r) v)) ≡ true) ⊎ (allBelow (p .gamma) (λ v. not (assigned (view p (started p b) r) v)) ≡ false) → regionOrderly p r (view p (started p b) r) ≡ true
+        go : (allBelow (p .gamma) (λ v. not (assigned (view p (started p b) r) v)) ≡ true) ⊎ (allBelow (p .gamma) (λ v. not (assigned (view p (started p b) r) v)) ≡ false)
+            → regionOrderly p r (view p (started p b) r) ≡ true
         go (inr e) =
             let w = some-fails (p .gamma) _ e in
             let a = not-false _ (w .2) in
@@ -139,7 +145,9 @@ module _ (p : Params) (b : Board) (acc : StartAdmitted p b) where
 
   pub start-stamp : (r : ℕ) → r < p .mu → stampAt ((started p b) .stamps) r ≡ largestStamp p (view p (started p b) r)
   unfolding stampAt started
-  start-stamp r h = list-at (p .mu) (λ r. largestStamp p (foundView p (b .chip) (foundBt p (b .chip)) r)) r 0 h ∙ same-largest p (foundView p (b .chip) (foundBt p (b .chip)) r) (view p (started p b) r) (body-same r h)
+  start-stamp r h =
+      list-at (p .mu) (λ r. largestStamp p (foundView p (b .chip) (foundBt p (b .chip)) r)) r 0 h
+      ∙ same-largest p (foundView p (b .chip) (foundBt p (b .chip)) r) (view p (started p b) r) (body-same r h)
 
   start-stamps : stampRule p (started p b) ≡ true
   start-stamps = stamps-out p (started p b) (λ r h. rw (start-stamp r h) (largest-bounds p z (view p (started p b) r)))
