@@ -1,4 +1,4 @@
--- `format_work::is_bad`: the first page, then the second where there is one.
+-- `chip_bad::is_bad`: the first page, then the second where there is one.
 -- Assumes nothing.
 use mathlib.Core.Path.{sym}
 use native.Mathlib.Omega.{arith}
@@ -6,9 +6,9 @@ use borrow.Author.Needs.{needs}
 use borrow.Author.Tests.{le-leb, lt-leb}
 use Rattle.rules.specs.Parameters.{pages}
 use Rattle.rules.specs.Format.{bad}
-use Rattle.format_work.proofs.Marks.{first-low}
-use Rattle.format_work.proofs.is_bad.Statement.{statement}
-use Rattle.format_work.proofs.is_bad.Tie as tie
+use Rattle.chip_bad.proofs.Marks.{first-low}
+use Rattle.chip_bad.proofs.is_bad.Statement.{statement}
+use Rattle.chip_bad.proofs.is_bad.Tie as tie
 
 has-bad-mark-requires : tie.Need-has-bad-mark-requires
 has-bad-mark-requires c κs = let a = c .before in (a .pre .0, (a .pre .1 .0, (a .pre .1 .1, first-low (a .args .p) (a .pre .0))))

@@ -1,13 +1,13 @@
--- `format_work::has_bad_mark`: the byte that it reads is the page's mark.
+-- `chip_bad::has_bad_mark`: the byte that it reads is the page's mark.
 -- Assumes nothing.
 use mathlib.Core.Path.{sym}
 use native.Mathlib.Nat.{lt-of-le-of-lt}
 use native.Mathlib.Omega.{arith}
 use borrow.Author.Needs.{needs}
 use Rattle.rules.proofs.Sizes.{sizes}
-use Rattle.format_work.proofs.Marks.{block-low, place-low, mark-low, mark-is}
-use Rattle.format_work.proofs.has_bad_mark.Statement.{statement}
-use Rattle.format_work.proofs.has_bad_mark.Tie as tie
+use Rattle.chip_bad.proofs.Marks.{block-low, place-low, mark-low, mark-is}
+use Rattle.chip_bad.proofs.has_bad_mark.Statement.{statement}
+use Rattle.chip_bad.proofs.has_bad_mark.Tie as tie
 
 block-bytes-requires : tie.Need-block-bytes-requires
 block-bytes-requires c κs = search needs

@@ -1,4 +1,4 @@
--- `format_work::count_good`: after n turns, how many of the first n blocks are not bad.
+-- `chip_bad::count_good`: after n turns, how many of the first n blocks are not bad.
 -- Assumes nothing.
 use mathlib.Core.Path.{_≡_, refl, sym, ap, _∙_}
 use mathlib.Core.Logic.{⊎-elim}
@@ -9,8 +9,8 @@ use borrow.Author.Needs.{needs}
 use Rattle.lists.specs.Below.{countBelow}
 use Rattle.rules.specs.Format.{bad, goodBlocks}
 use Rattle.loops.proofs.Below.{count-start, count-yes, count-no}
-use Rattle.format_work.proofs.count_good.Statement.{statement}
-use Rattle.format_work.proofs.count_good.Tie as tie
+use Rattle.chip_bad.proofs.count_good.Statement.{statement}
+use Rattle.chip_bad.proofs.count_good.Tie as tie
 
 abbrev Inv-loop : tie.InvT-loop
 Inv-loop p chip m k₀ n₀ k n = (n ≤ m) × (k ≤ n) × (k ≡ countBelow n (λ j. not (bad p chip j)))

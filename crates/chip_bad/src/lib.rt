@@ -1,0 +1,57 @@
+// Document 02's T-02: which blocks are bad, by the factory's marks on the chip.
+ghost use mathlib.Core.Path.{_≡_};
+ghost use mathlib.Core.Bool.{true};
+ghost use Prim.Native.Nat.{_*_, _<_};
+ghost use lib.ListN.{length};
+ghost use Rattle.rules.specs.Parameters.{allowed, blockBytes, pages};
+ghost use Rattle.rules.specs.Format.{badMark, bad, goodBlocks};
+use rules::PBlock;
+use rules::Params;
+
+// True if page j of block n has the factory's bad mark: byte 5 of its spare area is not 255.
+fn has_bad_mark(p: Params, chip: &[u8], n: PBlock, j: usize) -> bool
+    requires { ⌜ allowed p ≡ true ⌝ }
+    requires { ⌜ length (now chip) ≡ p .N * blockBytes p ⌝ }
+    requires { ⌜ n .0 < p .N ⌝ }
+    requires { ⌜ j < pages p ⌝ }
+    ensures { λ r. ⌜ r ≡ badMark p (now (chip .entry)) (n .0) j ⌝ }
+{
+    let w = chip_sizes::block_bytes(p);
+    let q = chip_sizes::page_bytes(p);
+    let i = n.0 * w + (j * q + (p.s + 5));
+    chip[i] != 255
+}
+
+// True if block n is bad: page 0 has that mark, or page 1 where the block has one.
+pub fn is_bad(p: Params, chip: &[u8], n: PBlock) -> bool
+    requires { ⌜ allowed p ≡ true ⌝ }
+    requires { ⌜ length (now chip) ≡ p .N * blockBytes p ⌝ }
+    requires { ⌜ n .0 < p .N ⌝ }
+    ensures { λ r. ⌜ r ≡ bad p (now (chip .entry)) (n .0) ⌝ }
+{
+    if has_bad_mark(p, chip, n, 0) {
+        return true;
+    }
+    if chip_sizes::pages(p) < 2 {
+        return false;
+    }
+    has_bad_mark(p, chip, n, 1)
+}
+
+// How many blocks are not bad.
+pub fn count_good(p: Params, chip: &[u8]) -> usize
+    requires { ⌜ allowed p ≡ true ⌝ }
+    requires { ⌜ length (now chip) ≡ p .N * blockBytes p ⌝ }
+    ensures { λ k. ⌜ k ≡ goodBlocks p (now (chip .entry)) ⌝ }
+{
+    let m = p.N;
+    let mut k: usize = 0;
+    let mut n: usize = 0;
+    while n < m {
+        if !is_bad(p, chip, PBlock(n)) {
+            k += 1;
+        }
+        n += 1;
+    }
+    k
+}
