@@ -11,7 +11,7 @@ use lib.Seq.{drop-drop, getD-drop, getD-take, take-nil}
 use Rattle.lists.specs.Parts.{part}
 use Rattle.lists.proofs.Parts.{next}
 use Rattle.rules.specs.declared.Params.{Params}
-use Rattle.rules.specs.Pages.{held, le32, page, pageUsed, programmed, spare, stampOf, whole}
+use Rattle.rules.specs.Pages.{held, le32, page, pageUsed, programmed, spare, stampOf, vblockIn, whole}
 use Rattle.rules.specs.Parameters.{frameBytes, pageBytes}
 use Rattle.loops.proofs.Elements.{default}
 use Rattle.chip_words.proofs.Words.{Bytes, bytes-drop, bytes-take, four-bytes}
@@ -45,6 +45,11 @@ stamp-is p fr = rw (stamp-at p fr 0 (omega arith), stamp-at p fr 1 (omega arith)
 pub programmed-is : (p : Params) (fr : List ℕ) → p .s + 6 < length fr → programmed p fr ≡ eqb (getD fr (p .s + 6) 0) 0
 unfolding programmed pageUsed
 programmed-is p fr h = rw (spare-at p fr 6 255 (omega arith), default fr (p .s + 6) 255 0 h)
+
+-- the virtual block, from byte 11
+pub vblock-is : (p : Params) (fr : List ℕ) → p .s + 11 < length fr → vblockIn p fr ≡ getD fr (p .s + 11) 0
+unfolding vblockIn
+vblock-is p fr h = rw (spare-at p fr 11 255 (omega arith), default fr (p .s + 11) 255 0 h)
 
 -- the spare area of the last page is the end of the frame
 module _ (p : Params) (fr : List ℕ) (some : 0 < p .alpha) (size : length fr ≡ frameBytes p) where

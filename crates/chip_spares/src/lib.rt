@@ -6,7 +6,7 @@ ghost use lib.ListN.{length, drop, take};
 ghost use Rattle.lists.specs.Parts.{sameList};
 ghost use Rattle.rules.specs.Parameters.{allowed, frameBytes};
 ghost use Rattle.chip_words.specs.Words.{le};
-ghost use Rattle.rules.specs.Pages.{le32, spare, spareBytes, held, programmed, stampOf, whole};
+ghost use Rattle.rules.specs.Pages.{le32, spare, spareBytes, held, programmed, stampOf, vblockIn, whole};
 use rules::Cluster;
 use rules::Label;
 use rules::Params;
@@ -72,6 +72,16 @@ pub fn stamp_in(p: Params, frame: &[u8]) -> u32
     ensures { λ t. ⌜ t ≡ stampOf p (now (frame .entry)) ⌝ }
 {
     chip_words::half(frame, p.s + 7) as u32
+}
+
+// The virtual block that a frame's first page names.
+pub fn vblock_in(p: Params, frame: &[u8]) -> u8
+    requires { ⌜ allowed p ≡ true ⌝ }
+    requires { ⌜ length (now frame) ≡ frameBytes p ⌝ }
+    ensures { λ v. ⌜ v ≡ vblockIn p (now (frame .entry)) ⌝ }
+{
+    let a = p.s + 11;
+    frame[a]
 }
 
 // True if a frame is programmed.
