@@ -17,11 +17,10 @@ use Rattle.rules.specs.Numbers.{segmentOf, vblockOf}
 use Rattle.rules.specs.Pages.{block, filled, frame, programmed}
 use Rattle.rules.specs.Parameters.{frames}
 use Rattle.rules.specs.Tables.{btAt, none}
-use Rattle.rules.proofs.RegionFacts.{filled-le}
+use Rattle.rules.proofs.RegionFacts.{filled-le, last-full}
 use Rattle.rules.proofs.Sizes.{Sizes}
 use Rattle.check_tables.specs.Entries.{emptyAt}
 use Rattle.check_rules.specs.Check.{fullOk, openOk, vblockFrames, vblockFramesTo, vblockOk, vblockStamps}
-use Rattle.check_rules.proofs.Same.{last-full}
 use Rattle.check_blocks.proofs.Blocks.{frames-some, vblock-low}
 use Rattle.check_board.specs.Order.{entryOk, framesOk}
 use Rattle.check_board.proofs.Blocks.{rule-of-block}

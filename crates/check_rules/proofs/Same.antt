@@ -21,8 +21,7 @@ use Rattle.rules.specs.Pages.{block, filled, frame, lastIn, programmed}
 use Rattle.rules.specs.Parameters.{blockBytes, frames}
 use Rattle.rules.specs.Regions.{assigned, bodyAt, view, viewOf}
 use Rattle.rules.specs.Tables.{Board, btAt, ctAt, fstAt, none}
-use Rattle.rules.proofs.Frames.{erased-not}
-use Rattle.rules.proofs.RegionFacts.{UpTo, filled-le, up-to}
+use Rattle.rules.proofs.RegionFacts.{last-full}
 use Rattle.rules.proofs.Replays.{block-size}
 use Rattle.rules.proofs.Sizes.{Sizes}
 use Rattle.rules.proofs.Views.{some-bytes}
@@ -38,19 +37,6 @@ pub record Names (p : Params) (b : Board) : Type 0 where
   pub fine : Sizes p
   pub chipLength : length (b .chip) ≡ p .N * blockBytes p
   pub low : (r v : ℕ) → r < p .mu → v < p .gamma → (btAt p (b .bt) r v ≡ none → ⊥) → btAt p (b .bt) r v < p .N
-
--- a used block is full exactly if its last frame is programmed
-pub last-full : (p : Params) → Sizes p → (r v : ℕ) (blk : List ℕ) → blockRule p r v blk ≡ true → eqb (filled p blk) (frames p) ≡ programmed p (frame p blk (frames p - 1))
-unfolding blockRule
-last-full p z r v blk h = go (up-to p r v (filled p blk) blk (and-right (ltb 0 (filled p blk)) h)) (ℕ-discrete (filled p blk) (frames p))
-  where
-    go : UpTo p r v (filled p blk) blk → Dec (filled p blk ≡ frames p) → eqb (filled p blk) (frames p) ≡ programmed p (frame p blk (frames p - 1))
-    go u (yes e) =
-        rw (eq-eqb (filled p blk) (frames p) e)
-        (sym ((u .front (frames p - 1) (omega (arith, z .some)) (omega (arith, z .some))) .on))
-    go u (no e) =
-        rw (ne-eqb (filled p blk) (frames p) e)
-        (sym (erased-not p (frame p blk (frames p - 1)) (u .rest (frames p - 1) (omega (arith, z .some, filled-le p blk)) (omega (arith, z .some)))))
 
 module _ (p : Params) (b : Board) (t : Names p b) (r : ℕ) (region : r < p .mu) where
   body-none : (v : ℕ) → btAt p (b .bt) r v ≡ none → v < p .gamma → (view p b r) .body v ≡ []

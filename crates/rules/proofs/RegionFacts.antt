@@ -165,7 +165,19 @@ pub block-in : (p : Params) (r v : ℕ) (blk : List ℕ) → blockRule p r v blk
 unfolding blockRule
 block-in p r v blk k = (ltb-true _ _ (and-left (ltb 0 (filled p blk)) _ k), up-to p r v _ blk (and-right (ltb 0 (filled p blk)) k))
 
-pub block-out : (p : Params) (r v : ℕ) (blk : List ℕ) → (0 < filled p blk) × UpTo p r v (filled p blk) blk → blockRule p r v blk ≡ true
+-- a used block is full exactly if its last frame is programmed
+pub last-full : (p : Params) → Sizes p → (r v : ℕ) (blk : List ℕ) → blockRule p r v blk ≡ true → eqb (filled p blk) (frames p) ≡ programmed p (frame p blk (frames p - 1))
+last-full p z r v blk h = go ((block-in p r v blk h) .1) (ℕ-discrete (filled p blk) (frames p))
+  where
+    go : UpTo p r v (filled p blk) blk → Dec (filled p blk ≡ frames p) → eqb (filled p blk) (frames p) ≡ programmed p (frame p blk (frames p - 1))
+    go u (yes e) =
+        rw (eq-eqb (filled p blk) (frames p) e)
+        (sym ((u .front (frames p - 1) (omega (arith, z .some)) (omega (arith, z .some))) .on))
+    go u (no e) =
+        rw (ne-eqb (filled p blk) (frames p) e)
+        (sym (erased-not p (frame p blk (frames p - 1)) (u .rest (frames p - 1) (omega (arith, z .some, filled-le p blk)) (omega (arith, z .some)))))
+
+block-out : (p : Params) (r v : ℕ) (blk : List ℕ) → (0 < filled p blk) × UpTo p r v (filled p blk) blk → blockRule p r v blk ≡ true
 unfolding blockRule
 block-out p r v blk k = and-intro (lt-ltb _ _ (k .0)) (up-to-back p r v _ blk (k .1))
 
