@@ -13,22 +13,14 @@ use Rattle.rules.specs.Start.{inUse, regionNamed, sound, vblockNamed}
 use Rattle.rules.proofs.Sizes.{Sizes}
 use Rattle.chip_heads.specs.declared.Head.{Head}
 use Rattle.chip_heads.specs.Heads.{HeadOf, Names}
-use Rattle.chip_heads.proofs.Sound.{full-is, region-low, vblock-low}
+use Rattle.chip_heads.proofs.Sound.{full-is, region-low, region-read, vblock-low, vblock-read}
 
 -- over the first frame fr of a sound block, and the cluster c that it holds
 module _ (p : Params) (z : Sizes p) (blk : List ℕ) (fine : sound p blk ≡ true) (fr : List ℕ) (fr-is : fr ≡ frame p blk 0) (c : ℕ) (c-is : c ≡ held p fr) where
-  region-is : (r : ℕ) → r ≡ regionOf p c → r ≡ regionNamed p blk
-  unfolding regionNamed
-  region-is r e = rw (← fr-is, ← c-is) e
-
-  vblock-is : (v : ℕ) → v ≡ vblockIn p fr → v ≡ vblockNamed p blk
-  unfolding vblockNamed
-  vblock-is v e = rw (← fr-is) e
-
   pub names-are : (h : Head) → h .region ≡ regionOf p c → h .vblock .0 ≡ vblockIn p fr → h .full ≡ programmed p (frame p blk (frames p - 1)) → Names p blk h
   names-are h r v f =
-      let er : h .region ≡ regionNamed p blk = region-is (h .region) r in
-      let ev : h .vblock .0 ≡ vblockNamed p blk = vblock-is (h .vblock .0) v in
+      let er : h .region ≡ regionNamed p blk = region-read p blk fr fr-is c (h .region) c-is r in
+      let ev : h .vblock .0 ≡ vblockNamed p blk = vblock-read p blk fr fr-is (h .vblock .0) v in
       record {
         regionIs = er;
         regionLow = rw er (region-low p z blk fine);

@@ -12,14 +12,25 @@ use Rattle.lists.specs.Parts.{allAre}
 use Rattle.lists.proofs.Joins.{allAre-part}
 use Rattle.lists.proofs.Tests.{and-left, and-right, never, so}
 use Rattle.rules.specs.declared.Params.{Params}
+use Rattle.rules.specs.Numbers.{regionOf}
 use Rattle.rules.specs.Parameters.{frameBytes, frames}
-use Rattle.rules.specs.Pages.{block, erased, frame, held, isFull, programmed}
+use Rattle.rules.specs.Pages.{block, erased, frame, held, isFull, programmed, vblockIn}
 use Rattle.rules.specs.Orderly.{blockRule}
 use Rattle.rules.specs.Format.{bad}
 use Rattle.rules.specs.Start.{inUse, regionNamed, sound, vblockNamed}
 use Rattle.rules.proofs.Frames.{erased-not}
 use Rattle.rules.proofs.RegionFacts.{GoodFrame, block-in, last-full}
 use Rattle.rules.proofs.Sizes.{Sizes}
+
+-- the region and the virtual block that a block names, as they are read in its first frame fr
+module _ (p : Params) (blk fr : List ℕ) (fr-is : fr ≡ frame p blk 0) where
+  pub region-read : (c r : ℕ) → c ≡ held p fr → r ≡ regionOf p c → r ≡ regionNamed p blk
+  unfolding regionNamed
+  region-read c r e k = rw (← fr-is, ← e) k
+
+  pub vblock-read : (v : ℕ) → v ≡ vblockIn p fr → v ≡ vblockNamed p blk
+  unfolding vblockNamed
+  vblock-read v e = rw (← fr-is) e
 
 -- a block whose first frame is programmed is not erased
 pub not-erased : (p : Params) (blk : List ℕ) → programmed p (frame p blk 0) ≡ true → erased blk ≡ false
