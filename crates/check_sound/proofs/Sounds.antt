@@ -2,11 +2,10 @@
 -- Assumes nothing.
 use mathlib.Core.Path.{_≡_, refl, sym, _∙_}
 use mathlib.Core.Logic.{_⊎_, inl, inr}
-use mathlib.Core.Bool.{Bool, true, false, not, _&&_, _||_}
+use mathlib.Core.Bool.{Bool, true, false, not, _||_}
 use mathlib.Core.List.{List}
 use Prim.Native.Nat.{ℕ, _≤_, _<_}
 use native.Mathlib.Omega.{arith}
-use lib.Dec.{ltb}
 use borrow.Author.Tests.{le-ltb, lt-ltb}
 use Rattle.lists.proofs.Tests.{never, so}
 use Rattle.rules.specs.declared.Params.{Params}
@@ -14,7 +13,7 @@ use Rattle.rules.specs.Numbers.{regionOf}
 use Rattle.rules.specs.Pages.{block, erased, frame, held, programmed, vblockIn}
 use Rattle.rules.specs.Orderly.{blockRule}
 use Rattle.rules.specs.Format.{bad}
-use Rattle.rules.specs.Start.{inUse, regionNamed, sound, vblockNamed}
+use Rattle.rules.specs.Start.{inUse, sound}
 use Rattle.rules.proofs.Sizes.{Sizes}
 use Rattle.chip_heads.proofs.Sound.{bad-unused, cluster-low, first-on, not-erased, region-read, vblock-read}
 

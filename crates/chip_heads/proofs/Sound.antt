@@ -1,8 +1,8 @@
 -- A sound block and an erased one, by the first page; a sound one also says there what it names, and by its last frame whether it is full.
 -- Assumes nothing.
-use mathlib.Core.Path.{_≡_, sym}
+use mathlib.Core.Path.{_≡_}
 use mathlib.Core.Logic.{_⊎_, inl, inr}
-use mathlib.Core.Bool.{Bool, true, false, not, _&&_, and-false}
+use mathlib.Core.Bool.{true, false, not, _||_}
 use mathlib.Core.List.{List}
 use Prim.Native.Nat.{ℕ, _-_, _<_}
 use native.Mathlib.Nat.{mod-lt}
@@ -10,14 +10,14 @@ use lib.Dec.{ltb}
 use borrow.Author.Tests.{ltb-true}
 use Rattle.lists.specs.Parts.{allAre}
 use Rattle.lists.proofs.Joins.{allAre-part}
-use Rattle.lists.proofs.Tests.{and-left, and-right, never, so}
+use Rattle.lists.proofs.Tests.{all-at, and-left, and-right, never, so}
 use Rattle.rules.specs.declared.Params.{Params}
 use Rattle.rules.specs.Numbers.{regionOf}
 use Rattle.rules.specs.Parameters.{frameBytes, frames}
 use Rattle.rules.specs.Pages.{block, erased, frame, held, isFull, programmed, vblockIn}
 use Rattle.rules.specs.Orderly.{blockRule}
 use Rattle.rules.specs.Format.{bad}
-use Rattle.rules.specs.Start.{inUse, regionNamed, sound, vblockNamed}
+use Rattle.rules.specs.Start.{inUse, regionNamed, sound, soundRule, vblockNamed}
 use Rattle.rules.proofs.Frames.{erased-not}
 use Rattle.rules.proofs.RegionFacts.{GoodFrame, block-in, last-full}
 use Rattle.rules.proofs.Sizes.{Sizes}
@@ -83,3 +83,8 @@ blank-unused p z chip n fine off = go (so (inUse p chip n))
 pub begun-used : (p : Params) (chip : List ℕ) (n : ℕ) → bad p chip n ≡ false → programmed p (frame p (block p chip n) 0) ≡ true → inUse p chip n ≡ true
 unfolding inUse
 begun-used p chip n good on = rw (good, not-erased p (block p chip n) on)
+
+-- on a chip whose good blocks are erased or sound, a block in use is sound
+pub sound-at : (p : Params) (chip : List ℕ) → soundRule p chip ≡ true → (n : ℕ) → n < p .N → inUse p chip n ≡ true → sound p (block p chip n) ≡ true
+unfolding soundRule
+sound-at p chip h n low u = rw u at (all-at (p .N) (λ n. not (inUse p chip n) || sound p (block p chip n)) h n low)
