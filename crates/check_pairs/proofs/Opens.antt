@@ -43,6 +43,19 @@ module _ (p : Params) (z : Sizes p) (chip : List ℕ) (size : length chip ≡ ch
   unfolding keptBlock fullBlock
   kept-part v e = rw e
 
+  -- none, or one of the chip
+  kept-block : (v : ℕ) → (keptBlock p chip r v ≡ none) ⊎ (keptBlock p chip r v < p .N)
+  kept-block v = go (first-spec none (p .N) (namesFull p chip r v) (z .blocks)) (first-spec none (p .N) (namesOpen p chip r v) (z .blocks))
+    where
+      go : ((firstBelow none (p .N) (namesFull p chip r v) ≡ none) × ((i : ℕ) → i < p .N → namesFull p chip r v i ≡ false))
+          ⊎ ((firstBelow none (p .N) (namesFull p chip r v) < p .N) × (namesFull p chip r v (firstBelow none (p .N) (namesFull p chip r v)) ≡ true))
+          → ((firstBelow none (p .N) (namesOpen p chip r v) ≡ none) × ((i : ℕ) → i < p .N → namesOpen p chip r v i ≡ false))
+          ⊎ ((firstBelow none (p .N) (namesOpen p chip r v) < p .N) × (namesOpen p chip r v (firstBelow none (p .N) (namesOpen p chip r v)) ≡ true))
+          → (keptBlock p chip r v ≡ none) ⊎ (keptBlock p chip r v < p .N)
+      go (inr w) x = inr (rw (kept-full v (ne-eqb (firstBelow none (p .N) (namesFull p chip r v)) none (λ q. omega (arith, w .0, q, z .blocks)))) (w .0))
+      go (inl w) (inr x) = inr (rw (kept-part v (w .0)) (x .0))
+      go (inl w) (inl x) = inl (kept-part v (w .0) ∙ x .0)
+
   is-full : (v n : ℕ) → namesFull p chip r v n ≡ true → isFull p (block p chip n) ≡ true
   unfolding namesFull
   is-full v n t = and-right (names p chip r v n) t
@@ -127,7 +140,7 @@ module _ (p : Params) (z : Sizes p) (chip : List ℕ) (size : length chip ≡ ch
 
   pub kept-refused : (ok : Bool) → ok ≡ false → (full part row : List ℕ) → Filled p chip r ok full part → Kept p chip r false row
   kept-refused ok e full part row f =
-      record { said = λ bt is. rw (← (f .said), e); size = λ t. absurd (never t refl); kept = λ t. absurd (never t refl) }
+      record { said = λ bt is. rw (← (f .said), e); size = λ t. absurd (never t refl); kept = λ t. absurd (never t refl); blocks = λ t. absurd (never t refl) }
 
   module _ (ok : Bool) (passed : ok ≡ true) (full part : List ℕ) (f : Filled p chip r ok full part) (k : ℕ) (k-is : k ≡ countBelow (p .gamma) (λ v. openOf (getD full v none) (getD part v none))) where
     count-is : (bt : List ℕ) → ((v : ℕ) → v < p .gamma → btAt p bt r v ≡ keptBlock p chip r v) → openOnce p (foundView p chip bt r) ≡ leb k 1
@@ -139,6 +152,7 @@ module _ (p : Params) (z : Sizes p) (chip : List ℕ) (size : length chip ≡ ch
           said = λ bt is. rw (← (f .said), passed, count-is bt is, lt-leb k 1 two);
           size = λ t. absurd (never t refl);
           kept = λ t. absurd (never t refl);
+          blocks = λ t. absurd (never t refl);
         }
 
     pub kept-all : k ≤ 1 → (row : List ℕ) → length row ≡ length full → ((v : ℕ) → v < p .gamma → getD row v none ≡ keptOf (getD full v none) (getD part v none))
@@ -147,5 +161,9 @@ module _ (p : Params) (z : Sizes p) (chip : List ℕ) (size : length chip ≡ ch
         record {
           said = λ bt is. rw (← (f .said), passed, count-is bt is, le-leb k 1 once);
           size = λ t. long ∙ (f .fullRow passed) .size;
-          kept = λ t v h. each v h ∙ kept-is full part (f .fullRow passed) (f .openRow passed) v h;
+          kept = λ t v h. here v h;
+          blocks = λ t v h. rw (here v h) (kept-block v);
         }
+      where
+        here : (v : ℕ) → v < p .gamma → getD row v none ≡ keptBlock p chip r v
+        here v h = each v h ∙ kept-is full part (f .fullRow passed) (f .openRow passed) v h

@@ -1,6 +1,7 @@
 -- The rows that one pass over the blocks fills for a region: of each virtual block, the block of one kind that names it.
 -- Assumes nothing.
 use mathlib.Core.Path.{_≡_}
+use mathlib.Core.Logic.{_⊎_}
 use mathlib.Core.Bool.{Bool, _&&_, cond, false, not, true}
 use mathlib.Core.List.{List}
 use Prim.Native.Nat.{ℕ, _+_, _≤_, _<_}
@@ -42,9 +43,10 @@ keptOf full part = cond (eqb full none) part full
 unfoldable pub openOf : ℕ → ℕ → Bool
 openOf full part = eqb full none && not (eqb part none)
 
--- a region's pairs and its open blocks are as they should be; then the row has the kept blocks
+-- a region's pairs and its open blocks are as they should be; then the row has the kept blocks, each none or one of the chip
 pub record Kept (p : Params) (chip : List ℕ) (r : ℕ) (ok : Bool) (row : List ℕ) : Type 0 where
   pub said : (bt : List ℕ) → ((v : ℕ) → v < p .gamma → btAt p bt r v ≡ keptBlock p chip r v)
       → ok ≡ allBelow (p .gamma) (pairRule p chip r) && openOnce p (foundView p chip bt r)
   pub size : ok ≡ true → length row ≡ 16
   pub kept : ok ≡ true → (v : ℕ) → v < p .gamma → getD row v none ≡ keptBlock p chip r v
+  pub blocks : ok ≡ true → (v : ℕ) → v < p .gamma → (getD row v none ≡ none) ⊎ (getD row v none < p .N)
