@@ -30,8 +30,8 @@ fn region_ok(p: Params, chip: &[u8], r: usize) -> bool
     requires { ⌜ r < p .mu ⌝ }
     ensures { λ ok. ⌜ ok ≡ regionStarts p (now (chip .entry)) (foundBt p (now (chip .entry))) r ⌝ }
 {
-    let mut full = [65535u16; 16];
-    let mut part = [65535u16; 16];
+    let mut full = [rules::NONE as u16; 16];
+    let mut part = [rules::NONE as u16; 16];
     region_starts(p, chip, r, &mut full, &mut part)
 }
 
