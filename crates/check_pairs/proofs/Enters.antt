@@ -4,11 +4,12 @@ use mathlib.Core.Path.{_≡_, refl, sym, _∙_}
 use mathlib.Core.Logic.{inl, inr}
 use mathlib.Core.Bool.{Bool, true, false, and-false}
 use mathlib.Core.List.{List}
-use Prim.Native.Nat.{ℕ, _≤_, _<_}
+use Prim.Native.Nat.{ℕ, _+_, _≤_, _<_}
 use native.Mathlib.Omega.{arith}
 use lib.Dec.{eqb}
 use lib.ListN.{getD, set}
-use borrow.Author.Tests.{eq-eqb, eqb-false, eqb-true, ne-eqb}
+use borrow.Author.Tests.{eq-eqb, ne-eqb}
+use Rattle.lists.specs.Below.{countBelow}
 use Rattle.lists.proofs.Tests.{never}
 use Rattle.rules.specs.declared.Params.{Params}
 use Rattle.rules.specs.Pages.{block, isFull}
@@ -19,7 +20,7 @@ use Rattle.chip_heads.specs.declared.Head.{Head}
 use Rattle.chip_heads.specs.Heads.{HeadOf}
 use Rattle.check_pairs.specs.Rows.{Entered, Row}
 use Rattle.check_pairs.proofs.Pairs.{pairs-fail}
-use Rattle.check_pairs.proofs.Rows.{row-put, row-same, row-taken}
+use Rattle.check_pairs.proofs.Rows.{row-placed, row-same}
 
 module _ (p : Params) (z : Sizes p) (chip : List ℕ) (r n : ℕ) (low : n < p .N) (h : Head) (is : HeadOf p chip n h) where
   -- ---- which virtual block it names
@@ -67,32 +68,41 @@ module _ (p : Params) (z : Sizes p) (chip : List ℕ) (r n : ℕ) (low : n < p .
       names-no : (u : ℕ) → (u ≡ h .vblock .0 → ⊥) → names p chip r u n ≡ false
       names-no u d = names-is e mine u ∙ ne-eqb (h .vblock .0) u (λ q. d (sym q))
 
+      few : n ≤ none
+      few = omega (arith, z .blocks)
+
       pub enters-full : h .full ≡ true → (ok : Bool) (full′ : List ℕ) → ok ≡ eqb (getD full (h .vblock .0) none) none → (ok ≡ true → full′ ≡ set full (h .vblock .0) n)
           → Entered p chip r n ok full′ part
       enters-full f ok full′ free put =
           record {
-            fullRow = λ t. row-put p (z .gammaHigh) (namesFull p chip r) n few full full-row (h .vblock .0) in-row here (eqb-true _ _ (sym free ∙ t)) (λ u k d. unfold namesFull in rw (names-no u d)) full′ (put t);
+            fullRow = placed .0;
             openRow = λ t. row-same p (z .gammaHigh) (namesOpen p chip r) n part part-row (λ u k. unfold namesOpen in rw (full-is ∙ f) (and-false (names p chip r u n)));
-            refused = λ t. pairs-fail p chip r (h .vblock .0) in-row (inl (row-taken p (z .gammaHigh) (namesFull p chip r) n few full full-row (h .vblock .0) in-row here (p .N) low (eqb-false _ _ (sym free ∙ t))));
+            refused = λ t. pairs-fail p chip r (h .vblock .0) in-row (inl (placed .1 t));
           }
         where
-          few : n ≤ none
-          few = omega (arith, z .blocks)
-
           here : namesFull p chip r (h .vblock .0) n ≡ true
           here = unfold namesFull in rw (names-here, full-is ∙ f)
+
+          others : (u : ℕ) → u < p .gamma → (u ≡ h .vblock .0 → ⊥) → namesFull p chip r u n ≡ false
+          others u k d = unfold namesFull in rw (names-no u d)
+
+          placed : (ok ≡ true → Row p (namesFull p chip r) (n + 1) full′) × (ok ≡ false → 2 ≤ countBelow (p .N) (namesFull p chip r (h .vblock .0)))
+          placed = row-placed p (z .gammaHigh) (namesFull p chip r) n few full full-row (h .vblock .0) in-row here others (p .N) low ok full′ free put
 
       pub enters-part : h .full ≡ false → (ok : Bool) (part′ : List ℕ) → ok ≡ eqb (getD part (h .vblock .0) none) none → (ok ≡ true → part′ ≡ set part (h .vblock .0) n)
           → Entered p chip r n ok full part′
       enters-part f ok part′ free put =
           record {
             fullRow = λ t. row-same p (z .gammaHigh) (namesFull p chip r) n full full-row (λ u k. unfold namesFull in rw (full-is ∙ f) (and-false (names p chip r u n)));
-            openRow = λ t. row-put p (z .gammaHigh) (namesOpen p chip r) n few part part-row (h .vblock .0) in-row here (eqb-true _ _ (sym free ∙ t)) (λ u k d. unfold namesOpen in rw (names-no u d)) part′ (put t);
-            refused = λ t. pairs-fail p chip r (h .vblock .0) in-row (inr (row-taken p (z .gammaHigh) (namesOpen p chip r) n few part part-row (h .vblock .0) in-row here (p .N) low (eqb-false _ _ (sym free ∙ t))));
+            openRow = placed .0;
+            refused = λ t. pairs-fail p chip r (h .vblock .0) in-row (inr (placed .1 t));
           }
         where
-          few : n ≤ none
-          few = omega (arith, z .blocks)
-
           here : namesOpen p chip r (h .vblock .0) n ≡ true
           here = unfold namesOpen in rw (names-here, full-is ∙ f)
+
+          others : (u : ℕ) → u < p .gamma → (u ≡ h .vblock .0 → ⊥) → namesOpen p chip r u n ≡ false
+          others u k d = unfold namesOpen in rw (names-no u d)
+
+          placed : (ok ≡ true → Row p (namesOpen p chip r) (n + 1) part′) × (ok ≡ false → 2 ≤ countBelow (p .N) (namesOpen p chip r (h .vblock .0)))
+          placed = row-placed p (z .gammaHigh) (namesOpen p chip r) n few part part-row (h .vblock .0) in-row here others (p .N) low ok part′ free put

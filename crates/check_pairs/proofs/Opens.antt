@@ -34,7 +34,11 @@ module _ (p : Params) (z : Sizes p) (chip : List ℕ) (size : length chip ≡ ch
   has-bytes : (n : ℕ) → n < p .N → ltb 0 (length (block p chip n)) ≡ true
   has-bytes n h = lt-ltb 0 (length (block p chip n)) (rw (block-size p chip n (rw (size, chip-size p) (next (blockBytes p) n (p .N) h))) (some-bytes p (z .some) (z .sectors)))
 
-  -- the block that is kept, and whether it is full
+  -- what a search among the blocks finds
+  abbrev Search : (ℕ → Bool) → Type 0
+  Search f = ((firstBelow none (p .N) f ≡ none) × ((i : ℕ) → i < p .N → f i ≡ false)) ⊎ ((firstBelow none (p .N) f < p .N) × (f (firstBelow none (p .N) f) ≡ true))
+
+  -- the block that is kept: a full one, else one that is not full
   kept-full : (v : ℕ) → eqb (firstBelow none (p .N) (namesFull p chip r v)) none ≡ false → keptBlock p chip r v ≡ firstBelow none (p .N) (namesFull p chip r v)
   unfolding keptBlock fullBlock
   kept-full v e = rw e
@@ -47,15 +51,12 @@ module _ (p : Params) (z : Sizes p) (chip : List ℕ) (size : length chip ≡ ch
   kept-block : (v : ℕ) → (keptBlock p chip r v ≡ none) ⊎ (keptBlock p chip r v < p .N)
   kept-block v = go (first-spec none (p .N) (namesFull p chip r v) (z .blocks)) (first-spec none (p .N) (namesOpen p chip r v) (z .blocks))
     where
-      go : ((firstBelow none (p .N) (namesFull p chip r v) ≡ none) × ((i : ℕ) → i < p .N → namesFull p chip r v i ≡ false))
-          ⊎ ((firstBelow none (p .N) (namesFull p chip r v) < p .N) × (namesFull p chip r v (firstBelow none (p .N) (namesFull p chip r v)) ≡ true))
-          → ((firstBelow none (p .N) (namesOpen p chip r v) ≡ none) × ((i : ℕ) → i < p .N → namesOpen p chip r v i ≡ false))
-          ⊎ ((firstBelow none (p .N) (namesOpen p chip r v) < p .N) × (namesOpen p chip r v (firstBelow none (p .N) (namesOpen p chip r v)) ≡ true))
-          → (keptBlock p chip r v ≡ none) ⊎ (keptBlock p chip r v < p .N)
+      go : Search (namesFull p chip r v) → Search (namesOpen p chip r v) → (keptBlock p chip r v ≡ none) ⊎ (keptBlock p chip r v < p .N)
       go (inr w) x = inr (rw (kept-full v (ne-eqb (firstBelow none (p .N) (namesFull p chip r v)) none (λ q. omega (arith, w .0, q, z .blocks)))) (w .0))
       go (inl w) (inr x) = inr (rw (kept-part v (w .0)) (x .0))
       go (inl w) (inl x) = inl (kept-part v (w .0) ∙ x .0)
 
+  -- a block of each kind
   is-full : (v n : ℕ) → namesFull p chip r v n ≡ true → isFull p (block p chip n) ≡ true
   unfolding namesFull
   is-full v n t = and-right (names p chip r v n) t
@@ -120,11 +121,7 @@ module _ (p : Params) (z : Sizes p) (chip : List ℕ) (size : length chip ≡ ch
       open-is : openOf (getD full v none) (getD part v none) ≡ isOpen p (foundView p chip bt r) v
       open-is = go (first-spec none (p .N) (namesFull p chip r v) (z .blocks)) (first-spec none (p .N) (namesOpen p chip r v) (z .blocks))
         where
-          go : ((firstBelow none (p .N) (namesFull p chip r v) ≡ none) × ((i : ℕ) → i < p .N → namesFull p chip r v i ≡ false))
-              ⊎ ((firstBelow none (p .N) (namesFull p chip r v) < p .N) × (namesFull p chip r v (firstBelow none (p .N) (namesFull p chip r v)) ≡ true))
-              → ((firstBelow none (p .N) (namesOpen p chip r v) ≡ none) × ((i : ℕ) → i < p .N → namesOpen p chip r v i ≡ false))
-              ⊎ ((firstBelow none (p .N) (namesOpen p chip r v) < p .N) × (namesOpen p chip r v (firstBelow none (p .N) (namesOpen p chip r v)) ≡ true))
-              → openOf (getD full v none) (getD part v none) ≡ isOpen p (foundView p chip bt r) v
+          go : Search (namesFull p chip r v) → Search (namesOpen p chip r v) → openOf (getD full v none) (getD part v none) ≡ isOpen p (foundView p chip bt r) v
           go (inr w) x = found-full (w .0) (w .1)
           go (inl w) (inr x) = found-part (w .0) (x .0) (x .1)
           go (inl w) (inl x) = found-none (w .0) (x .0)

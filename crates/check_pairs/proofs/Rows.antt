@@ -12,7 +12,7 @@ use native.Mathlib.Omega.{arith}
 use lib.Dec.{eqb}
 use lib.ListN.{getD, getD-replicate, length, length-replicate, length-set, replicate, set}
 use lib.Seq.{getD-set-other, getD-set-same}
-use borrow.Author.Tests.{eq-eqb, ne-eqb}
+use borrow.Author.Tests.{eq-eqb, eqb-false, eqb-true, ne-eqb}
 use Rattle.lists.specs.Below.{countBelow, firstBelow}
 use Rattle.lists.proofs.Ranks.{rank-low}
 use Rattle.lists.proofs.Searches.{first-spec}
@@ -84,7 +84,7 @@ module _ (p : Params) (few : p .gamma ≤ 16) (kind : ℕ → ℕ → Bool) wher
 
   -- v is, and no other
   module _ (n : ℕ) (low : n ≤ none) (row : List ℕ) (s : Row p kind n row) (v : ℕ) (in-row : v < p .gamma) (yes-v : kind v n ≡ true) where
-    pub row-put : getD row v none ≡ none → ((u : ℕ) → u < p .gamma → (u ≡ v → ⊥) → kind u n ≡ false) → (row′ : List ℕ) → row′ ≡ set row v n → Row p kind (n + 1) row′
+    row-put : getD row v none ≡ none → ((u : ℕ) → u < p .gamma → (u ≡ v → ⊥) → kind u n ≡ false) → (row′ : List ℕ) → row′ ≡ set row v n → Row p kind (n + 1) row′
     row-put free not row′ e =
         record {
           size = rw e (simp length-set (s .size));
@@ -104,13 +104,19 @@ module _ (p : Params) (few : p .gamma ≤ 16) (kind : ℕ → ℕ → Bool) wher
         few-at u h (no d) = rw (count-same n (kind u) (not u h d)) (s .once u h)
 
     -- the place is taken: of all m blocks two are of this kind
-    pub row-taken : (m : ℕ) → n < m → (getD row v none ≡ none → ⊥) → 2 ≤ countBelow m (kind v)
+    row-taken : (m : ℕ) → n < m → (getD row v none ≡ none → ⊥) → 2 ≤ countBelow m (kind v)
     row-taken m h taken = go (first-spec none n (kind v) low)
       where
         go : ((firstBelow none n (kind v) ≡ none) × ((i : ℕ) → i < n → kind v i ≡ false)) ⊎ ((firstBelow none n (kind v) < n) × (kind v (firstBelow none n (kind v)) ≡ true))
             → 2 ≤ countBelow m (kind v)
         go (inl w) = absurd (taken (s .entry v in-row ∙ w .0))
         go (inr w) = omega (arith, rank-low n (kind v) (firstBelow none n (kind v)) (w .0) (w .1), rank-low m (kind v) n h yes-v)
+
+    -- by whether it is free
+    pub row-placed : ((u : ℕ) → u < p .gamma → (u ≡ v → ⊥) → kind u n ≡ false) → (m : ℕ) → n < m → (ok : Bool) (row′ : List ℕ) → ok ≡ eqb (getD row v none) none
+        → (ok ≡ true → row′ ≡ set row v n) → (ok ≡ true → Row p kind (n + 1) row′) × (ok ≡ false → 2 ≤ countBelow m (kind v))
+    row-placed others m h ok row′ free put =
+        (λ t. row-put (eqb-true _ _ (sym free ∙ t)) others row′ (put t), λ t. row-taken m h (eqb-false _ _ (sym free ∙ t)))
 
 -- a row is as long as it was lent
 pub as-lent : (p : Params) (kind : ℕ → ℕ → Bool) (n : ℕ) (row₀ row : List ℕ) → row₀ ≡ replicate 16 none → Row p kind n row → length row ≡ length row₀
