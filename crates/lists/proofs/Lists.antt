@@ -5,7 +5,7 @@ use mathlib.Core.List.{List, [], _++_, _∷_}
 use Prim.Native.Nat.{_-_, _<_, suc, zero, ℕ}
 use native.Mathlib.Decide.{ℕ-discrete}
 use native.Mathlib.Omega.{arith}
-use lib.ListN.{List·getD-append, getD, length, length-append, length-set, set, take}
+use lib.ListN.{List·getD-append, getD, getD-replicate, length, length-append, length-replicate, length-set, replicate, set}
 use lib.Seq.{ext-getD, getD-at, getD-set-other, getD-set-same}
 use Rattle.lists.specs.Below.{updated, listBelow}
 use Rattle.lists.proofs.Joins.{updated-other, updated-same}
@@ -32,6 +32,10 @@ list-cong (suc n) f g h = rw (h n (omega arith), list-cong n f g (λ k l. h k (o
 -- a list of n elements, of which element k is f of k
 pub list-is {ℓ} : {A : Type ℓ} (d : A) (n : ℕ) (f : ℕ → A) (l : List A) → length l ≡ n → ((k : ℕ) → k < n → getD l k d ≡ f k) → l ≡ listBelow n f
 list-is d n f l e h = ext-getD d l (listBelow n f) (e ∙ sym (list-length n f)) (λ k a. h k (omega arith) ∙ sym (list-at n f k d (omega arith)))
+
+-- one element throughout
+pub list-const {ℓ} : {A : Type ℓ} (x : A) (n : ℕ) → replicate n x ≡ listBelow n (λ k. x)
+list-const x n = list-is x n (λ k. x) (replicate n x) (length-replicate n x) (λ k h. getD-replicate n k x x h)
 
 -- one element set
 pub list-set {ℓ} : {A : Type ℓ} (n : ℕ) (f : ℕ → A) (i : ℕ) (x : A) → i < n → set (listBelow n f) i x ≡ listBelow n (updated f i x)

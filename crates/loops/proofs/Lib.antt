@@ -1,3 +1,4 @@
 pub mod Below
 pub mod Elements
 pub mod Lent
+pub mod Tables

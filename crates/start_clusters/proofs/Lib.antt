@@ -1,0 +1,3 @@
+pub mod Newest
+pub mod Segments
+pub mod Stamps
