@@ -1,14 +1,16 @@
--- A loop over the numbers below n: what one turn adds to a test of all, to a count, and to a search from above.
+-- A loop over the numbers below n: what one turn adds to a test of all, to a count, and to a search from below or from above.
 -- Assumes nothing.
 use mathlib.Core.Path.{_≡_, refl}
 use mathlib.Core.Logic.{_⊎_, inl, inr}
-use mathlib.Core.Bool.{Bool, true, false, cond}
+use mathlib.Core.Bool.{Bool, true, false, _&&_, and-false, cond}
 use Prim.Native.Nat.{ℕ, zero, suc, _+_, _≤_, _<_}
 use native.Mathlib.Numerals.{add-one}
 use native.Mathlib.Nat.{add-zero}
-use native.Mathlib.Decide.{decLt}
+use native.Mathlib.Decide.{decLt, ℕ-discrete}
 use native.Mathlib.Omega.{arith}
-use Rattle.lists.specs.Below.{allBelow, countBelow, lastBelow}
+use lib.Dec.{eqb}
+use borrow.Author.Tests.{eq-eqb, ne-eqb}
+use Rattle.lists.specs.Below.{allBelow, countBelow, firstBelow, lastBelow}
 use Rattle.lists.proofs.Tests.{all-at, so, never}
 
 -- ---- every number passes
@@ -54,6 +56,25 @@ count-skip (suc n) m f h k = go (decLt n m) (count-skip n m f)
     go : Dec (n < m) → (m ≤ n → ((j : ℕ) → m ≤ j → j < n → f j ≡ false) → countBelow n f ≡ countBelow m f) → countBelow n f + cond (f n) 1 0 ≡ countBelow m f
     go (yes a) rec = let e : m ≡ suc n = omega arith in rw e
     go (no a) rec = rw (k n (omega arith) (omega arith), add-zero) (rec (omega arith) (λ j x y. k j x (omega arith)))
+
+-- ---- the first that passes
+
+pub first-start : (o : ℕ) (f : ℕ → Bool) → firstBelow o 0 f ≡ o
+unfolding firstBelow
+first-start o f = refl
+
+pub first-later : (o i : ℕ) (f : ℕ → Bool) → firstBelow o i f ≡ o → f i ≡ false → firstBelow o (i + 1) f ≡ o
+unfolding firstBelow
+first-later o i f h e = rw (add-one, e, and-false) h
+
+pub first-here : (o n i : ℕ) (f : ℕ → Bool) → n ≤ o → i < n → firstBelow o i f ≡ o → f i ≡ true → firstBelow o n f ≡ i
+unfolding firstBelow
+first-here o zero i f few l h e = absurd (omega arith)
+first-here o (suc n) i f few l h e = go (ℕ-discrete i n) (λ k. first-here o n i f (omega arith) k h e)
+  where
+    go : Dec (i ≡ n) → (i < n → firstBelow o n f ≡ i) → cond (eqb (firstBelow o n f) o && f n) n (firstBelow o n f) ≡ i
+    go (yes d) below = rw (← d, h, eq-eqb o o refl, e)
+    go (no d) below = rw (below (omega arith), ne-eqb i o (λ x. omega arith))
 
 -- ---- the last that passes, from above
 
