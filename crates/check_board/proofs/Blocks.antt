@@ -12,16 +12,16 @@ use borrow.Author.Tests.{ne-eqb}
 use Rattle.lists.proofs.Tests.{and-right, never}
 use Rattle.rules.specs.declared.Params.{Params}
 use Rattle.rules.specs.Orderly.{blockRule}
-use Rattle.rules.specs.Pages.{block, filled, frame, programmed, whole}
+use Rattle.rules.specs.Pages.{block, filled, frame, programmed}
 use Rattle.rules.specs.Parameters.{frames}
 use Rattle.rules.specs.Tables.{bstAt, btAt, none}
 use Rattle.rules.proofs.Frames.{erased-not}
-use Rattle.rules.proofs.RegionFacts.{GoodFrame, UpTo, good-holds, up-to, whole-front}
-use Rattle.rules.proofs.Sizes.{sizes}
+use Rattle.rules.proofs.RegionFacts.{GoodFrame, UpTo, up-to}
 use Rattle.check_tables.specs.Entries.{differs}
 use Rattle.check_rules.specs.Check.{vblockOk}
 use Rattle.check_blocks.proofs.Blocks.{name-low}
-use Rattle.check_marks.specs.Shown.{CheckAsked, Mine}
+use Rattle.check_marks.specs.Shown.{CheckAsked}
+use Rattle.check_marks.proofs.Asked.{block-mine}
 use Rattle.check_board.specs.Order.{BlocksAsked}
 
 -- a programmed frame of a block of region r is a good one
@@ -32,13 +32,6 @@ good p r v blk h f low e = go (decLt f (filled p blk)) (up-to p r v (filled p bl
     go : Dec (f < filled p blk) → UpTo p r v (filled p blk) blk → GoodFrame p r v (frame p blk f)
     go (yes a) u = u .front f a low
     go (no a) u = absurd (never e (erased-not p (frame p blk f) (u .rest f (omega arith) low)))
-
--- and so is a whole one
-whole-good : (p : Params) (r v : ℕ) (blk : List ℕ) → blockRule p r v blk ≡ true → (f : ℕ) → f < frames p → whole p (frame p blk f) ≡ true → GoodFrame p r v (frame p blk f)
-unfolding blockRule
-whole-good p r v blk h f low e =
-    let u = up-to p r v (filled p blk) blk (and-right (ltb 0 (filled p blk)) h) in
-    u .front f (whole-front p r v (filled p blk) blk u f low e) low
 
 module _ (p : Params) (chip bt bst : List ℕ) (r v : ℕ) (ok : vblockOk p chip bt bst r v ≡ true) where
   pub rule-of-block : (btAt p bt r v ≡ none → ⊥) → blockRule p r v (block p chip (btAt p bt r v)) ≡ true
@@ -56,13 +49,5 @@ module _ (p : Params) (chip bt bst : List ℕ) (r v : ℕ) (ok : vblockOk p chip
         marksLong = a .marksLong;
         region = region;
         low = low;
-        named = λ ne. (name-low p chip bt (a .lent) r v _ region low refl ne, mine ne);
+        named = λ ne. (name-low p chip bt (a .lent) r v _ region low refl ne, block-mine p (a .lent .fine) r v (block p chip (btAt p bt r v)) (rule-of-block ne));
       }
-    where
-      mine : (btAt p bt r v ≡ none → ⊥) → Mine p r (block p chip (btAt p bt r v))
-      mine ne =
-          record {
-            low = λ f h e. (whole-good p r v (block p chip (btAt p bt r v)) (rule-of-block ne) f h e) .low;
-            region = λ f h e. (whole-good p r v (block p chip (btAt p bt r v)) (rule-of-block ne) f h e) .mine;
-            kept = λ f h e. let g = whole-good p r v (block p chip (btAt p bt r v)) (rule-of-block ne) f h e in (g .on, good-holds p (sizes p (a .lent .fine)) r v _ g e);
-          }

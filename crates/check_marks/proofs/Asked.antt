@@ -1,7 +1,7 @@
 -- The block of a virtual block, where BT has one, as the tests of its marks want it; and the marks of a virtual block without a block.
 -- Assumes nothing.
 use mathlib.Core.Path.{_≡_, refl, sym, _∙_}
-use mathlib.Core.Bool.{Bool, false}
+use mathlib.Core.Bool.{Bool, false, true}
 use mathlib.Core.List.{List, []}
 use Prim.Native.Nat.{ℕ, _*_, _+_, _<_}
 use lib.ListN.{length}
@@ -9,13 +9,24 @@ use borrow.Author.Tests.{eq-eqb, lt-ltb, ne-eqb}
 use Rattle.lists.specs.Below.{allBelow}
 use Rattle.lists.proofs.Tests.{all-cong}
 use Rattle.rules.specs.declared.Params.{Params}
-use Rattle.rules.specs.Pages.{block}
-use Rattle.rules.specs.Parameters.{blockBytes}
+use Rattle.rules.specs.Orderly.{blockRule}
+use Rattle.rules.specs.Pages.{block, filled, frame, whole}
+use Rattle.rules.specs.Parameters.{allowed, blockBytes, frames}
 use Rattle.rules.specs.Regions.{View, assigned, bodyAt, viewOf}
 use Rattle.rules.specs.Tables.{btAt, none}
+use Rattle.rules.proofs.RegionFacts.{GoodFrame, block-in, good-holds, whole-front}
+use Rattle.rules.proofs.Sizes.{sizes}
 use Rattle.marks.proofs.Counted.{unassigned-unmarked}
 use Rattle.chip_marks.specs.Asked.{WordsAsked}
 use Rattle.check_marks.specs.Shown.{CheckAsked, Mine, OneBlock, Shows, marksValid, onlyIn, wordOnly}
+
+-- the whole frames of a used block of region r hold clusters of it
+pub block-mine : (p : Params) → allowed p ≡ true → (r v : ℕ) (blk : List ℕ) → blockRule p r v blk ≡ true → Mine p r blk
+block-mine p fine r v blk h =
+    record { low = λ f l e. (good f l e) .low; region = λ f l e. (good f l e) .mine; kept = λ f l e. ((good f l e) .on, good-holds p (sizes p fine) r v (frame p blk f) (good f l e) e) }
+  where
+    good : (f : ℕ) → f < frames p → whole p (frame p blk f) ≡ true → GoodFrame p r v (frame p blk f)
+    good f l e = let u = (block-in p r v blk h) .1 in u .front f (whole-front p r v (filled p blk) blk u f l e) l
 
 module _ (p : Params) (chip ct bt marks : List ℕ) (r v : ℕ) (a : CheckAsked p chip ct bt marks r v) where
   pub words-asked : WordsAsked p marks r v

@@ -67,7 +67,7 @@ fn is_last(p: Params, blk: &[u8], k: usize, f: usize, c: Cluster) -> bool
 }
 
 // True if frame f of virtual block v, whose bytes are lent, is valid. The place of its segment in the block is k.
-fn is_valid(p: Params, blk: &[u8], ct: &[u16], v: VBlock, k: usize, f: usize) -> bool
+pub fn is_valid(p: Params, blk: &[u8], ct: &[u16], v: VBlock, k: usize, f: usize) -> bool
     requires { ⌜ OneFrame p (now blk) (now ct) (v .0) f ⌝ }
     requires { ⌜ k ≡ f / p .beta ⌝ }
     ensures { λ ok. ⌜ ((r : ℕ) (vw : View) → Shows p r (v .0) (now (blk .entry)) (now (ct .entry)) vw → ok ≡ valid p vw (v .0) f) ⌝ }

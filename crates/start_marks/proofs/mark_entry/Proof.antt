@@ -1,0 +1,38 @@
+-- `start_marks::mark_entry`: without a block there is no mark to set; with one, those of all its frames.
+-- Assumes nothing.
+use mathlib.Core.Path.{_≡_}
+use native.Mathlib.Omega.{arith}
+use borrow.Author.Needs.{needs}
+use Rattle.start_marks.proofs.Turns.{asks, block-low, divisor, in-bt, with-block, without}
+use Rattle.start_marks.proofs.mark_entry.Statement.{statement}
+use Rattle.start_marks.proofs.mark_entry.Tie as tie
+
+bt-entry-requires : tie.Need-bt-entry-requires
+bt-entry-requires c κs = in-bt _ _ _ _ _ _ (c .before .before .before .before .pre)
+
+returns : tie.Need-returns
+returns c = without _ _ _ _ _ _ (c .before .before .before .before .before .before .before .pre) _ (c .before .before .bt-entry .ensures .0) (c .if1 .taken)
+
+div-r : tie.Need-div-r
+div-r c = omega (arith, divisor _ _ _ _ _ _ (c .before .before .before .before .before .before .before .before .pre))
+
+rem-t11 : tie.Need-rem-t11
+rem-t11 c = omega (arith, divisor _ _ _ _ _ _ (c .before .before .before .before .before .before .before .before .before .pre))
+
+block-of-requires : tie.Need-block-of-requires
+block-of-requires c κs = let a = c .before .before .before .before .before .before .before .before .before .pre in
+    (a .found .fine, (a .found .chipLength, block-low _ _ _ _ _ _ a _ (c .before .before .before .before .bt-entry .ensures .0) (c .before .before .if1 .left)))
+
+mark-block-requires : tie.Need-mark-block-requires
+mark-block-requires c κs = asks _ _ _ _ _ _ (c .before .before .before .before .before .before .before .before .before .before .before .pre) _ (c .before .before .before .before .before .before .bt-entry .ensures .0) (c .before .before .before .before .if1 .left) _ (c .before .block-of .ensures .0) (c .before .block-of .ensures .1)
+
+same-length : tie.Need-same-length
+same-length c = search needs
+
+returns-2 : tie.Need-returns-2
+returns-2 c = with-block _ _ _ _ _ _ (c .before .before .before .before .before .before .before .before .before .before .before .before .before .before .pre) _ (c .before .before .before .before .before .before .before .before .before .bt-entry .ensures .0) (c .before .before .before .before .before .before .before .if1 .left) _ (c .before .before .before .before .block-of .ensures .0) _ (c .before .before .mark-block .ensures)
+
+pub mark-entry-spec : {M : Type 1} → statement M
+mark-entry-spec =
+    tie.close
+    (tie.spec bt-entry-requires returns div-r rem-t11 block-of-requires mark-block-requires same-length returns-2)
