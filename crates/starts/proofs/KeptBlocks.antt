@@ -199,7 +199,7 @@ module _ (p : Params) (z : Sizes p) (chip : List ℕ) (starts : startable p chip
   unfolding regionStarts
   pair r v h k = all-at (p .gamma) (pairRule p chip r) ((truths _ (region-starts r h)) .0) v k
 
-  few : (r v : ℕ) → r < p .mu → v < p .gamma → (countBelow (p .N) (namesFull p chip r v) ≤ 1) × (countBelow (p .N) (namesOpen p chip r v) ≤ 1)
+  pub few : (r v : ℕ) → r < p .mu → v < p .gamma → (countBelow (p .N) (namesFull p chip r v) ≤ 1) × (countBelow (p .N) (namesOpen p chip r v) ≤ 1)
   unfolding pairRule
   few r v h k =
       one-each (countBelow (p .N) (names p chip r v)) (countBelow (p .N) (namesFull p chip r v)) (countBelow (p .N) (namesOpen p chip r v))

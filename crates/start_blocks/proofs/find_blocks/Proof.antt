@@ -1,0 +1,46 @@
+-- `start_blocks::find_blocks`: the passes one after the other.
+-- Assumes nothing.
+use mathlib.Core.Path.{_≡_, sym, ap, _∙_}
+use lib.ListN.{length, length-replicate}
+use borrow.Author.Needs.{needs}
+use Rattle.start_blocks.proofs.Blocks.{chip-length, kinds-are, still-asked, use-asked}
+use Rattle.start_blocks.proofs.Fulls.{fulls-length, fulls-none}
+use Rattle.start_blocks.proofs.find_blocks.Statement.{statement}
+use Rattle.start_blocks.proofs.find_blocks.Tie as tie
+
+reserve-bad-requires : tie.Need-reserve-bad-requires
+reserve-bad-requires c κs = let a = c .before .before .before .before .before .before .pre in (a .0 .fine, (chip-length _ _ _ (a .0), a .1 .0))
+
+clear-requires : tie.Need-clear-requires
+clear-requires c κs = search needs
+
+name-fulls-requires : tie.Need-name-fulls-requires
+name-fulls-requires c κs = let a = c .before .before .before .before .before .before .before .before .before .before .before .before .before .before .before .pre in
+    (still-asked _ _ _ (a .0) _ (ap length (c .before .before .before .before .clear .ensures) ∙ length-replicate _ _), fulls-none _ _ _ (a .0) _ (c .before .before .before .before .clear .ensures))
+
+name-opens-requires : tie.Need-name-opens-requires
+name-opens-requires c κs = let a = c .before .before .before .before .before .before .before .before .before .before .before .before .before .before .before .before .before .before .before .before .before .pre in
+    (still-asked _ _ _ (a .0) _ (ap length (c .before .before .before .before .before .name-fulls .ensures) ∙ fulls-length _ _ _ (a .0) _ ∙ sym (a .0 .btLength)), (a .1 .1, c .before .before .before .before .before .name-fulls .ensures))
+
+use-named-requires : tie.Need-use-named-requires
+use-named-requires c κs = use-asked _ _ _ (c .before .before .before .before .before .before .before .before .before .before .before .before .before .before .before .before .before .before .before .before .before .before .before .before .before .before .before .before .before .before .pre .0) _ _ (c .before .before .before .before .before .before .before .before .name-opens .ensures .btIs) (c .before .before .before .before .before .before .before .before .before .before .before .before .before .before .before .before .before .before .before .before .before .before .before .reserve-bad .ensures)
+
+same-length : tie.Need-same-length
+same-length c = search needs
+
+same-length-2 : tie.Need-same-length-2
+same-length-2 c = search needs
+
+same-length-3 : tie.Need-same-length-3
+same-length-3 c = search needs
+
+same-length-4 : tie.Need-same-length-4
+same-length-4 c = search needs
+
+returns : tie.Need-returns
+returns c = (c .before .before .before .before .before .before .before .before .before .before .before .name-opens .ensures, kinds-are _ _ _ (c .before .before .before .before .before .before .before .before .before .before .before .before .before .before .before .before .before .before .before .before .before .before .before .before .before .before .before .before .before .before .before .before .before .pre .0) _ _ (c .before .before .before .before .before .before .before .before .before .before .before .name-opens .ensures .btIs) (c .before .before .before .before .before .before .before .before .before .before .before .before .before .before .before .before .before .before .before .before .before .before .before .before .before .before .reserve-bad .ensures) _ (c .before .before .use-named .ensures))
+
+pub find-blocks-spec : {M : Type 1} → statement M
+find-blocks-spec =
+    tie.close
+    (tie.spec reserve-bad-requires clear-requires name-fulls-requires name-opens-requires use-named-requires same-length same-length-2 same-length-3 same-length-4 returns)

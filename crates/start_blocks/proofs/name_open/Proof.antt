@@ -1,0 +1,60 @@
+-- `start_blocks::name_open`: by what the block's head says, and by the entry that it names.
+-- Assumes nothing.
+use mathlib.Core.Path.{_≡_}
+use borrow.Author.Needs.{needs}
+use borrow.Author.Tests.{not-true, not-false}
+use Rattle.start_blocks.proofs.Heads.{number-low, open-erased, open-full, open-named, open-unused}
+use Rattle.start_blocks.proofs.name_open.Statement.{statement}
+use Rattle.start_blocks.proofs.name_open.Tie as tie
+
+head-of-requires : tie.Need-head-of-requires
+head-of-requires c κs = search needs
+
+same-length : tie.Need-same-length
+same-length c = search needs
+
+returns : tie.Need-returns
+returns c = open-unused _ _ _ _ (c .before .before .before .before .before .before .before .pre .0) _ (c .before .before .head-of .ensures) _ (not-true _ (c .if1 .taken))
+
+same-length-2 : tie.Need-same-length-2
+same-length-2 c = search needs
+
+returns-2 : tie.Need-returns-2
+returns-2 c = open-full _ _ _ _ (c .before .before .before .before .before .before .before .before .pre .0) _ (c .before .before .before .head-of .ensures) _ (not-false _ (c .before .if1 .left)) (c .if2 .taken)
+
+bt-at-requires : tie.Need-bt-at-requires
+bt-at-requires c κs = let h = c .before .before .before .before .head-of .ensures .names (not-false _ (c .before .before .if1 .left)) in
+    (c .before .before .before .before .before .before .before .before .before .pre .0 .btLength, (h .regionLow, h .vblockLow))
+
+set-bt-requires : tie.Need-set-bt-requires
+set-bt-requires c κs = let h = c .before .before .before .before .before .before .before .before .head-of .ensures .names (not-false _ (c .before .before .before .before .before .before .if1 .left)) in
+    (c .before .before .before .before .before .before .before .before .before .before .before .before .before .pre .0 .btLength, (h .regionLow, (h .vblockLow, number-low _ _ _ _ (c .before .before .before .before .before .before .before .before .before .before .before .before .before .pre .0) _ (c .before .before .before .before .before .before .before .before .head-of .ensures))))
+
+same-length-3 : tie.Need-same-length-3
+same-length-3 c = search needs
+
+same-length-4 : tie.Need-same-length-4
+same-length-4 c = search needs
+
+returns-3 : tie.Need-returns-3
+returns-3 c = open-named _ _ _ _ (c .before .before .before .before .before .before .before .before .before .before .before .before .before .before .before .before .pre .0) _ (c .before .before .before .before .before .before .before .before .before .before .before .head-of .ensures) _ (not-false _ (c .before .before .before .before .before .before .before .before .before .if1 .left)) (c .before .before .before .before .before .before .before .before .if2 .left) _ (c .before .before .before .before .before .before .bt-at .ensures .0) (c .before .before .before .before .if3 .taken) _ (c .before .before .set-bt .ensures)
+
+erase-block-requires : tie.Need-erase-block-requires
+erase-block-requires c κs = search needs
+
+same-length-5 : tie.Need-same-length-5
+same-length-5 c = search needs
+
+same-length-6 : tie.Need-same-length-6
+same-length-6 c = search needs
+
+same-length-7 : tie.Need-same-length-7
+same-length-7 c = search needs
+
+returns-4 : tie.Need-returns-4
+returns-4 c = open-erased _ _ _ _ (c .before .before .before .before .before .before .before .before .before .before .before .before .before .before .before .before .before .before .before .pre .0) _ (c .before .before .before .before .before .before .before .before .before .before .before .before .before .before .head-of .ensures) _ (not-false _ (c .before .before .before .before .before .before .before .before .before .before .before .before .if1 .left)) (c .before .before .before .before .before .before .before .before .before .before .before .if2 .left) _ (c .before .before .before .before .before .before .before .before .before .bt-at .ensures .0) (c .before .before .before .before .before .before .before .if3 .left) _ _ (c .before .before .before .before .erase-block .ensures .0) (c .before .before .before .before .erase-block .ensures .1)
+
+pub name-open-spec : {M : Type 1} → statement M
+name-open-spec =
+    tie.close
+    (tie.spec head-of-requires same-length returns same-length-2 returns-2 bt-at-requires set-bt-requires same-length-3 same-length-4 returns-3 erase-block-requires same-length-5 same-length-6 same-length-7 returns-4)
