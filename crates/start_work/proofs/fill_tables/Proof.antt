@@ -1,0 +1,40 @@
+-- `start_work::fill_tables`: each table by the function that makes it. The marks are those of CT as it then stands, whatever FST names.
+-- Assumes nothing.
+use mathlib.Core.Path.{_≡_, ap, _∙_}
+use borrow.Author.Needs.{needs}
+use lib.ListN.{length}
+use Rattle.lists.proofs.Lists.{list-length}
+use Rattle.start_work.proofs.fill_tables.Statement.{statement}
+use Rattle.start_work.proofs.fill_tables.Tie as tie
+
+fill-ct-requires : tie.Need-fill-ct-requires
+fill-ct-requires c κs = search needs
+
+fill-fst-requires : tie.Need-fill-fst-requires
+fill-fst-requires c κs = search needs
+
+fill-stamps-requires : tie.Need-fill-stamps-requires
+fill-stamps-requires c κs = search needs
+
+fill-marks-requires : tie.Need-fill-marks-requires
+fill-marks-requires c κs = let a = c .before .before .before .before .before .before .before .before .before .before .before .before .before .before .before .before .before .before .before .before .pre in (a .found, (ap length (c .before .before .before .before .before .before .before .before .before .before .before .before .fill-ct .ensures) ∙ list-length _ _, a .marksLength))
+
+same-length : tie.Need-same-length
+same-length c = search needs
+
+same-length-2 : tie.Need-same-length-2
+same-length-2 c = search needs
+
+same-length-3 : tie.Need-same-length-3
+same-length-3 c = search needs
+
+same-length-4 : tie.Need-same-length-4
+same-length-4 c = search needs
+
+returns : tie.Need-returns
+returns c = record { ctIs = c .before .before .before .before .before .before .before .before .before .before .before .before .before .before .before .fill-ct .ensures; fstIs = c .before .before .before .before .before .before .before .before .before .before .before .fill-fst .ensures; stampsIs = c .before .before .before .before .before .before .before .fill-stamps .ensures; marksAre = c .before .before .fill-marks .ensures _ }
+
+pub fill-tables-spec : {M : Type 1} → statement M
+fill-tables-spec =
+    tie.close
+    (tie.spec fill-ct-requires fill-fst-requires fill-stamps-requires fill-marks-requires same-length same-length-2 same-length-3 same-length-4 returns)
