@@ -1,9 +1,9 @@
 -- `start_blocks::erase_block`: the erase and its count.
 -- Assumes nothing.
-use mathlib.Core.Path.{_≡_, _∙_}
 use borrow.Author.Needs.{needs}
 use Rattle.lists.proofs.Parts.{next}
 use Rattle.rules.proofs.TableFacts.{chip-size}
+use Rattle.start_blocks.proofs.Heads.{erase-is}
 use Rattle.start_blocks.proofs.erase_block.Statement.{statement}
 use Rattle.start_blocks.proofs.erase_block.Tie as tie
 
@@ -23,7 +23,7 @@ same-length-2 : tie.Need-same-length-2
 same-length-2 c = search needs
 
 returns : tie.Need-returns
-returns c = (c .before .before .before .before .before .before .erase-at .ensures ∙ rw (c .before .before .before .before .before .before .before .before .block-bytes .ensures), c .before .before .count-erase .ensures)
+returns c = (erase-is _ _ _ _ _ (c .before .before .before .before .before .before .before .before .block-bytes .ensures) (c .before .before .before .before .before .before .erase-at .ensures), c .before .before .count-erase .ensures)
 
 pub erase-block-spec : {M : Type 1} → statement M
 erase-block-spec =
