@@ -10,11 +10,11 @@ use Rattle.lists.specs.Below.{allBelow}
 use Rattle.lists.proofs.Tests.{all-cong}
 use Rattle.rules.specs.declared.Params.{Params}
 use Rattle.rules.specs.Orderly.{blockRule}
-use Rattle.rules.specs.Pages.{block, filled, frame, whole}
-use Rattle.rules.specs.Parameters.{allowed, blockBytes, frames}
+use Rattle.rules.specs.Pages.{block, frame}
+use Rattle.rules.specs.Parameters.{allowed, blockBytes}
 use Rattle.rules.specs.Regions.{View, assigned, bodyAt, viewOf}
 use Rattle.rules.specs.Tables.{btAt, none}
-use Rattle.rules.proofs.RegionFacts.{GoodFrame, block-in, good-holds, whole-front}
+use Rattle.rules.proofs.RegionFacts.{good-holds, whole-good}
 use Rattle.rules.proofs.Sizes.{sizes}
 use Rattle.marks.proofs.Counted.{unassigned-unmarked}
 use Rattle.chip_marks.specs.Asked.{WordsAsked}
@@ -23,10 +23,11 @@ use Rattle.check_marks.specs.Shown.{CheckAsked, Mine, OneBlock, Shows, m
 -- the whole frames of a used block of region r hold clusters of it
 pub block-mine : (p : Params) → allowed p ≡ true → (r v : ℕ) (blk : List ℕ) → blockRule p r v blk ≡ true → Mine p r blk
 block-mine p fine r v blk h =
-    record { low = λ f l e. (good f l e) .low; region = λ f l e. (good f l e) .mine; kept = λ f l e. ((good f l e) .on, good-holds p (sizes p fine) r v (frame p blk f) (good f l e) e) }
-  where
-    good : (f : ℕ) → f < frames p → whole p (frame p blk f) ≡ true → GoodFrame p r v (frame p blk f)
-    good f l e = let u = (block-in p r v blk h) .1 in u .front f (whole-front p r v (filled p blk) blk u f l e) l
+    record {
+      low = λ f l w. (whole-good p r v blk h f l w) .low;
+      region = λ f l w. (whole-good p r v blk h f l w) .mine;
+      kept = λ f l w. let g = whole-good p r v blk h f l w in (g .on, good-holds p (sizes p fine) r v (frame p blk f) g w);
+    }
 
 module _ (p : Params) (chip ct bt marks : List ℕ) (r v : ℕ) (a : CheckAsked p chip ct bt marks r v) where
   pub words-asked : WordsAsked p marks r v

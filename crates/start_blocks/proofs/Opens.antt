@@ -3,7 +3,7 @@
 -- Assumes nothing.
 use mathlib.Core.Path.{_≡_, refl, sym, ap, _∙_}
 use mathlib.Core.Logic.{_⊎_, inl, inr}
-use mathlib.Core.Bool.{Bool, true, false, not, _&&_, and-false, cond}
+use mathlib.Core.Bool.{true, false, and-false, cond}
 use mathlib.Core.List.{List}
 use Prim.Native.Nat.{ℕ, _+_, _*_, _/_, _%_, _≤_, _<_}
 use native.Mathlib.Decide.{ℕ-discrete}
@@ -11,7 +11,7 @@ use native.Mathlib.Omega.{arith}
 use lib.Dec.{eqb}
 use lib.ListN.{length, set}
 use borrow.Author.Tests.{eq-eqb, ne-eqb}
-use Rattle.lists.specs.Below.{firstBelow, listBelow}
+use Rattle.lists.specs.Below.{firstBelow}
 use Rattle.lists.proofs.Lists.{list-cong}
 use Rattle.lists.proofs.Tests.{so}
 use Rattle.rules.specs.declared.Params.{Params}
@@ -19,7 +19,7 @@ use Rattle.rules.specs.Parameters.{blockBytes}
 use Rattle.rules.specs.Tables.{btEntry, none}
 use Rattle.rules.specs.Pages.{block, isFull}
 use Rattle.rules.specs.Format.{bad, badMark}
-use Rattle.rules.specs.Start.{foundBt, fullBlock, inUse, keptBlock, leftOver, names, namesOpen, regionNamed, sound, startOps, vblockNamed}
+use Rattle.rules.specs.Start.{foundBt, fullBlock, inUse, keptBlock, leftOver, names, namesOpen, regionNamed, startOps, vblockNamed}
 use Rattle.rules.proofs.Erases.{Erased, erases-ran, erasesBelow, next-erased, none-erased, where-below}
 use Rattle.rules.proofs.Isolation.{index-low}
 use Rattle.rules.proofs.Sizes.{Sizes, sizes}

@@ -1,17 +1,17 @@
 -- CT with the newest frames so far: at the start, what one frame adds, at a region's end, and at the end. A frame adds to one cluster, and where it is not whole to none.
 -- Assumes nothing.
-use mathlib.Core.Path.{_≡_, refl, sym, ap, _∙_}
+use mathlib.Core.Path.{_≡_, refl, sym, _∙_}
 use mathlib.Core.Logic.{_⊎_, inl, inr}
 use mathlib.Core.Bool.{Bool, true, false, _&&_, _||_, cond}
 use mathlib.Core.List.{List}
-use Prim.Native.Nat.{ℕ, _+_, _-_, _*_, _/_, _%_, _≤_, _<_}
+use Prim.Native.Nat.{ℕ, _+_, _-_, _/_, _≤_, _<_}
 use native.Mathlib.Numerals.{add-one}
 use native.Mathlib.Nat.{mod-lt}
 use native.Mathlib.Decide.{decLt, ℕ-discrete}
 use native.Mathlib.Omega.{arith}
 use lib.Dec.{eqb, ltb}
 use lib.ListN.{length, replicate, set}
-use borrow.Author.Tests.{eqb-true, eq-eqb, le-ltb, lt-ltb, ne-eqb}
+use borrow.Author.Tests.{eq-eqb, le-ltb, lt-ltb, ne-eqb}
 use Rattle.lists.specs.Below.{listBelow, mostBelow, updated}
 use Rattle.lists.proofs.Joins.{updated-same, updated-other}
 use Rattle.lists.proofs.Lists.{list-at, list-cong, list-const, list-length, list-set}
@@ -24,7 +24,7 @@ use Rattle.rules.specs.Pages.{holds, le32, spare, whole}
 use Rattle.rules.specs.Regions.{View, frameIn, regionFrames, stampIn}
 use Rattle.rules.specs.Start.{foundView}
 use Rattle.rules.proofs.Frames.{erased-holds}
-use Rattle.start_found.specs.Found.{Found, HasFrame}
+use Rattle.start_found.specs.Found.{HasFrame}
 use Rattle.start_found.proofs.Views.{frame-none, holder-has, region-few, whole-cluster}
 use Rattle.start_clusters.specs.Newest.{FrameAsked, goneOver, newestFrames, newestIn}
 

@@ -1,12 +1,11 @@
 -- A frame's segment, by its number in the region: each block has d segments of β frames, so it is the number over β. And CT with segments in place of frames.
 -- Assumes nothing.
-use mathlib.Core.Path.{_≡_, refl, sym, ap, _∙_}
-use mathlib.Core.Bool.{Bool, true, false, cond}
+use mathlib.Core.Path.{_≡_, refl, _∙_}
+use mathlib.Core.Bool.{true}
 use mathlib.Core.List.{List}
-use Prim.Native.Nat.{ℕ, _+_, _*_, _/_, _%_, _≤_, _<_}
-use native.Mathlib.Nat.{div-add-mod', div-le-self, mod-lt}
+use Prim.Native.Nat.{ℕ, _+_, _*_, _/_, _%_, _<_}
+use native.Mathlib.Nat.{div-add-mod', mod-lt}
 use native.Mathlib.Omega.{arith}
-use lib.Dec.{eqb}
 use lib.ListN.{length, getD, set}
 use borrow.Author.Tests.{eq-eqb, ne-eqb}
 use Rattle.lists.specs.Below.{listBelow}
@@ -18,7 +17,7 @@ use Rattle.rules.specs.declared.Params.{Params}
 use Rattle.rules.specs.Parameters.{allowed, frames}
 use Rattle.rules.specs.Numbers.{regionOf, segmentOf}
 use Rattle.rules.specs.Tables.{ctAt, none}
-use Rattle.rules.specs.Regions.{View, regionFrames}
+use Rattle.rules.specs.Regions.{regionFrames}
 use Rattle.rules.specs.Start.{foundSegment, foundView}
 use Rattle.rules.proofs.Sizes.{Sizes, sizes}
 use Rattle.start_clusters.specs.Newest.{newestFrames, newestIn, segmentAt}

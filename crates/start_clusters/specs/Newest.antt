@@ -1,11 +1,10 @@
 -- The newest frame of each cluster, and the largest stamp of a region, among the frames that are gone over so far.
 -- Assumes nothing.
 use mathlib.Core.Path.{_≡_}
-use mathlib.Core.Bool.{Bool, true, cond}
+use mathlib.Core.Bool.{cond}
 use mathlib.Core.List.{List}
 use Prim.Native.Nat.{ℕ, _/_, _%_, _<_}
 use lib.Dec.{eqb, ltb}
-use lib.ListN.{length}
 use Rattle.lists.specs.Below.{listBelow, mostBelow}
 use Rattle.rules.specs.declared.Params.{Params}
 use Rattle.rules.specs.Parameters.{frames}

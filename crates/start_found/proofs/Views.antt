@@ -1,15 +1,13 @@
 -- What the view of a region shows of the chip and BT as found, and where a frame that is counted through its virtual blocks stands.
 -- Assumes nothing.
-use mathlib.Core.Path.{_≡_, refl, sym, ap, _∙_}
+use mathlib.Core.Path.{_≡_, refl, sym, _∙_}
 use mathlib.Core.Bool.{Bool, true, false, not}
 use mathlib.Core.List.{List, []}
-use Prim.Native.Nat.{ℕ, _+_, _-_, _*_, _/_, _%_, _≤_, _<_}
+use Prim.Native.Nat.{ℕ, _-_, _/_, _%_, _≤_, _<_}
 use native.Mathlib.Nat.{div-lt-iff-lt-mul, mod-lt, mul-le-mul}
-use native.Mathlib.Omega.{arith}
 use lib.Dec.{eqb}
-use lib.ListN.{length}
 use borrow.Author.Tests.{eqb-true, eq-eqb, lt-ltb, ne-eqb, not-false}
-use Rattle.lists.specs.Parts.{allAre, part}
+use Rattle.lists.specs.Parts.{allAre}
 use Rattle.lists.proofs.Joins.{allAre-part}
 use Rattle.lists.proofs.Tests.{and-right, never}
 use Rattle.rules.specs.declared.Params.{Params}
@@ -17,11 +15,11 @@ use Rattle.rules.specs.Parameters.{allowed, frames, frameBytes}
 use Rattle.rules.specs.Tables.{btAt, none}
 use Rattle.rules.specs.Numbers.{regionOf}
 use Rattle.rules.specs.Pages.{block, frame, held, holds, le32, spare, whole}
-use Rattle.rules.specs.Regions.{View, assigned, bodyAt, frameIn, regionFrames, viewOf}
+use Rattle.rules.specs.Regions.{View, bodyAt, frameIn, regionFrames, viewOf}
 use Rattle.rules.specs.Start.{foundView}
 use Rattle.rules.proofs.Sizes.{Sizes, sizes}
 use Rattle.rules.proofs.Frames.{erased-holds}
-use Rattle.rules.proofs.RegionFacts.{GoodFrame, UpTo, block-in, good-holds, whole-front}
+use Rattle.rules.proofs.RegionFacts.{GoodFrame, good-holds, whole-good}
 use Rattle.start_found.specs.Found.{Found, HasFrame}
 
 -- ---- a virtual block
@@ -95,18 +93,17 @@ module _ (p : Params) (chip bt : List ℕ) (a : Found p chip bt) (r i : ℕ) whe
       record { region = region; low = low; has = λ e. never h (erased-holds p (frameIn p vw i) c (frame-none p (a .fine) i low chip bt r e)) }
 
   -- a whole frame is a good one
-  pub whole-good : HasFrame p bt r i → whole p (frameIn p vw i) ≡ true → GoodFrame p r (i / frames p) (frameIn p vw i)
-  whole-good h w =
+  good-here : HasFrame p bt r i → whole p (frameIn p vw i) ≡ true → GoodFrame p r (i / frames p) (frameIn p vw i)
+  good-here h w =
       let at = frame-some p (a .fine) i (h .low) chip bt r (h .has) in
-      let here = place-low p (a .fine) i (h .low) in
-      let u = block-in p r (i / frames p) _ ((a .named r (i / frames p) (h .region) (vblock-low p (a .fine) i (h .low)) (h .has)) .1) in
-      rw at ((u .1) .front (i % frames p) (whole-front p r (i / frames p) _ _ (u .1) (i % frames p) here (rw at at w)) here)
+      let rule = (a .named r (i / frames p) (h .region) (vblock-low p (a .fine) i (h .low)) (h .has)) .1 in
+      rw at (whole-good p r (i / frames p) _ rule (i % frames p) (place-low p (a .fine) i (h .low)) (rw at at w))
 
   -- what its last page says is a cluster of the region
   pub whole-cluster : HasFrame p bt r i → whole p (frameIn p vw i) ≡ true → (c : ℕ) → c ≡ le32 (spare p (frameIn p vw i) (p .alpha - 1)) → (c < p .C) × (regionOf p c ≡ r)
   unfolding holds
   whole-cluster h w c e =
-      let g = whole-good h w in
+      let g = good-here h w in
       let same : c ≡ held p (frameIn p vw i) = e ∙ eqb-true _ _ (and-right (whole p (frameIn p vw i)) (good-holds p (sizes p (a .fine)) r (i / frames p) _ g w)) in
       (rw same (g .low), rw same (g .mine))
 

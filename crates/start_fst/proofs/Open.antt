@@ -1,17 +1,17 @@
 -- A region's blocks by BT and by the view: which have a block, which are open, and which one FST goes by.
 -- Assumes nothing.
-use mathlib.Core.Path.{_≡_, refl, sym, ap, _∙_}
+use mathlib.Core.Path.{_≡_, sym, _∙_}
 use mathlib.Core.Logic.{_⊎_, inl, inr}
-use mathlib.Core.Bool.{Bool, true, false, not, _&&_, cond}
-use mathlib.Core.List.{List, []}
+use mathlib.Core.Bool.{Bool, true, false, not}
+use mathlib.Core.List.{List}
 use Prim.Native.Nat.{ℕ, _+_, _-_, _*_, _≤_, _<_}
 use native.Mathlib.Decide.{ℕ-discrete}
 use native.Mathlib.Omega.{arith}
-use lib.Dec.{eqb, ltb}
+use lib.Dec.{eqb}
 use lib.ListN.{length}
-use borrow.Author.Tests.{eqb-true, eq-eqb, lt-ltb, ltb-true, ne-eqb}
+use borrow.Author.Tests.{eq-eqb, lt-ltb, ne-eqb}
 use Rattle.lists.specs.Below.{firstBelow}
-use Rattle.lists.proofs.Parts.{next, part-length}
+use Rattle.lists.proofs.Parts.{next}
 use Rattle.lists.proofs.Searches.{first-cong, first-spec}
 use Rattle.lists.proofs.Tests.{and-left, never}
 use Rattle.rules.specs.declared.Params.{Params}

@@ -1,10 +1,9 @@
 -- The table of the marks so far: at the start, what one frame adds, at the end of a virtual block, with a block or without, and at the end. Each as marks that agree.
 -- Assumes nothing.
 use mathlib.Core.Path.{_≡_, refl, sym, ap, _∙_}
-use mathlib.Core.Logic.{_⊎_, inl, inr}
-use mathlib.Core.Bool.{Bool, true, false, _&&_, _||_, and-false, cond}
+use mathlib.Core.Bool.{true, false, _&&_, _||_, and-false, cond}
 use mathlib.Core.List.{List, []}
-use Prim.Native.Nat.{ℕ, _+_, _*_, _/_, _%_, _≤_, _<_}
+use Prim.Native.Nat.{ℕ, _+_, _*_, _/_, _%_, _<_}
 use native.Mathlib.Nat.{div-add-mod', div-lt-iff-lt-mul, mod-lt}
 use native.Mathlib.Decide.{decLt, ℕ-discrete}
 use native.Mathlib.Omega.{arith}
@@ -13,7 +12,7 @@ use lib.ListN.{length, replicate}
 use borrow.Author.Tests.{eq-eqb, le-ltb, lt-ltb, ne-eqb}
 use Rattle.lists.proofs.Tests.{so}
 use Rattle.rules.specs.declared.Params.{Params}
-use Rattle.rules.specs.Parameters.{allowed, blockBytes, frames}
+use Rattle.rules.specs.Parameters.{blockBytes, frames}
 use Rattle.rules.specs.Tables.{btAt, btEntry, marksLength, none}
 use Rattle.rules.specs.Pages.{block}
 use Rattle.rules.specs.Regions.{View, assigned, bodyAt, valid, viewOf}
@@ -25,10 +24,9 @@ use Rattle.marks.specs.Kept.{putMark}
 use Rattle.marks.proofs.Counted.{unassigned-unmarked}
 use Rattle.marks.proofs.FrameMarks.{marked-valid, unmarked}
 use Rattle.marks.proofs.Tables.{table-cong, table-none}
-use Rattle.chip_marks.specs.Asked.{MarkAsked, WordsAsked}
+use Rattle.chip_marks.specs.Asked.{WordsAsked}
 use Rattle.check_marks.specs.Shown.{CheckAsked, OneBlock, Shows}
 use Rattle.check_marks.proofs.Asked.{block-mine, one-block, shows, words-asked}
-use Rattle.start_found.specs.Found.{Found}
 use Rattle.start_marks.specs.SoFar.{EntryAsked, marksTo}
 
 -- ---- at the start, and at the end

@@ -7,7 +7,6 @@ use Prim.Native.Nat.{ℕ, _+_, _*_, _<_}
 use lib.Dec.{eqb, ltb}
 use lib.ListN.{length}
 use Rattle.rules.specs.declared.Params.{Params}
-use Rattle.rules.specs.Tables.{marksLength}
 use Rattle.rules.specs.Regions.{View, viewOf}
 use Rattle.rules.specs.Marks.{Marks, marked, tableOf}
 use Rattle.start_found.specs.Found.{Found}

@@ -1,7 +1,6 @@
 -- The chip as the start leaves it shows each region the blocks that were found, since no kept block is erased: so the tables rebuilt from it are those that were found, and the board is as promised.
 -- Assumes nothing.
-use mathlib.Core.Path.{_≡_, refl, sym, ap, _∙_}
-use mathlib.Core.Bool.{true}
+use mathlib.Core.Path.{_≡_, refl, sym, _∙_}
 use mathlib.Core.List.{List}
 use Prim.Native.Nat.{ℕ, _*_, _<_}
 use native.Mathlib.Nat.{mod-lt}
@@ -12,11 +11,8 @@ use Rattle.rules.specs.declared.Params.{Params}
 use Rattle.rules.specs.Parameters.{chipBytes}
 use Rattle.rules.specs.Numbers.{regionOf}
 use Rattle.rules.specs.Tables.{Board, boardOf, btAt, none}
-use Rattle.rules.specs.Pages.{block}
 use Rattle.rules.specs.Regions.{largestStamp, viewOf}
-use Rattle.rules.specs.Orderly.{blockRule}
-use Rattle.rules.specs.Traces.{replayChip, replayWear}
-use Rattle.rules.specs.Marks.{marksIn, tableOf}
+use Rattle.rules.specs.Traces.{replayChip}
 use Rattle.rules.specs.Start.{foundBt, foundFst, foundSegment, foundView, startOps, started}
 use Rattle.rules.proofs.Sizes.{Sizes, sizes}
 use Rattle.rules.proofs.TableFacts.{Lengths, chip-size, lengths-in}

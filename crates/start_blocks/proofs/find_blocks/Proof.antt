@@ -1,6 +1,6 @@
 -- `start_blocks::find_blocks`: the passes one after the other.
 -- Assumes nothing.
-use mathlib.Core.Path.{_≡_, sym, ap, _∙_}
+use mathlib.Core.Path.{sym, ap, _∙_}
 use lib.ListN.{length, length-replicate}
 use borrow.Author.Needs.{needs}
 use Rattle.start_blocks.proofs.Blocks.{chip-length, kinds-are, still-asked, use-asked}

@@ -1,6 +1,5 @@
 -- `start_blocks::name_full`: by what the block's head says.
 -- Assumes nothing.
-use mathlib.Core.Path.{_≡_}
 use borrow.Author.Needs.{needs}
 use Rattle.lists.proofs.Tests.{and-left, and-right}
 use Rattle.start_blocks.proofs.Heads.{full-not, full-put, number-low}

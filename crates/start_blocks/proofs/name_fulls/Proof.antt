@@ -1,9 +1,8 @@
 -- `start_blocks::name_fulls`: after n turns the full blocks below n are in BT.
 -- Assumes nothing.
 use mathlib.Core.Path.{_≡_, sym, ap, _∙_}
-use Prim.Native.Nat.{ℕ, _-_, _≤_, _<_}
+use Prim.Native.Nat.{_-_, _≤_}
 use native.Mathlib.Omega.{arith}
-use borrow.Author.Needs.{needs}
 use lib.ListN.{length}
 use Rattle.start_blocks.specs.Named.{fullsTo}
 use Rattle.start_blocks.proofs.Fulls.{full-asked, fulls-length, fulls-turn}

@@ -1,6 +1,5 @@
 -- `start_blocks::name_open`: by what the block's head says, and by the entry that it names.
 -- Assumes nothing.
-use mathlib.Core.Path.{_≡_}
 use borrow.Author.Needs.{needs}
 use borrow.Author.Tests.{not-true, not-false}
 use Rattle.start_blocks.proofs.Heads.{number-low, open-erased, open-full, open-named, open-unused}

@@ -1,9 +1,8 @@
 -- `start_blocks::name_opens`: after n turns the blocks below n are gone over.
 -- Assumes nothing.
 use mathlib.Core.Path.{_≡_, _∙_}
-use Prim.Native.Nat.{ℕ, _-_, _≤_, _<_}
+use Prim.Native.Nat.{_-_, _≤_}
 use native.Mathlib.Omega.{arith}
-use borrow.Author.Needs.{needs}
 use Rattle.start_blocks.specs.Named.{StartAsked}
 use Rattle.start_blocks.proofs.Opens.{So, bt-same, chip-same, open-asked, opens-done, opens-start, opens-turn, wear-same}
 use Rattle.start_blocks.proofs.name_opens.Statement.{statement}

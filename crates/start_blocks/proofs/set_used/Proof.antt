@@ -1,9 +1,9 @@
 -- `start_blocks::set_used`: by the entry.
 -- Assumes nothing.
-use mathlib.Core.Path.{_≡_, sym, _∙_}
+use mathlib.Core.Path.{_∙_}
 use borrow.Author.Needs.{needs}
 use borrow.Author.Tests.{eq-eqb, ne-eqb}
-use Rattle.rules.specs.Tables.{btEntry, none}
+use Rattle.rules.specs.Tables.{none}
 use Rattle.start_blocks.proofs.set_used.Statement.{statement}
 use Rattle.start_blocks.proofs.set_used.Tie as tie
 

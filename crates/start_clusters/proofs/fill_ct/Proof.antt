@@ -1,6 +1,6 @@
 -- `start_clusters::fill_ct`: none throughout, then the newest frames of all regions, then their segments.
 -- Assumes nothing.
-use mathlib.Core.Path.{_≡_, sym, _∙_}
+use mathlib.Core.Path.{_∙_}
 use borrow.Author.Needs.{needs}
 use Rattle.rules.proofs.Sizes.{sizes}
 use Rattle.start_clusters.proofs.Newest.{frames-start}

@@ -1,9 +1,9 @@
 -- `start_clusters::larger_stamp`: a frame without a block or without a page adds nothing, another adds its stamp if that is larger.
 -- Assumes nothing.
-use mathlib.Core.Path.{_≡_, sym, _∙_}
+use mathlib.Core.Path.{sym, _∙_}
 use native.Mathlib.Omega.{arith}
 use borrow.Author.Needs.{needs}
-use borrow.Author.Tests.{eqb-true, not-true, not-false, ne-eqb}
+use borrow.Author.Tests.{not-true, not-false}
 use Rattle.start_found.proofs.Views.{found-frame}
 use Rattle.start_clusters.proofs.Stamps.{stamp-bare, stamp-begun, stamp-higher, stamp-lower}
 use Rattle.start_clusters.proofs.larger_stamp.Statement.{statement}

@@ -1,9 +1,8 @@
 -- `start_clusters::last_stamp`: after i turns the largest stamp of the first i frames.
 -- Assumes nothing.
 use mathlib.Core.Path.{_≡_, _∙_}
-use Prim.Native.Nat.{ℕ, _-_, _≤_}
+use Prim.Native.Nat.{_-_, _≤_}
 use native.Mathlib.Omega.{arith}
-use borrow.Author.Needs.{needs}
 use Rattle.rules.specs.Start.{foundView}
 use Rattle.start_clusters.specs.Newest.{stampTo}
 use Rattle.start_clusters.proofs.Stamps.{stamp-end, stamp-start}

@@ -1,6 +1,6 @@
 -- `start_clusters::take_frame`: a frame without a block, or not whole, changes nothing; another is its cluster's newest, or older than what CT has.
 -- Assumes nothing.
-use mathlib.Core.Path.{_≡_, sym, _∙_}
+use mathlib.Core.Path.{sym, _∙_}
 use native.Mathlib.Omega.{arith}
 use borrow.Author.Needs.{needs}
 use borrow.Author.Tests.{eqb-true, not-false, not-true}

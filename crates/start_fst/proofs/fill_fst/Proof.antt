@@ -1,10 +1,9 @@
 -- `start_fst::fill_fst`: after r turns the first r entries are made.
 -- Assumes nothing.
-use mathlib.Core.Path.{_≡_, refl, sym, ap, _∙_}
-use Prim.Native.Nat.{ℕ, _-_, _≤_, _<_}
+use mathlib.Core.Path.{_≡_, sym, ap, _∙_}
+use Prim.Native.Nat.{_-_, _≤_}
 use native.Mathlib.Omega.{arith}
-use borrow.Author.Needs.{needs}
-use lib.ListN.{length, length-set, getD}
+use lib.ListN.{length, getD}
 use Rattle.loops.proofs.Tables.{as-lent, made-all, made-length, made-next, madeTo}
 use Rattle.rules.specs.Start.{foundFst, foundView}
 use Rattle.start_fst.proofs.fill_fst.Statement.{statement}

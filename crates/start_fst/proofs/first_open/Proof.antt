@@ -1,9 +1,8 @@
 -- `start_fst::first_open`: none of the first v virtual blocks is open.
 -- Assumes nothing.
 use mathlib.Core.Path.{_≡_, sym, _∙_}
-use Prim.Native.Nat.{ℕ, _-_, _≤_}
+use Prim.Native.Nat.{_-_, _≤_}
 use native.Mathlib.Omega.{arith}
-use borrow.Author.Needs.{needs}
 use Rattle.lists.specs.Below.{firstBelow}
 use Rattle.loops.proofs.Below.{first-here, first-later, first-start}
 use Rattle.rules.specs.Tables.{notFound}

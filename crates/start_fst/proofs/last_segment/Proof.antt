@@ -1,6 +1,6 @@
 -- `start_fst::last_segment`: the block has a programmed frame, and its last one is in that segment.
 -- Assumes nothing.
-use mathlib.Core.Path.{_≡_, sym, _∙_}
+use mathlib.Core.Path.{sym, _∙_}
 use native.Mathlib.Omega.{arith}
 use borrow.Author.Needs.{needs}
 use Rattle.start_fst.proofs.Open.{block-low, segment-low, some-filled}

@@ -1,6 +1,6 @@
 -- `start_marks::fill_marks`: from no mark to those of all virtual blocks.
 -- Assumes nothing.
-use mathlib.Core.Path.{_≡_, _∙_}
+use mathlib.Core.Path.{_∙_}
 use borrow.Author.Needs.{needs}
 use Rattle.start_marks.proofs.Turns.{any-fst, marks-end, marks-start}
 use Rattle.start_marks.proofs.fill_marks.Statement.{statement}

@@ -1,6 +1,5 @@
 -- `start_marks::mark_entry`: without a block there is no mark to set; with one, those of all its frames.
 -- Assumes nothing.
-use mathlib.Core.Path.{_≡_}
 use native.Mathlib.Omega.{arith}
 use borrow.Author.Needs.{needs}
 use Rattle.start_marks.proofs.Turns.{asks, block-low, divisor, in-bt, with-block, without}

@@ -1,6 +1,6 @@
 -- `start_marks::mark_frame`: the mark is set, or the table of the marks so far stays the same.
 -- Assumes nothing.
-use mathlib.Core.Path.{_≡_, sym, _∙_}
+use mathlib.Core.Path.{sym, _∙_}
 use native.Mathlib.Omega.{arith}
 use borrow.Author.Needs.{needs}
 use Rattle.rules.proofs.Sizes.{sizes}

@@ -1,6 +1,6 @@
 -- `start_work::fill_tables`: each table by the function that makes it. The marks are those of CT as it then stands, whatever FST names.
 -- Assumes nothing.
-use mathlib.Core.Path.{_≡_, ap, _∙_}
+use mathlib.Core.Path.{ap, _∙_}
 use borrow.Author.Needs.{needs}
 use lib.ListN.{length}
 use Rattle.lists.proofs.Lists.{list-length}
