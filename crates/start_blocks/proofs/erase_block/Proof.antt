@@ -11,7 +11,9 @@ block-bytes-requires : tie.Need-block-bytes-requires
 block-bytes-requires c κs = search needs
 
 erase-at-requires : tie.Need-erase-at-requires
-erase-at-requires c κs = rw (c .before .block-bytes .ensures, c .before .before .before .before .pre .1 .0, chip-size (c .before .before .before .before .args .p)) (next _ _ _ (c .before .before .before .before .pre .1 .1 .1))
+erase-at-requires c κs =
+    let start = c .before .before .before .before in
+    rw (c .before .block-bytes .ensures, start .pre .1 .0, chip-size (start .args .p)) (next _ _ _ (start .pre .1 .1 .1))
 
 count-erase-requires : tie.Need-count-erase-requires
 count-erase-requires c κs = search needs
@@ -23,7 +25,10 @@ same-length-2 : tie.Need-same-length-2
 same-length-2 c = search needs
 
 returns : tie.Need-returns
-returns c = (erase-is _ _ _ _ _ (c .before .before .before .before .before .before .before .before .block-bytes .ensures) (c .before .before .before .before .before .before .erase-at .ensures), c .before .before .count-erase .ensures)
+returns c =
+    let at-erase-at = c .before .before .before .before .before .before in
+    let at-block-bytes = at-erase-at .before .before in
+    (erase-is _ _ _ _ _ (at-block-bytes .block-bytes .ensures) (at-erase-at .erase-at .ensures), c .before .before .count-erase .ensures)
 
 pub erase-block-spec : {M : Type 1} → statement M
 erase-block-spec =

@@ -9,21 +9,33 @@ use Rattle.start_blocks.proofs.find_blocks.Statement.{statement}
 use Rattle.start_blocks.proofs.find_blocks.Tie as tie
 
 reserve-bad-requires : tie.Need-reserve-bad-requires
-reserve-bad-requires c κs = let a = c .before .before .before .before .before .before .pre in (a .0 .fine, (chip-length _ _ _ (a .0), a .1 .0))
+reserve-bad-requires c κs =
+    let start = c .before .before .before .before .before .before in
+    let a = start .pre in (a .0 .fine, (chip-length _ _ _ (a .0), a .1 .0))
 
 clear-requires : tie.Need-clear-requires
 clear-requires c κs = search needs
 
 name-fulls-requires : tie.Need-name-fulls-requires
-name-fulls-requires c κs = let a = c .before .before .before .before .before .before .before .before .before .before .before .before .before .before .before .pre in
-    (still-asked _ _ _ (a .0) _ (ap length (c .before .before .before .before .clear .ensures) ∙ length-replicate _ _), fulls-none _ _ _ (a .0) _ (c .before .before .before .before .clear .ensures))
+name-fulls-requires c κs =
+    let at-clear = c .before .before .before .before in
+    let start = at-clear .before .before .before .before .before .before .before .before .before .before .before in
+    let a = start .pre in
+    (still-asked _ _ _ (a .0) _ (ap length (at-clear .clear .ensures) ∙ length-replicate _ _), fulls-none _ _ _ (a .0) _ (at-clear .clear .ensures))
 
 name-opens-requires : tie.Need-name-opens-requires
-name-opens-requires c κs = let a = c .before .before .before .before .before .before .before .before .before .before .before .before .before .before .before .before .before .before .before .before .before .pre in
-    (still-asked _ _ _ (a .0) _ (ap length (c .before .before .before .before .before .name-fulls .ensures) ∙ fulls-length _ _ _ (a .0) _ ∙ sym (a .0 .btLength)), (a .1 .1, c .before .before .before .before .before .name-fulls .ensures))
+name-opens-requires c κs =
+    let at-name-fulls = c .before .before .before .before .before in
+    let start = at-name-fulls .before .before .before .before .before .before .before .before .before .before .before .before .before .before .before .before in
+    let a = start .pre in
+    (still-asked _ _ _ (a .0) _ (ap length (at-name-fulls .name-fulls .ensures) ∙ fulls-length _ _ _ (a .0) _ ∙ sym (a .0 .btLength)), (a .1 .1, at-name-fulls .name-fulls .ensures))
 
 use-named-requires : tie.Need-use-named-requires
-use-named-requires c κs = use-asked _ _ _ (c .before .before .before .before .before .before .before .before .before .before .before .before .before .before .before .before .before .before .before .before .before .before .before .before .before .before .before .before .before .before .pre .0) _ _ (c .before .before .before .before .before .before .before .before .name-opens .ensures .btIs) (c .before .before .before .before .before .before .before .before .before .before .before .before .before .before .before .before .before .before .before .before .before .before .before .reserve-bad .ensures)
+use-named-requires c κs =
+    let at-name-opens = c .before .before .before .before .before .before .before .before in
+    let at-reserve-bad = at-name-opens .before .before .before .before .before .before .before .before .before .before .before .before .before .before .before in
+    let start = at-reserve-bad .before .before .before .before .before .before .before in
+    use-asked _ _ _ (start .pre .0) _ _ (at-name-opens .name-opens .ensures .btIs) (at-reserve-bad .reserve-bad .ensures)
 
 same-length : tie.Need-same-length
 same-length c = search needs
@@ -38,7 +50,11 @@ same-length-4 : tie.Need-same-length-4
 same-length-4 c = search needs
 
 returns : tie.Need-returns
-returns c = (c .before .before .before .before .before .before .before .before .before .before .before .name-opens .ensures, kinds-are _ _ _ (c .before .before .before .before .before .before .before .before .before .before .before .before .before .before .before .before .before .before .before .before .before .before .before .before .before .before .before .before .before .before .before .before .before .pre .0) _ _ (c .before .before .before .before .before .before .before .before .before .before .before .name-opens .ensures .btIs) (c .before .before .before .before .before .before .before .before .before .before .before .before .before .before .before .before .before .before .before .before .before .before .before .before .before .before .reserve-bad .ensures) _ (c .before .before .use-named .ensures))
+returns c =
+    let at-name-opens = c .before .before .before .before .before .before .before .before .before .before .before in
+    let at-reserve-bad = at-name-opens .before .before .before .before .before .before .before .before .before .before .before .before .before .before .before in
+    let start = at-reserve-bad .before .before .before .before .before .before .before in
+    (at-name-opens .name-opens .ensures, kinds-are _ _ _ (start .pre .0) _ _ (at-name-opens .name-opens .ensures .btIs) (at-reserve-bad .reserve-bad .ensures) _ (c .before .before .use-named .ensures))
 
 pub find-blocks-spec : {M : Type 1} → statement M
 find-blocks-spec =

@@ -28,13 +28,20 @@ loop-less : tie.Need-loop-less Inv-loop μ-loop
 loop-less c = omega arith
 
 loop-again : tie.Need-loop-again Inv-loop μ-loop
-loop-again c = (omega arith, fulls-turn _ _ _ (c .before .before .before .before .before .before .before .before .pre .0) _ (c .before .before .before .before .loop-test .taken) _ _ (c .before .before .before .before .before .loop .inv .1) (c .before .before .name-full .ensures))
+loop-again c =
+    let at-loop-test = c .before .before .before .before in
+    let at-loop = at-loop-test .before in
+    let start = at-loop .before .before .before in
+    (omega arith, fulls-turn _ _ _ (start .pre .0) _ (at-loop-test .loop-test .taken) _ _ (at-loop .loop .inv .1) (c .before .before .name-full .ensures))
 
 same-length : tie.Need-same-length Inv-loop μ-loop
-same-length c = ap length (c .before .loop .inv .1) ∙ fulls-length _ _ _ (c .before .before .before .before .pre .0) _ ∙ sym (c .before .before .before .before .pre .0 .btLength)
+same-length c =
+    let start = c .before .before .before .before in
+    ap length (c .before .loop .inv .1) ∙ fulls-length _ _ _ (start .pre .0) _ ∙ sym (start .pre .0 .btLength)
 
 returns : tie.Need-returns Inv-loop μ-loop
-returns c = let e : c .before .loop .n ≡ c .before .before .before .before .args .p .N = omega arith in
+returns c =
+    let e : c .before .loop .n ≡ c .before .before .before .before .args .p .N = omega arith in
     c .before .loop .inv .1 ∙ rw e
 
 pub name-fulls-spec : {M : Type 1} → statement M

@@ -20,7 +20,9 @@ loop-holds : tie.Need-loop-holds Inv-loop μ-loop
 loop-holds c = (omega arith, refl, as-lent _ _ _ (c .before .before .pre .1 .1))
 
 kind-of-requires : tie.Need-kind-of-requires Inv-loop μ-loop
-kind-of-requires c κs = (c .before .before .before .before .pre .0, (c .before .before .before .before .pre .1 .0, c .loop-test .taken))
+kind-of-requires c κs =
+    let start = c .before .before .before .before in
+    (start .pre .0, (start .pre .1 .0, c .loop-test .taken))
 
 slice-write-bst : tie.Need-slice-write-bst Inv-loop μ-loop
 slice-write-bst c = omega (arith, c .before .before .loop .inv .1, c .before .before .before .before .before .pre .1 .1)

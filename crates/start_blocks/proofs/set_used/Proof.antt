@@ -11,13 +11,19 @@ bt-entry-requires : tie.Need-bt-entry-requires
 bt-entry-requires c κs = search needs
 
 set-bst-requires : tie.Need-set-bst-requires
-set-bst-requires c κs = rw (c .before .before .before .bt-entry .ensures .0) (c .before .before .before .before .before .before .pre .1 (λ e. c .before .if1 .taken (c .before .before .before .bt-entry .ensures .0 ∙ e)))
+set-bst-requires c κs =
+    let at-bt-entry = c .before .before .before in
+    let start = at-bt-entry .before .before .before in
+    rw (at-bt-entry .bt-entry .ensures .0) (start .pre .1 (λ e. c .before .if1 .taken (at-bt-entry .bt-entry .ensures .0 ∙ e)))
 
 same-length : tie.Need-same-length
 same-length c = search needs
 
 returns : tie.Need-returns
-returns c = rw (← (c .before .before .before .before .before .before .bt-entry .ensures .0), ne-eqb (c .before .before .before .before .before .before .bt-entry .result .0) none (c .before .before .before .before .if1 .taken)) (c .before .before .set-bst .ensures)
+returns c =
+    let at-if1 = c .before .before .before .before in
+    let at-bt-entry = at-if1 .before .before in
+    rw (← (at-bt-entry .bt-entry .ensures .0), ne-eqb (at-bt-entry .bt-entry .result .0) none (at-if1 .if1 .taken)) (c .before .before .set-bst .ensures)
 
 returns-2 : tie.Need-returns-2
 returns-2 c = rw (← (c .before .before .bt-entry .ensures .0), eq-eqb (c .before .before .bt-entry .result .0) none (c .if1 .left))

@@ -31,7 +31,11 @@ loop-less : tie.Need-loop-less Inv-loop μ-loop
 loop-less c = omega arith
 
 loop-again : tie.Need-loop-again Inv-loop μ-loop
-loop-again c = (omega arith, search needs, λ bad right e. used-turn _ _ bad _ (c .before .before .before .before .before .before .before .before .pre .0) (λ ne. (c .before .before .before .before .before .before .before .before .pre .1 _ (c .before .before .before .before .loop-test .taken) ne, right _ (c .before .before .before .before .loop-test .taken) ne)) _ _ (c .before .before .before .before .before .loop .inv .2 bad right e) (c .before .before .set-used .ensures))
+loop-again c =
+    let at-loop-test = c .before .before .before .before in
+    let at-loop = at-loop-test .before in
+    let start = at-loop .before .before .before in
+    (omega arith, search needs, λ bad right e. used-turn _ _ bad _ (start .pre .0) (λ ne. (start .pre .1 _ (at-loop-test .loop-test .taken) ne, right _ (at-loop-test .loop-test .taken) ne)) _ _ (at-loop .loop .inv .2 bad right e) (c .before .before .set-used .ensures))
 
 same-length : tie.Need-same-length Inv-loop μ-loop
 same-length c = c .before .loop .inv .1

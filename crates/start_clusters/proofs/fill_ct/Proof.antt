@@ -12,7 +12,10 @@ clear-requires : tie.Need-clear-requires
 clear-requires c κs = search needs
 
 take-regions-requires : tie.Need-take-regions-requires
-take-regions-requires c κs = (c .before .before .before .before .before .before .before .before .pre .0, c .before .before .before .clear .ensures ∙ rw (c .before .before .before .before .before .before .before .before .pre .1) (frames-start _ _ _))
+take-regions-requires c κs =
+    let at-clear = c .before .before .before in
+    let start = at-clear .before .before .before .before .before in
+    (start .pre .0, at-clear .clear .ensures ∙ rw (start .pre .1) (frames-start _ _ _))
 
 to-segments-requires : tie.Need-to-segments-requires
 to-segments-requires c κs = search needs
@@ -21,7 +24,10 @@ same-length : tie.Need-same-length
 same-length c = search needs
 
 returns : tie.Need-returns
-returns c = c .before .before .to-segments .ensures ∙ segments-are _ _ _ _ ((sizes _ (c .before .before .before .before .before .before .before .before .before .before .before .before .before .before .before .pre .0 .fine)) .regions) (c .before .before .before .before .before .before .take-regions .ensures)
+returns c =
+    let at-take-regions = c .before .before .before .before .before .before in
+    let start = at-take-regions .before .before .before .before .before .before .before .before .before in
+    c .before .before .to-segments .ensures ∙ segments-are _ _ _ _ ((sizes _ (start .pre .0 .fine)) .regions) (at-take-regions .take-regions .ensures)
 
 pub fill-ct-spec : {M : Type 1} → statement M
 fill-ct-spec =

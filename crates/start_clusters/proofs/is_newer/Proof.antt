@@ -10,7 +10,9 @@ returns : tie.Need-returns
 returns c = rw (eq-eqb (c .before .before .before .args .m) none (c .if1 .taken))
 
 stamp-at-requires : tie.Need-stamp-at-requires
-stamp-at-requires c κs = (c .before .before .before .pre .0, c .before .before .before .pre .1 .1 (c .if1 .left))
+stamp-at-requires c κs =
+    let start = c .before .before .before in
+    (start .pre .0, start .pre .1 .1 (c .if1 .left))
 
 stamp-at-requires-2 : tie.Need-stamp-at-requires-2
 stamp-at-requires-2 c κs = search needs

@@ -22,7 +22,9 @@ loop-holds : tie.Need-loop-holds Inv-loop μ-loop
 loop-holds c = (omega arith, stamp-start _ _)
 
 larger-stamp-requires : tie.Need-larger-stamp-requires Inv-loop μ-loop
-larger-stamp-requires c κs = let a = c .before .before .before .before .before in
+larger-stamp-requires c κs =
+    let at- = c .before .before .before .before .before in
+    let a = at- in
     (a .pre .0, (a .pre .1, (omega (arith, c .before .before .region-frames .ensures, c .loop-test .taken), c .before .loop .inv .1)))
 
 add-i : tie.Need-add-i Inv-loop μ-loop
@@ -35,7 +37,8 @@ loop-again : tie.Need-loop-again Inv-loop μ-loop
 loop-again c = (omega arith, c .larger-stamp .ensures)
 
 returns : tie.Need-returns Inv-loop μ-loop
-returns c = let e : c .before .loop .i ≡ c .before .before .region-frames .result = omega arith in
+returns c =
+    let e : c .before .loop .i ≡ c .before .before .region-frames .result = omega arith in
     c .before .loop .inv .1 ∙ stamp-end _ _ _ (e ∙ c .before .before .region-frames .ensures)
 
 pub last-stamp-spec : {M : Type 1} → statement M

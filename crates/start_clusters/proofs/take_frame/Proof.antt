@@ -16,7 +16,9 @@ returns : tie.Need-returns
 returns c = unassigned _ _ _ _ _ _ (c .before .before .before .before .before .pre) (eqb-true _ _ (not-false _ (sym (c .before .has-frame .ensures) ∙ not-true _ (c .if1 .taken))))
 
 frame-at-requires : tie.Need-frame-at-requires
-frame-at-requires c κs = (c .before .before .before .before .before .pre .found, found-frame _ _ _ _ (c .before .before .before .before .before .pre .region) (c .before .before .before .before .before .pre .low) _ (c .before .has-frame .ensures) (c .if1 .left))
+frame-at-requires c κs =
+    let start = c .before .before .before .before .before in
+    (start .pre .found, found-frame _ _ _ _ (start .pre .region) (start .pre .low) _ (c .before .has-frame .ensures) (c .if1 .left))
 
 is-whole-requires : tie.Need-is-whole-requires
 is-whole-requires c κs = search needs
@@ -28,17 +30,30 @@ last-cluster-requires : tie.Need-last-cluster-requires
 last-cluster-requires c κs = search needs
 
 ct-at-requires : tie.Need-ct-at-requires
-ct-at-requires c κs = let a = c .before .before .before .before .before .before .before .before .before .before .pre in
-    let has = found-frame _ _ _ _ (a .region) (a .low) _ (c .before .before .before .before .before .before .has-frame .ensures) (c .before .before .before .before .before .if1 .left) in
-    in-ct _ _ _ _ _ _ a has _ (c .before .before .before .before .frame-at .ensures .0) (sym (c .before .before .before .is-whole .ensures) ∙ not-false _ (c .before .before .if2 .left)) _ (c .before .last-cluster .ensures)
+ct-at-requires c κs =
+    let at-is-whole = c .before .before .before in
+    let at-frame-at = at-is-whole .before in
+    let at-if1 = at-frame-at .before in
+    let at-has-frame = at-if1 .before in
+    let start = at-has-frame .before .before .before .before in
+    let a = start .pre in
+    let has = found-frame _ _ _ _ (a .region) (a .low) _ (at-has-frame .has-frame .ensures) (at-if1 .if1 .left) in
+    in-ct _ _ _ _ _ _ a has _ (at-frame-at .frame-at .ensures .0) (sym (at-is-whole .is-whole .ensures) ∙ not-false _ (c .before .before .if2 .left)) _ (c .before .last-cluster .ensures)
 
 is-newer-requires : tie.Need-is-newer-requires
-is-newer-requires c κs = let a = c .before .before .before .before .before .before .before .before .before .before .before .pre in
-    let has = found-frame _ _ _ _ (a .region) (a .low) _ (c .before .before .before .before .before .before .before .has-frame .ensures) (c .before .before .before .before .before .before .if1 .left) in (
+is-newer-requires c κs =
+    let at-if2 = c .before .before .before in
+    let at-is-whole = at-if2 .before in
+    let at-frame-at = at-is-whole .before in
+    let at-if1 = at-frame-at .before in
+    let at-has-frame = at-if1 .before in
+    let start = at-has-frame .before .before .before .before in
+    let a = start .pre in
+    let has = found-frame _ _ _ _ (a .region) (a .low) _ (at-has-frame .has-frame .ensures) (at-if1 .if1 .left) in (
       a .found,
       (
         has,
-        entry-has _ _ _ _ _ _ a has _ (c .before .before .before .before .before .frame-at .ensures .0) (sym (c .before .before .before .before .is-whole .ensures) ∙ not-false _ (c .before .before .before .if2 .left)) _ (c .before .before .last-cluster .ensures) _ (c .ct-at .ensures .0),
+        entry-has _ _ _ _ _ _ a has _ (at-frame-at .frame-at .ensures .0) (sym (at-is-whole .is-whole .ensures) ∙ not-false _ (at-if2 .if2 .left)) _ (c .before .before .last-cluster .ensures) _ (c .ct-at .ensures .0),
       ),
     )
 
@@ -46,31 +61,56 @@ cast-ct : tie.Need-cast-ct
 cast-ct c = omega (arith, small _ _ _ _ _ _ (c .before .before .before .before .before .before .before .before .before .before .before .before .before .pre))
 
 mul-ct : tie.Need-mul-ct
-mul-ct c = let a = c .before .before .before .before .before .before .before .before .before .before .before .before .before .pre in
+mul-ct c =
+    let a = c .before .before .before .before .before .before .before .before .before .before .before .before .before .pre in
     let has = found-frame _ _ _ _ (a .region) (a .low) _ (c .before .before .before .before .before .before .before .before .before .has-frame .ensures) (c .before .before .before .before .before .before .before .before .if1 .left) in
     omega (arith, in-ct _ _ _ _ _ _ a has _ (c .before .before .before .before .before .before .before .frame-at .ensures .0) (sym (c .before .before .before .before .before .before .is-whole .ensures) ∙ not-false _ (c .before .before .before .before .before .if2 .left)) _ (c .before .before .before .before .last-cluster .ensures))
 
 slice-write-ct : tie.Need-slice-write-ct
-slice-write-ct c = let a = c .before .before .before .before .before .before .before .before .before .before .before .before .before .pre in
-    let has = found-frame _ _ _ _ (a .region) (a .low) _ (c .before .before .before .before .before .before .before .before .before .has-frame .ensures) (c .before .before .before .before .before .before .before .before .if1 .left) in
-    in-ct _ _ _ _ _ _ a has _ (c .before .before .before .before .before .before .before .frame-at .ensures .0) (sym (c .before .before .before .before .before .before .is-whole .ensures) ∙ not-false _ (c .before .before .before .before .before .if2 .left)) _ (c .before .before .before .before .last-cluster .ensures)
+slice-write-ct c =
+    let at-last-cluster = c .before .before .before .before in
+    let at-if2 = at-last-cluster .before in
+    let at-is-whole = at-if2 .before in
+    let at-frame-at = at-is-whole .before in
+    let at-if1 = at-frame-at .before in
+    let at-has-frame = at-if1 .before in
+    let start = at-has-frame .before .before .before .before in
+    let a = start .pre in
+    let has = found-frame _ _ _ _ (a .region) (a .low) _ (at-has-frame .has-frame .ensures) (at-if1 .if1 .left) in
+    in-ct _ _ _ _ _ _ a has _ (at-frame-at .frame-at .ensures .0) (sym (at-is-whole .is-whole .ensures) ∙ not-false _ (at-if2 .if2 .left)) _ (at-last-cluster .last-cluster .ensures)
 
 same-length : tie.Need-same-length
 same-length c = search needs
 
 returns-3 : tie.Need-returns-3
-returns-3 c = let a = c .before .before .before .before .before .before .before .before .before .before .before .before .before .pre in
-    let has = found-frame _ _ _ _ (a .region) (a .low) _ (c .before .before .before .before .before .before .before .before .before .has-frame .ensures) (c .before .before .before .before .before .before .before .before .if1 .left) in
-    taken _ _ _ _ _ _ a has _ (c .before .before .before .before .before .before .before .frame-at .ensures .0) (sym (c .before .before .before .before .before .before .is-whole .ensures) ∙ not-false _ (c .before .before .before .before .before .if2 .left)) _ (c .before .before .before .before .last-cluster .ensures) _ (c .before .before .ct-at .ensures .0)
+returns-3 c =
+    let at-last-cluster = c .before .before .before .before in
+    let at-if2 = at-last-cluster .before in
+    let at-is-whole = at-if2 .before in
+    let at-frame-at = at-is-whole .before in
+    let at-if1 = at-frame-at .before in
+    let at-has-frame = at-if1 .before in
+    let start = at-has-frame .before .before .before .before in
+    let a = start .pre in
+    let has = found-frame _ _ _ _ (a .region) (a .low) _ (at-has-frame .has-frame .ensures) (at-if1 .if1 .left) in
+    taken _ _ _ _ _ _ a has _ (at-frame-at .frame-at .ensures .0) (sym (at-is-whole .is-whole .ensures) ∙ not-false _ (at-if2 .if2 .left)) _ (at-last-cluster .last-cluster .ensures) _ (c .before .before .ct-at .ensures .0)
     _ (c .before .is-newer .ensures) (c .if3 .taken)
 
 same-length-2 : tie.Need-same-length-2
 same-length-2 c = search needs
 
 returns-4 : tie.Need-returns-4
-returns-4 c = let a = c .before .before .before .before .before .before .before .before .before .before .before .before .before .pre in
-    let has = found-frame _ _ _ _ (a .region) (a .low) _ (c .before .before .before .before .before .before .before .before .before .has-frame .ensures) (c .before .before .before .before .before .before .before .before .if1 .left) in
-    older _ _ _ _ _ _ a has _ (c .before .before .before .before .before .before .before .frame-at .ensures .0) (sym (c .before .before .before .before .before .before .is-whole .ensures) ∙ not-false _ (c .before .before .before .before .before .if2 .left)) _ (c .before .before .before .before .last-cluster .ensures) _ (c .before .before .ct-at .ensures .0)
+returns-4 c =
+    let at-last-cluster = c .before .before .before .before in
+    let at-if2 = at-last-cluster .before in
+    let at-is-whole = at-if2 .before in
+    let at-frame-at = at-is-whole .before in
+    let at-if1 = at-frame-at .before in
+    let at-has-frame = at-if1 .before in
+    let start = at-has-frame .before .before .before .before in
+    let a = start .pre in
+    let has = found-frame _ _ _ _ (a .region) (a .low) _ (at-has-frame .has-frame .ensures) (at-if1 .if1 .left) in
+    older _ _ _ _ _ _ a has _ (at-frame-at .frame-at .ensures .0) (sym (at-is-whole .is-whole .ensures) ∙ not-false _ (at-if2 .if2 .left)) _ (at-last-cluster .last-cluster .ensures) _ (c .before .before .ct-at .ensures .0)
     _ (c .before .is-newer .ensures) (c .if3 .left)
 
 pub take-frame-spec : {M : Type 1} → statement M

@@ -22,8 +22,11 @@ loop-holds : tie.Need-loop-holds Inv-loop μ-loop
 loop-holds c = (omega arith, c .before .before .before .before .pre .1 .1)
 
 take-frame-requires : tie.Need-take-frame-requires Inv-loop μ-loop
-take-frame-requires c κs = let a = c .before .before .before .before .before .before .before in
-    record { found = a .pre .0; region = a .pre .1 .0; low = omega (arith, c .before .before .before .region-frames .ensures, c .before .loop-test .taken); so = c .before .before .loop .inv .1 }
+take-frame-requires c κs =
+    let at-region-frames = c .before .before .before in
+    let at- = at-region-frames .before .before .before .before in
+    let a = at- in
+    record { found = a .pre .0; region = a .pre .1 .0; low = omega (arith, at-region-frames .region-frames .ensures, c .before .loop-test .taken); so = c .before .before .loop .inv .1 }
 
 add-i : tie.Need-add-i Inv-loop μ-loop
 add-i c = omega arith
@@ -35,11 +38,14 @@ loop-again : tie.Need-loop-again Inv-loop μ-loop
 loop-again c = (omega arith, c .before .before .take-frame .ensures)
 
 same-length : tie.Need-same-length Inv-loop μ-loop
-same-length c = let a = c .before .before .before .before .before .before in
+same-length c =
+    let at- = c .before .before .before .before .before .before in
+    let a = at- in
     ap length (c .before .loop .inv .1) ∙ frames-length _ _ _ _ _ ∙ sym (ap length (a .pre .1 .1) ∙ frames-length _ _ _ _ _)
 
 returns : tie.Need-returns Inv-loop μ-loop
-returns c = let e : c .before .loop .i ≡ c .before .before .region-frames .result = omega arith in
+returns c =
+    let e : c .before .loop .i ≡ c .before .before .region-frames .result = omega arith in
     c .before .loop .inv .1 ∙ frames-next _ _ _ _ _ (e ∙ c .before .before .region-frames .ensures)
 
 pub take-region-spec : {M : Type 1} → statement M

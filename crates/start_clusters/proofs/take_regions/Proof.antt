@@ -34,7 +34,8 @@ same-length : tie.Need-same-length Inv-loop μ-loop
 same-length c = ap length (c .before .loop .inv .1) ∙ frames-length _ _ _ _ _ ∙ sym (ap length (c .before .before .before .before .before .pre .1) ∙ frames-length _ _ _ _ _)
 
 returns : tie.Need-returns Inv-loop μ-loop
-returns c = let e : c .before .loop .r ≡ c .before .before .before .before .before .args .p .mu = omega arith in
+returns c =
+    let e : c .before .loop .r ≡ c .before .before .before .before .before .args .p .mu = omega arith in
     c .before .loop .inv .1 ∙ rw e
 
 pub take-regions-spec : {M : Type 1} → statement M

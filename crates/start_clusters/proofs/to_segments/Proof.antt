@@ -40,8 +40,11 @@ loop-less : tie.Need-loop-less Inv-loop μ-loop
 loop-less c = omega (arith, c .before .before .before .loop .inv .1)
 
 loop-again : tie.Need-loop-again Inv-loop μ-loop
-loop-again c = let h : c .before .before .before .loop .c < length (c .before .before .before .before .before .args .ct .now) = omega (arith, c .before .before .before .loop .inv .1) in
-    (omega arith, simp length-set (c .before .before .before .loop .inv .1), segments-more _ _ _ _ _ h (c .before .before .before .loop .inv .2) (c .segment-at .ensures))
+loop-again c =
+    let at-loop = c .before .before .before in
+    let start = at-loop .before .before in
+    let h : at-loop .loop .c < length (start .args .ct .now) = omega (arith, at-loop .loop .inv .1) in
+    (omega arith, simp length-set (at-loop .loop .inv .1), segments-more _ _ _ _ _ h (at-loop .loop .inv .2) (c .segment-at .ensures))
 
 same-length : tie.Need-same-length Inv-loop μ-loop
 same-length c = c .before .loop .inv .1

@@ -11,27 +11,32 @@ frames-requires c κs = search needs
 
 div-frame-of : tie.Need-div-frame-of
 div-frame-of c =
-    let a = c .before .before .before in
+    let at- = c .before .before .before in
+    let a = at- in
     omega (arith, divisor _ (a .pre .0 .fine) _ _ (a .pre .1 .low) (c .frames .ensures))
 
 bt-at-requires : tie.Need-bt-at-requires
 bt-at-requires c κs =
-    let a = c .before .before .before in
+    let at- = c .before .before .before in
+    let a = at- in
     (a .pre .0 .btLength, (a .pre .1 .region, vblock-is-low _ (a .pre .0 .fine) _ _ (a .pre .1 .low) (c .frames .ensures)))
 
 block-of-requires : tie.Need-block-of-requires
 block-of-requires c κs =
-    let a = c .before .before .before .before in
+    let at- = c .before .before .before .before in
+    let a = at- in
     (a .pre .0 .fine, (a .pre .0 .chipLength, block-low _ _ _ (a .pre .0) _ _ (a .pre .1) _ _ (c .before .frames .ensures) (c .bt-at .ensures .0)))
 
 rem-frame-of : tie.Need-rem-frame-of
 rem-frame-of c =
-    let a = c .before .before .before .before .before in
+    let at- = c .before .before .before .before .before in
+    let a = at- in
     omega (arith, divisor _ (a .pre .0 .fine) _ _ (a .pre .1 .low) (c .before .before .frames .ensures))
 
 frame-of-requires : tie.Need-frame-of-requires
 frame-of-requires c κs =
-    let a = c .before .before .before .before .before in
+    let at- = c .before .before .before .before .before in
+    let a = at- in
     (a .pre .0 .fine, (c .block-of .ensures .1, place-is-low _ (a .pre .0 .fine) _ _ (a .pre .1 .low) (c .before .before .frames .ensures)))
 
 returns : tie.Need-returns

@@ -31,7 +31,11 @@ loop-less : tie.Need-loop-less Inv-loop μ-loop
 loop-less c = omega arith
 
 loop-again : tie.Need-loop-again Inv-loop μ-loop
-loop-again c = (omega arith, c .before .before .set-fst .ensures ∙ made-next _ _ _ _ _ _ (c .before .before .before .before .before .loop-test .taken) (c .before .before .before .before .before .before .loop .inv .1) (c .before .before .before .segment-of .ensures .0))
+loop-again c =
+    let at-segment-of = c .before .before .before in
+    let at-loop-test = at-segment-of .before .before in
+    let at-loop = at-loop-test .before in
+    (omega arith, c .before .before .set-fst .ensures ∙ made-next _ _ _ _ _ _ (at-loop-test .loop-test .taken) (at-loop .loop .inv .1) (at-segment-of .segment-of .ensures .0))
 
 same-length : tie.Need-same-length Inv-loop μ-loop
 same-length c = ap length (c .before .loop .inv .1) ∙ made-length _ _ _ _ ∙ sym (c .before .before .before .before .before .pre .1)

@@ -22,10 +22,15 @@ loop-holds : tie.Need-loop-holds Inv-loop μ-loop
 loop-holds c = (omega arith, first-start _ _)
 
 bt-at-requires : tie.Need-bt-at-requires Inv-loop μ-loop
-bt-at-requires c κs = (c .before .before .before .pre .0, (c .before .before .before .pre .1 .1, c .loop-test .taken))
+bt-at-requires c κs =
+    let start = c .before .before .before in
+    (start .pre .0, (start .pre .1 .1, c .loop-test .taken))
 
 returns : tie.Need-returns Inv-loop μ-loop
-returns c = sym (first-here _ _ _ _ (omega arith) (c .before .before .before .loop-test .taken) (c .before .before .before .before .loop .inv .1) (ap not (ne-eqb _ _ (λ e. c .if1 .taken (c .before .before .bt-at .ensures .0 ∙ e)))))
+returns c =
+    let at-loop-test = c .before .before .before in
+    let at-loop = at-loop-test .before in
+    sym (first-here _ _ _ _ (omega arith) (at-loop-test .loop-test .taken) (at-loop .loop .inv .1) (ap not (ne-eqb _ _ (λ e. c .if1 .taken (c .before .before .bt-at .ensures .0 ∙ e)))))
 
 add-v : tie.Need-add-v Inv-loop μ-loop
 add-v c = omega arith
@@ -37,7 +42,8 @@ loop-again : tie.Need-loop-again Inv-loop μ-loop
 loop-again c = (omega arith, first-later _ _ _ (c .before .before .before .before .loop .inv .1) (ap not (eq-eqb _ _ (sym (c .before .before .bt-at .ensures .0) ∙ c .if1 .left))))
 
 returns-2 : tie.Need-returns-2 Inv-loop μ-loop
-returns-2 c = let e : c .before .loop .v ≡ c .before .before .before .args .p .gamma = omega arith in
+returns-2 c =
+    let e : c .before .loop .v ≡ c .before .before .before .args .p .gamma = omega arith in
     sym (rw e at (c .before .loop .inv .1))
 
 pub first-named-spec : {M : Type 1} → statement M

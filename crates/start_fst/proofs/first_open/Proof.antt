@@ -21,11 +21,16 @@ loop-holds : tie.Need-loop-holds Inv-loop μ-loop
 loop-holds c = (omega arith, first-start _ _)
 
 is-open-requires : tie.Need-is-open-requires Inv-loop μ-loop
-is-open-requires c κs = (c .before .before .before .before .pre .0, (c .before .before .before .before .pre .1, c .loop-test .taken))
+is-open-requires c κs =
+    let start = c .before .before .before .before in
+    (start .pre .0, (start .pre .1, c .loop-test .taken))
 
 returns : tie.Need-returns Inv-loop μ-loop
-returns c = let few = (sizes _ (c .before .before .before .before .before .before .pre .0 .fine)) .gammaHigh in
-    sym (first-here _ _ _ _ (omega (arith, few)) (c .before .before .loop-test .taken) (c .before .before .before .loop .inv .1) (sym (c .before .is-open .ensures) ∙ c .if1 .taken))
+returns c =
+    let at-loop = c .before .before .before in
+    let start = at-loop .before .before .before in
+    let few = (sizes _ (start .pre .0 .fine)) .gammaHigh in
+    sym (first-here _ _ _ _ (omega (arith, few)) (c .before .before .loop-test .taken) (at-loop .loop .inv .1) (sym (c .before .is-open .ensures) ∙ c .if1 .taken))
 
 add-v : tie.Need-add-v Inv-loop μ-loop
 add-v c = omega arith
@@ -37,7 +42,8 @@ loop-again : tie.Need-loop-again Inv-loop μ-loop
 loop-again c = (omega arith, first-later _ _ _ (c .before .before .before .loop .inv .1) (sym (c .before .is-open .ensures) ∙ c .if1 .left))
 
 returns-2 : tie.Need-returns-2 Inv-loop μ-loop
-returns-2 c = let e : c .before .loop .v ≡ c .before .before .before .before .args .p .gamma = omega arith in
+returns-2 c =
+    let e : c .before .loop .v ≡ c .before .before .before .before .args .p .gamma = omega arith in
     sym (rw e at (c .before .loop .inv .1))
 
 pub first-open-spec : {M : Type 1} → statement M

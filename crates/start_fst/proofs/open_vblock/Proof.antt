@@ -11,13 +11,19 @@ first-open-requires : tie.Need-first-open-requires
 first-open-requires c κs = search needs
 
 returns : tie.Need-returns
-returns c = open-first _ _ _ (c .before .before .before .before .pre .0) _ (c .before .before .before .before .pre .1) _ (c .before .first-open .ensures) (c .if1 .taken)
+returns c =
+    let start = c .before .before .before .before in
+    open-first _ _ _ (start .pre .0) _ (start .pre .1) _ (c .before .first-open .ensures) (c .if1 .taken)
 
 first-named-requires : tie.Need-first-named-requires
-first-named-requires c κs = (c .before .before .before .before .pre .0 .btLength, (omega (arith, (sizes _ (c .before .before .before .before .pre .0 .fine)) .gammaHigh), c .before .before .before .before .pre .1))
+first-named-requires c κs =
+    let start = c .before .before .before .before in
+    (start .pre .0 .btLength, (omega (arith, (sizes _ (start .pre .0 .fine)) .gammaHigh), start .pre .1))
 
 returns-2 : tie.Need-returns-2
-returns-2 c = open-else _ _ _ (c .before .before .before .before .before .pre .0) _ (c .before .before .before .before .before .pre .1) _ _ (c .before .before .first-open .ensures) (c .before .if1 .left) (c .first-named .ensures)
+returns-2 c =
+    let start = c .before .before .before .before .before in
+    open-else _ _ _ (start .pre .0) _ (start .pre .1) _ _ (c .before .before .first-open .ensures) (c .before .if1 .left) (c .first-named .ensures)
 
 pub open-vblock-spec : {M : Type 1} → statement M
 open-vblock-spec =

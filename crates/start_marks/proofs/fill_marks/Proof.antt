@@ -10,7 +10,10 @@ clear-all-requires : tie.Need-clear-all-requires
 clear-all-requires c κs = search needs
 
 mark-entries-requires : tie.Need-mark-entries-requires
-mark-entries-requires c κs = (c .before .before .before .before .before .before .before .before .before .pre .0, (c .before .before .before .before .before .before .before .before .before .pre .1 .0, c .before .before .before .clear-all .ensures ∙ rw (c .before .before .before .before .before .before .before .before .before .pre .1 .1) (marks-start _ _)))
+mark-entries-requires c κs =
+    let at-clear-all = c .before .before .before in
+    let start = at-clear-all .before .before .before .before .before .before in
+    (start .pre .0, (start .pre .1 .0, at-clear-all .clear-all .ensures ∙ rw (start .pre .1 .1) (marks-start _ _)))
 
 same-length : tie.Need-same-length
 same-length c = search needs

@@ -27,8 +27,11 @@ loop-holds : tie.Need-loop-holds Inv-loop μ-loop
 loop-holds c = (omega arith, refl, λ views s e. e)
 
 mark-frame-requires : tie.Need-mark-frame-requires Inv-loop μ-loop
-mark-frame-requires c κs = let a = c .before .before .before .before .before .before .before in
-    let low : c .before .before .loop .f < frames (a .args .p) = omega (arith, c .before .before .before .frames .ensures, c .before .loop-test .taken) in (
+mark-frame-requires c κs =
+    let at-frames = c .before .before .before in
+    let at- = at-frames .before .before .before .before in
+    let a = at- in
+    let low : c .before .before .loop .f < frames (a .args .p) = omega (arith, at-frames .frames .ensures, c .before .loop-test .taken) in (
       record { block = a .pre .0; low = low },
       record {
         words = record { fine = a .pre .1 .fine; long = c .before .before .loop .inv .1 ∙ a .pre .1 .long; region = a .pre .1 .region; vblock = a .pre .1 .vblock };
@@ -49,7 +52,8 @@ same-length : tie.Need-same-length Inv-loop μ-loop
 same-length c = c .before .loop .inv .1
 
 returns : tie.Need-returns Inv-loop μ-loop
-returns c = let e : c .before .loop .f ≡ c .before .before .frames .result = omega arith in
+returns c =
+    let e : c .before .loop .f ≡ c .before .before .frames .result = omega arith in
     λ views s h. c .before .loop .inv .2 views s h ∙ rw (e, c .before .before .frames .ensures)
 
 pub mark-block-spec : {M : Type 1} → statement M

@@ -21,7 +21,9 @@ loop-holds : tie.Need-loop-holds Inv-loop μ-loop
 loop-holds c = (omega arith, c .before .before .before .before .pre .1 .1)
 
 mark-entry-requires : tie.Need-mark-entry-requires Inv-loop μ-loop
-mark-entry-requires c κs = let a = c .before .before .before .before .before .before .before in
+mark-entry-requires c κs =
+    let at- = c .before .before .before .before .before .before .before in
+    let a = at- in
     record { found = a .pre .0; ctLength = a .pre .1 .0; low = omega (arith, a .pre .0 .btLength, c .before .loop-test .taken); so = c .before .before .loop .inv .1 }
 
 add-i : tie.Need-add-i Inv-loop μ-loop
@@ -37,7 +39,9 @@ same-length : tie.Need-same-length Inv-loop μ-loop
 same-length c = marks-length _ _ _ (c .before .loop .inv .1) ∙ sym (marks-length _ _ _ (c .before .before .before .before .before .before .pre .1 .1))
 
 returns : tie.Need-returns Inv-loop μ-loop
-returns c = let a = c .before .before .before .before .before .before in
+returns c =
+    let at- = c .before .before .before .before .before .before in
+    let a = at- in
     let e : c .before .loop .i ≡ a .args .p .mu * a .args .p .gamma = omega (arith, a .pre .0 .btLength) in
     c .before .loop .inv .1 ∙ rw e
 

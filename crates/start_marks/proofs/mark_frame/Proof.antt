@@ -21,11 +21,17 @@ same-length : tie.Need-same-length
 same-length c = search needs
 
 returns : tie.Need-returns
-returns c = let a = c .before .before .before .before .before .before .before .before .before .before in
-    λ views s e. c .before .before .set-mark .ensures _ e ∙ marks-put _ views _ _ _ (a .pre .0 .block .low) (a .pre .0 .low) (sym (c .before .before .before .before .before .is-valid .ensures _ _ s) ∙ c .before .before .before .before .if1 .taken)
+returns c =
+    let at-if1 = c .before .before .before .before in
+    let at-is-valid = at-if1 .before in
+    let at- = at-is-valid .before .before .before .before .before in
+    let a = at- in
+    λ views s e. c .before .before .set-mark .ensures _ e ∙ marks-put _ views _ _ _ (a .pre .0 .block .low) (a .pre .0 .low) (sym (at-is-valid .is-valid .ensures _ _ s) ∙ at-if1 .if1 .taken)
 
 returns-2 : tie.Need-returns-2
-returns-2 c = let a = c .before .before .before .before .before .before in
+returns-2 c =
+    let at- = c .before .before .before .before .before .before in
+    let a = at- in
     λ views s e. e ∙ marks-skip _ views _ _ _ (a .pre .0 .block .low) (a .pre .0 .low) (sym (c .before .is-valid .ensures _ _ s) ∙ c .if1 .left)
 
 pub mark-frame-spec : {M : Type 1} → statement M

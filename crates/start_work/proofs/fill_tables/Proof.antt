@@ -17,7 +17,10 @@ fill-stamps-requires : tie.Need-fill-stamps-requires
 fill-stamps-requires c κs = search needs
 
 fill-marks-requires : tie.Need-fill-marks-requires
-fill-marks-requires c κs = let a = c .before .before .before .before .before .before .before .before .before .before .before .before .before .before .before .before .before .before .before .before .pre in (a .found, (ap length (c .before .before .before .before .before .before .before .before .before .before .before .before .fill-ct .ensures) ∙ list-length _ _, a .marksLength))
+fill-marks-requires c κs =
+    let at-fill-ct = c .before .before .before .before .before .before .before .before .before .before .before .before in
+    let start = at-fill-ct .before .before .before .before .before .before .before .before in
+    let a = start .pre in (a .found, (ap length (at-fill-ct .fill-ct .ensures) ∙ list-length _ _, a .marksLength))
 
 same-length : tie.Need-same-length
 same-length c = search needs
@@ -32,7 +35,11 @@ same-length-4 : tie.Need-same-length-4
 same-length-4 c = search needs
 
 returns : tie.Need-returns
-returns c = record { ctIs = c .before .before .before .before .before .before .before .before .before .before .before .before .before .before .before .fill-ct .ensures; fstIs = c .before .before .before .before .before .before .before .before .before .before .before .fill-fst .ensures; stampsIs = c .before .before .before .before .before .before .before .fill-stamps .ensures; marksAre = c .before .before .fill-marks .ensures _ }
+returns c =
+    let at-fill-stamps = c .before .before .before .before .before .before .before in
+    let at-fill-fst = at-fill-stamps .before .before .before .before in
+    let at-fill-ct = at-fill-fst .before .before .before .before in
+    record { ctIs = at-fill-ct .fill-ct .ensures; fstIs = at-fill-fst .fill-fst .ensures; stampsIs = at-fill-stamps .fill-stamps .ensures; marksAre = c .before .before .fill-marks .ensures _ }
 
 pub fill-tables-spec : {M : Type 1} → statement M
 fill-tables-spec =

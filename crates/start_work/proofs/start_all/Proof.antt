@@ -6,10 +6,15 @@ use Rattle.start_work.proofs.start_all.Statement.{statement}
 use Rattle.start_work.proofs.start_all.Tie as tie
 
 find-blocks-requires : tie.Need-find-blocks-requires
-find-blocks-requires c κs = let a = c .before .before .before .before .before .before .before .before .before .before .before .before .pre in (start-asked _ _ a, ((long _ _ a) .bstLength, (long _ _ a) .wearLength))
+find-blocks-requires c κs =
+    let start = c .before .before .before .before .before .before .before .before .before .before .before .before in
+    let a = start .pre in (start-asked _ _ a, ((long _ _ a) .bstLength, (long _ _ a) .wearLength))
 
 fill-tables-requires : tie.Need-fill-tables-requires
-fill-tables-requires c κs = tables-asked _ _ (c .before .before .before .before .before .before .before .before .before .before .before .before .before .before .before .before .before .before .before .before .before .before .before .before .before .before .before .pre) _ _ _ _ (c .before .before .before .before .before .before .before .before .before .before .before .before .before .before .find-blocks .ensures .0)
+fill-tables-requires c κs =
+    let at-find-blocks = c .before .before .before .before .before .before .before .before .before .before .before .before .before .before in
+    let start = at-find-blocks .before .before .before .before .before .before .before .before .before .before .before .before .before in
+    tables-asked _ _ (start .pre) _ _ _ _ (at-find-blocks .find-blocks .ensures .0)
 
 same-length : tie.Need-same-length
 same-length c = search needs
@@ -36,8 +41,12 @@ same-length-8 : tie.Need-same-length-8
 same-length-8 c = search needs
 
 returns : tie.Need-returns
-returns c = let kept = c .before .before .before .before .before .before .before .before .before .before .before .before .before .before .before .before .before .before .before .before .before .before .before .find-blocks .ensures .0 in
-    (board-is _ _ (c .before .before .before .before .before .before .before .before .before .before .before .before .before .before .before .before .before .before .before .before .before .before .before .before .before .before .before .before .before .before .before .before .before .before .before .before .pre) _ _ _ _ kept _ _ _ _ _ (c .before .before .before .before .before .before .before .before .before .before .before .before .before .before .before .before .before .before .before .before .before .before .before .find-blocks .ensures .1) (c .before .before .before .before .before .before .before .before .fill-tables .ensures), (kept .count, kept .few))
+returns c =
+    let at-fill-tables = c .before .before .before .before .before .before .before .before in
+    let at-find-blocks = at-fill-tables .before .before .before .before .before .before .before .before .before .before .before .before .before .before .before in
+    let start = at-find-blocks .before .before .before .before .before .before .before .before .before .before .before .before .before in
+    let kept = at-find-blocks .find-blocks .ensures .0 in
+    (board-is _ _ (start .pre) _ _ _ _ kept _ _ _ _ _ (at-find-blocks .find-blocks .ensures .1) (at-fill-tables .fill-tables .ensures), (kept .count, kept .few))
 
 pub start-all-spec : {M : Type 1} → statement M
 start-all-spec =
