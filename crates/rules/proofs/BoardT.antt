@@ -10,7 +10,7 @@ use Rattle.lists.proofs.Joins.{sameList→eq}
 use Rattle.rules.specs.BoardT.{sessionT, outputT, markedCases, asSaid, sixthSpares, sixthSaid, begunCases, begunSaid, sameLists}
 use Rattle.rules.proofs.Names.{all-boardT}
 
-sameLists→eq : (x y : List (List ℕ)) → sameLists x y ≡ true → x ≡ y
+pub sameLists→eq : (x y : List (List ℕ)) → sameLists x y ≡ true → x ≡ y
 unfolding sameLists
 sameLists→eq [] [] e = refl
 sameLists→eq [] (b ∷ y) e = absurd (false≢true e)

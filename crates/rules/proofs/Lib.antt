@@ -1,5 +1,6 @@
 pub mod Names
 pub mod BoardT
+pub mod StartT
 pub mod Refusals
 pub mod Sizes
 pub mod Frames

@@ -39,6 +39,32 @@ use Rattle.rules.specs.Orderly.{
 use Rattle.rules.specs.Traces.{onChip, onWear, replayChip, replayWear, clean, isErase, programsIn, erasesIn, eraseWhere, frameOps, framesOps}
 use Rattle.rules.specs.Requests.{lies, itemRequest, itemRequests, lent, lentAnswers}
 use Rattle.rules.specs.Format.{badMark, bad, goodBlocks, formatOps, formatted}
+use Rattle.rules.specs.Start.{
+  inUse,
+  regionNamed,
+  vblockNamed,
+  sound,
+  names,
+  namesFull,
+  namesOpen,
+  fullBlock,
+  keptBlock,
+  leftOver,
+  startOps,
+  foundBt,
+  foundView,
+  soundRule,
+  pairRule,
+  isOpen,
+  openOnce,
+  sameStamp,
+  stampsApart,
+  regionStarts,
+  startable,
+  foundSegment,
+  foundFst,
+  started,
+}
 use Rattle.rules.specs.Write.{
   hasRoom,
   lowestUnassigned,
@@ -75,6 +101,7 @@ use Rattle.rules.specs.Replies.{
   wrongData,
   tooFewBlocks,
   notOrderly,
+  notStartable,
   tooFewAnswers,
   noStampLeft,
   firstRow,
@@ -126,9 +153,10 @@ unfolding allBelow allTrue countBelow firstBelow lastBelow leastBelow mostBelow 
     filled isFull lastIn programmedDownTo bodyAt viewOf assigned valid validFrames frameOf sectorIn sector looksIn looksAt regionFrames frameIn stampIn largestStamp wordOf entryOf tableOf marked marksIn bstRule btRule
     onceRule named usedRule roomRule freeRule usedPages goodPages goodFrame goodUpTo blockRule regionBlocks blocksRule fullRule openRule regionFst fstRule entryRule clusterRule ctRule marksRule stampsTo regionStamps stampRule
     rulesOf orderly onChip onWear replayChip replayWear clean isErase programsIn erasesIn eraseWhere frameOps framesOps lies itemRequest itemRequests lent lentAnswers badMark bad
-    goodBlocks formatOps formatted hasRoom lowestUnassigned victim planOf planVBlock copies planFrame planErases newSector newPage newFrame freeBlock planBlock eraseOps
+    goodBlocks formatOps formatted inUse regionNamed vblockNamed sound names namesFull namesOpen fullBlock keptBlock leftOver startOps foundBt foundView soundRule pairRule
+    isOpen openOnce sameStamp stampsApart regionStarts startable foundSegment foundFst started hasRoom lowestUnassigned victim planOf planVBlock copies planFrame planErases newSector newPage newFrame freeBlock planBlock eraseOps
     roomOps planOps followCt planBst nextStamp writtenBy writeOps written released isAccepted lengthsFit badParameter wrongLength badCount badAddress badCluster wrongData tooFewBlocks
-    notOrderly tooFewAnswers noStampLeft firstRow lentRows accessRows orderRow stampRow rowsOf replyOf whyRows whyReply answerOf single refuses does readBytes writeWork writeAll queueWork workOf
+    notOrderly notStartable tooFewAnswers noStampLeft firstRow lentRows accessRows orderRow stampRow rowsOf replyOf whyRows whyReply answerOf single refuses does readBytes writeWork writeAll queueWork workOf
     opsOf over answersIn outcomeOf
 all-rules = tt
 

@@ -18,3 +18,4 @@ pub mod Calls
 pub mod Words
 pub mod Machine
 pub mod BoardT
+pub mod StartT

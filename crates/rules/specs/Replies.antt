@@ -14,8 +14,9 @@ use Rattle.rules.specs.Parameters.{chipBytes, allowed}
 use Rattle.rules.specs.Numbers.{sectorOf}
 use Rattle.rules.specs.Tables.{Board, marksLength, stampAt}
 use Rattle.rules.specs.Orderly.{orderly}
-use Rattle.rules.specs.Requests.{Request, requestRegion, Call, format, read, write, release, queue}
+use Rattle.rules.specs.Requests.{Request, requestRegion, Call, format, read, write, release, queue, start}
 use Rattle.rules.specs.Format.{goodBlocks}
+use Rattle.rules.specs.Start.{startable}
 
 -- the documents' number of each reply; 8 is T-01's, 9 T-07's
 abbrev pub numberOf : Reply → ℕ
@@ -87,6 +88,10 @@ tooFewBlocks p b = ltb (goodBlocks p (b .chip)) (p .mu * p .gamma + 1)
 unfoldable pub notOrderly : Params → Board → Bool
 notOrderly p b = not (orderly p b)
 
+-- T-07: 7 of a start, "exactly when" the chip is as that list says
+unfoldable pub notStartable : Params → Board → Bool
+notStartable p b = not (startable p (b .chip))
+
 -- 8: "when the answer list is shorter than the request list"
 unfoldable pub tooFewAnswers : ℕ → ℕ → Bool
 tooFewAnswers items answers = ltb answers items
@@ -128,13 +133,14 @@ stampRow p b q = row (noStampLeft (stampAt (b .stamps) (requestRegion p q))) NoS
 unfoldable pub queueRows : Params → Board → ℕ → ℕ → List (Row Reply)
 queueRows p b items answers = lentRows p b ++ (row (tooFewAnswers items answers) TooFewAnswers ∷ [])
 
--- the rows of a call. T-03: "1, 2, then 4 for a cluster not below C, then 7"
+-- the rows of a call. T-03: "1, 2, then 4 for a cluster not below C, then 7". T-07: "1, 2, 6 and 7 for the start"
 unfoldable pub rowsOf : Params → Board → Call → List (Row Reply)
 rowsOf p b format = lentRows p b ++ (row (tooFewBlocks p b) TooFewBlocks ∷ [])
 rowsOf p b (read q) = lentRows p b ++ (accessRows p q ++ orderRow p b)
 rowsOf p b (write q) = lentRows p b ++ (accessRows p q ++ (orderRow p b ++ stampRow p b q))
 rowsOf p b (release c) = lentRows p b ++ (row (badCluster p c) BadAddress ∷ orderRow p b)
 rowsOf p b (queue l) = queueRows p b (length (l .items)) (length (l .answers))
+rowsOf p b start = lentRows p b ++ (row (tooFewBlocks p b) TooFewBlocks ∷ row (notStartable p b) NotOrderly ∷ [])
 
 unfoldable pub replyOf : Params → Board → Call → Reply
 replyOf p b c = firstRow Accepted (rowsOf p b c)

@@ -59,6 +59,7 @@ pub data Call : Type 0 where
   write : Request → Call
   release : ℕ → Call
   queue : Queue → Call
+  start : Call
 
 -- the data that is lent with a call
 unfoldable pub lent : Call → List ℕ
@@ -67,6 +68,7 @@ lent (read q) = q .bytes
 lent (write q) = q .bytes
 lent (release c) = []
 lent (queue l) = l .bytes
+lent start = []
 
 -- and the answer list
 unfoldable pub lentAnswers : Call → List Answer
@@ -75,3 +77,4 @@ lentAnswers (read q) = []
 lentAnswers (write q) = []
 lentAnswers (release c) = []
 lentAnswers (queue l) = l .answers
+lentAnswers start = []
