@@ -11,12 +11,12 @@ use Rattle.rules.specs.declared.Answer.{Answer}
 use Rattle.rules.specs.declared.Reply.the-variants.{Accepted}
 use Rattle.rules.specs.Tables.{Board}
 use Rattle.rules.specs.Traces.{programsIn}
-use Rattle.rules.specs.Requests.{Call, format, itemRequests, queue, read, release, write}
+use Rattle.rules.specs.Requests.{Call, format, itemRequests, queue, read, release, start, write}
 use Rattle.rules.specs.Replies.{isAccepted, replyOf}
 use Rattle.rules.specs.Calls.{Work, answerOf, outcomeOf}
 use Rattle.rules.proofs.Admitted.{write-checks}
-use Rattle.rules.proofs.FormatCounts.{format-programs}
-use Rattle.rules.proofs.Outcomes.{all-answer, call-refused, format-accepted, queue-accepted, read-accepted, release-accepted, reply-cases, write-accepted}
+use Rattle.rules.proofs.Counts.{format-programs, start-counts}
+use Rattle.rules.proofs.Outcomes.{all-answer, call-refused, format-accepted, queue-accepted, read-accepted, release-accepted, reply-cases, start-accepted, write-accepted}
 use Rattle.rules.proofs.Sizes.{sizes}
 use Rattle.rules.proofs.WritePromise.{write-promise}
 
@@ -26,6 +26,7 @@ accepted-few p b format e = rw (format-accepted p b e, format-programs p (b .chi
 accepted-few p b (read q) e = rw (read-accepted p b q e) (omega arith)
 accepted-few p b (release c) e = rw (release-accepted p b c e) (omega arith)
 accepted-few p b (write q) e = rw (write-accepted p b q e) (omega (arith, (write-promise p b q e) .bounded .0, (sizes p ((write-checks p b q e) .fine)) .pagesHigh))
+accepted-few p b start e = rw (start-accepted p b e, (start-counts p (b .chip)) .0) (omega arith)
 accepted-few p b (queue l) e =
     let own : (outcomeOf p b (queue l)) .answer ≡ answerOf Accepted [] 0 =
     unfold outcomeOf in (ap (λ (w : Work). w .answer) (queue-accepted p b l e) ∙ all-answer p b (itemRequests p (l .bytes) (l .items)) l) in

@@ -20,7 +20,7 @@ use Rattle.rules.proofs.Sizes.{sizes}
 use Rattle.rules.proofs.TableFacts.{chip-size}
 use Rattle.rules.proofs.Admitted.{FormatAdmitted, format-admitted}
 use Rattle.rules.proofs.Outcomes.{format-accepted}
-use Rattle.rules.proofs.FormatCounts.{format-programs}
+use Rattle.rules.proofs.Counts.{format-programs}
 use Rattle.marks.proofs.FormattedMarks.{formatted-marks}
 use Rattle.format_work.specs.Blocks.{BlocksAsked, BlocksDone}
 use Rattle.check_rules.specs.Check.{Lengths}

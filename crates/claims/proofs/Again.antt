@@ -12,20 +12,22 @@ use Rattle.rules.specs.declared.Params.{Params}
 use Rattle.rules.specs.declared.Reply.the-variants.{Accepted}
 use Rattle.rules.specs.Tables.{Board}
 use Rattle.rules.specs.Traces.{replayChip}
-use Rattle.rules.specs.Requests.{Call, format, queue, read, release, write}
+use Rattle.rules.specs.Requests.{Call, format, queue, read, release, start, write}
 use Rattle.rules.specs.Format.{bad, goodBlocks}
 use Rattle.rules.specs.Release.{released}
 use Rattle.rules.specs.Replies.{OrderlyBoard, badParameter, firstRow, isAccepted, lentRows, replyOf, rowsOf, tooFewBlocks, wrongLength}
 use Rattle.rules.proofs.Admitted.{format-admitted}
 use Rattle.rules.proofs.BadBlocks.{format-same-bad, write-same-bad}
 use Rattle.rules.proofs.Outcomes.{reply-cases}
+use Rattle.starts.proofs.Again as again
 use Rattle.claims.specs.Runs.{boardAfter, leaves}
 use Rattle.claims.proofs.Singles.{AllSingle, Single, all-single, board-same, refused-leaves, singlesOf}
+use Rattle.starts.proofs.Accepted.{start-admitted}
 use Rattle.claims.proofs.Steps.{accepted-leaves, doneBoard}
 
 -- ---- one call
 
--- an accepted call finds a block bad exactly if it leaves it so; a read and a release do not touch the chip
+-- an accepted call finds a block bad exactly if it leaves it so; a read and a release do not touch the chip, and a start erases good blocks alone
 done-bad : (p : Params) (b : Board) (c : Call) → Single c → replyOf p b c ≡ Accepted → (n : ℕ) → n < p .N → bad p ((doneBoard p b c) .chip) n ≡ bad p (b .chip) n
 unfolding doneBoard released replayChip
 done-bad p b format s e n h = format-same-bad p b e n h
@@ -33,6 +35,7 @@ done-bad p b (read q) s e n h = refl
 done-bad p b (write q) s e n h = write-same-bad p b q e n h
 done-bad p b (release c) s e n h = refl
 done-bad p b (queue l) s e n h = absurd s
+done-bad p b start s e n h = again.bad-same p b (start-admitted p b e) n h
 
 -- and a refused one changes nothing
 leaves-bad : (p : Params) (b : Board) (c : Call) → Single c → (n : ℕ) → n < p .N → bad p ((leaves p b c) .chip) n ≡ bad p (b .chip) n

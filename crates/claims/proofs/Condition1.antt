@@ -15,15 +15,15 @@ use Rattle.rules.specs.Numbers.{regionOf}
 use Rattle.rules.specs.Tables.{Board, bstAt, ctAt, none}
 use Rattle.rules.specs.Regions.{view}
 use Rattle.rules.specs.Traces.{erasesIn, programsIn}
-use Rattle.rules.specs.Requests.{Call, Queue, Request, format, itemRequests, lent, lentAnswers, queue, read, release, requestCluster, requestRegion, write}
+use Rattle.rules.specs.Requests.{Call, Queue, Request, format, itemRequests, lent, lentAnswers, queue, read, release, requestCluster, requestRegion, start, write}
 use Rattle.rules.specs.Write.{Plan, continues, opens, planBlock, planOf, reclaims}
 use Rattle.rules.specs.Release.{released}
 use Rattle.rules.specs.Replies.{OrderlyBoard, isAccepted, replyOf}
 use Rattle.rules.specs.Calls.{Work, answerOf, answersIn, outcomeOf, over, workOf, writeAll, writeWork}
 use Rattle.rules.proofs.Admitted.{admitted, release-admitted, write-checks}
 use Rattle.rules.proofs.Continues.{Makes}
-use Rattle.rules.proofs.FormatCounts.{format-counts}
-use Rattle.rules.proofs.Outcomes.{format-accepted, all-answer, all-bytes, all-lent, call-refused, is-refused, queue-accepted, read-accepted, release-accepted, reply-cases, reply-is, write-accepted}
+use Rattle.rules.proofs.Counts.{format-counts, start-counts}
+use Rattle.rules.proofs.Outcomes.{format-accepted, all-answer, all-bytes, all-lent, call-refused, is-refused, queue-accepted, read-accepted, release-accepted, reply-cases, reply-is, start-accepted, write-accepted}
 use Rattle.rules.proofs.RegionFacts.{neat}
 use Rattle.rules.proofs.Releases.{entry-none, release-same}
 use Rattle.rules.proofs.Sizes.{Sizes, sizes}
@@ -31,14 +31,17 @@ use Rattle.rules.proofs.TableFacts.{Tables, marks-in, tables-in}
 use Rattle.rules.proofs.Totals.{blocks-total, used-total}
 use Rattle.rules.proofs.Views.{free-block}
 use Rattle.rules.proofs.WritePromise.{makes, write-promise}
+use Rattle.starts.proofs.Again.{same-but-wear}
+use Rattle.starts.proofs.StartTables.{swept}
 use Rattle.claims.specs.Runs.{boardAfter, leaves, sectorAt}
-use Rattle.claims.specs.Conditions.{Condition1, Formats, Frees, InOrder, Reads, Serves, Unchanged, Writes, assignedBlocks, blocksOf, takesBlock}
+use Rattle.claims.specs.Conditions.{Condition1, Formats, Frees, InOrder, Reads, Serves, Starts, Unchanged, Writes, assignedBlocks, blocksOf, takesBlock}
 use Rattle.claims.proofs.Kept.{accepted-orderly, after-orderly}
 use Rattle.claims.proofs.Memory.{freed, read-agrees, stored}
 use Rattle.claims.proofs.Freed.{none-copied}
 use Rattle.claims.proofs.ReplyTable.{reply-by-table}
 use Rattle.claims.proofs.Stamps.{format-stamp, write-stamps}
 use Rattle.claims.proofs.Singles.{Single}
+use Rattle.starts.proofs.Accepted.{start-admitted, start-again}
 use Rattle.claims.proofs.Steps.{its-part, partOf}
 
 -- ---- a refusal
@@ -68,6 +71,7 @@ no-queue (read q) n = tt
 no-queue (write q) n = tt
 no-queue (release c) n = tt
 no-queue (queue l) n = n l refl
+no-queue start n = tt
 
 -- ---- room for a write
 
@@ -127,6 +131,23 @@ release-frees p b c e =
       stamps = unfold released in refl;
       already = λ n. release-same p b c (marks-in p b (a .lengths) (a .tidy)) n;
       counts = (refl, refl, refl);
+    })
+
+-- ---- a start
+
+start-starts : (p : Params) (b : Board) → replyOf p b start ≡ Accepted → Starts p b (outcomeOf p b start)
+unfolding answerOf
+start-starts p b e =
+    let a = start-admitted p b e in
+    let k = start-counts p (b .chip) in
+    rw (start-accepted p b e)
+    (record {
+      programs = k .0;
+      erases = k .1;
+      looks = refl;
+      others = (swept p b a) .kept;
+      again = start-again p b a;
+      wear = λ b″ same e″. rw (start-accepted p b″ e″) (same-but-wear p b b″ (sym same));
     })
 
 -- ---- a queue
@@ -199,4 +220,5 @@ condition-1 p b c =
       writes = λ q is e. rw is (write-writes p b q (sym (reply-is p b (write q)) ∙ (rw is at e)));
       frees = λ n is e. rw is (release-frees p b n (sym (reply-is p b (release n)) ∙ (rw is at e)));
       serves = λ l is. rw is (queue-serves p b l);
+      starts = λ is e. rw is (start-starts p b (sym (reply-is p b start) ∙ (rw is at e)));
     }

@@ -20,11 +20,11 @@ use Rattle.rules.specs.Replies.{OrderlyBoard, replyOf}
 use Rattle.rules.proofs.Isolation.{view-path}
 use Rattle.rules.proofs.TableFacts.{marks-in}
 use Rattle.marks.proofs.Tables.{region-word}
-use Rattle.claims.specs.Runs.{Told, boardAfter, leaves, noFormat, partsOf, partsTo, requestsTo, toRegion, toldTo}
+use Rattle.claims.specs.Runs.{Told, boardAfter, leaves, partsOf, partsTo, requestsTo, toRegion, toldTo, undisturbed}
 use Rattle.claims.specs.Conditions.{Condition3}
 use Rattle.claims.proofs.Kept.{accepted-orderly, after-orderly}
 use Rattle.claims.proofs.RegionMachine.{Gives, State, run-gives, stateAnswers, stateOf, stateRun}
-use Rattle.claims.proofs.Singles.{all-single, board-same, no-format, parts-same, singlesOf}
+use Rattle.claims.proofs.Singles.{all-single, board-same, parts-same, singlesOf, still-undisturbed}
 use Rattle.claims.proofs.Stamps.{format-stamp}
 use Rattle.claims.proofs.Steps.{format-leaves, partOf, parts-step}
 
@@ -60,7 +60,7 @@ format-state p b r = λ i. record { vw = format-view p b r i; stamp = format-sta
 
 -- ---- a run from a format on
 
-module _ (p : Params) (b : Board) (e : replyOf p b format ≡ Accepted) (r : ℕ) (low : r < p .mu) (cs : List Call) (n : noFormat cs ≡ true) where
+module _ (p : Params) (b : Board) (e : replyOf p b format ≡ Accepted) (r : ℕ) (low : r < p .mu) (cs : List Call) (n : undisturbed cs ≡ true) where
   ordered : OrderlyBoard p (leaves p b format)
   ordered = accepted-orderly p b format tt e
 
@@ -68,7 +68,7 @@ module _ (p : Params) (b : Board) (e : replyOf p b format ≡ Accepted) (r : ℕ
   start = rw (format-leaves p b e) (format-state p b r)
 
   gives : Gives p (leaves p b format) r (singlesOf p (leaves p b format) cs)
-  gives = run-gives p r low (leaves p b format) (singlesOf p (leaves p b format) cs) (all-single p (leaves p b format) cs) ordered (no-format p (leaves p b format) cs n)
+  gives = run-gives p r low (leaves p b format) (singlesOf p (leaves p b format) cs) (all-single p (leaves p b format) cs) ordered (still-undisturbed p (leaves p b format) cs n)
 
   -- the format tells the region nothing
   past-format : toldTo p r (partsOf p b (format ∷ cs)) ≡ toldTo p r (partsOf p (leaves p b format) cs)

@@ -15,10 +15,11 @@ use Rattle.rules.specs.declared.Reply.the-variants.{Accepted, BadAddress, NoSta
 use Rattle.rules.specs.Parameters.{chipBytes}
 use Rattle.rules.specs.Tables.{Board, stampAt}
 use Rattle.rules.specs.Traces.{Op, clean, eraseWhere, replayChip, replayWear}
-use Rattle.rules.specs.Requests.{Call, Request, format, queue, read, release, requestRegion, write}
+use Rattle.rules.specs.Requests.{Call, Request, format, queue, read, release, requestRegion, start, write}
 use Rattle.rules.specs.Format.{bad, formatOps, formatted}
 use Rattle.rules.specs.Write.{writeOps, written, writtenBy}
 use Rattle.rules.specs.Release.{released}
+use Rattle.rules.specs.Start.{leftOver, startOps, started}
 use Rattle.rules.specs.Calls.{opsOf}
 use Rattle.rules.specs.Replies.{OrderlyBoard, accessRows, badCluster, badParameter, firstRow, isAccepted, lengthsFit, lentRows, noStampLeft, notOrderly, orderRow, replyOf, row, rowsOf, stampRow, wrongLength}
 use Rattle.rules.proofs.Admitted.{format-admitted, read-checks, release-admitted, write-checks}
@@ -29,10 +30,12 @@ use Rattle.rules.proofs.Outcomes.{reply-cases}
 use Rattle.rules.proofs.Releases.{release-lengths, release-orderly}
 use Rattle.rules.proofs.Sizes.{sizes}
 use Rattle.rules.proofs.WritePromise.{write-promise}
+use Rattle.starts.proofs.StartPromise.{start-lengths, start-orderly}
 use Rattle.claims.specs.Runs.{AllFit, boardAfter, leaves, noPageTwice, partsOf, traceOf}
 use Rattle.claims.proofs.Once.{clean-once, fit-append}
-use Rattle.claims.proofs.Programs.{format-fits, write-fits}
+use Rattle.claims.proofs.Programs.{erases-fit, format-fits, write-fits}
 use Rattle.claims.proofs.Singles.{AllSingle, Single, all-single, board-same, parts-same, refused-leaves, singlesOf}
+use Rattle.starts.proofs.Accepted.{start-admitted}
 use Rattle.claims.proofs.Steps.{accepted-leaves, accepted-ops, doneBoard, doneOps, opsBy, refused-ops, trace-step}
 
 -- ---- an orderly board stays one
@@ -47,6 +50,7 @@ done-orderly p b (release c) s e =
     let a = release-admitted p b c e in
     record { fine = a .fine; lengths = release-lengths p b c (a .lengths) (a .tidy); tidy = release-orderly p b c (sizes p (a .fine)) (a .lengths) (a .tidy) }
 done-orderly p b (queue l) s e = absurd s
+done-orderly p b start s e = let a = start-admitted p b e in record { fine = a .fine; lengths = start-lengths p b a; tidy = start-orderly p b a }
 
 pub accepted-orderly : (p : Params) (b : Board) (c : Call) → Single c → replyOf p b c ≡ Accepted → OrderlyBoard p (leaves p b c)
 accepted-orderly p b c s e = rw (accepted-leaves p b c s e) (done-orderly p b c s e)
@@ -104,6 +108,7 @@ done-fit p b (read q) s e = tt
 done-fit p b (write q) s e = write-fits p b q e
 done-fit p b (release c) s e = tt
 done-fit p b (queue l) s e = absurd s
+done-fit p b start s e = unfold startOps in erases-fit p (leftOver p (b .chip))
 
 ops-fit : (p : Params) (b : Board) (c : Call) → Single c → AllFit p (opsBy p b c)
 ops-fit p b c s = go (reply-cases (replyOf p b c))
@@ -114,20 +119,22 @@ ops-fit p b c s = go (reply-cases (replyOf p b c))
 
 -- the chip and the wear after a call
 done-chip : (p : Params) (b : Board) (c : Call) → (doneBoard p b c) .chip ≡ replayChip p (b .chip) (doneOps p b c)
-unfolding doneBoard doneOps replayChip formatted written writtenBy writeOps released
+unfolding doneBoard doneOps replayChip formatted written writtenBy writeOps released started
 done-chip p b format = refl
 done-chip p b (read q) = refl
 done-chip p b (write q) = refl
 done-chip p b (release c) = refl
 done-chip p b (queue l) = refl
+done-chip p b start = refl
 
 done-wear : (p : Params) (b : Board) (c : Call) → (doneBoard p b c) .wear ≡ replayWear (b .wear) (doneOps p b c)
-unfolding doneBoard doneOps replayWear formatted written writtenBy writeOps released
+unfolding doneBoard doneOps replayWear formatted written writtenBy writeOps released started
 done-wear p b format = refl
 done-wear p b (read q) = refl
 done-wear p b (write q) = refl
 done-wear p b (release c) = refl
 done-wear p b (queue l) = refl
+done-wear p b start = refl
 
 ops-chip : (p : Params) (b : Board) (c : Call) → Single c → (leaves p b c) .chip ≡ replayChip p (b .chip) (opsBy p b c)
 ops-chip p b c s = go (reply-cases (replyOf p b c))
@@ -145,12 +152,13 @@ ops-wear p b c s = go (reply-cases (replyOf p b c))
 
 -- each page that a call programs is 255 throughout just before; a format programs none
 done-clean : (p : Params) (b : Board) (c : Call) → Single c → replyOf p b c ≡ Accepted → clean p (b .chip) (doneOps p b c) ≡ true
-unfolding doneOps clean formatOps eraseWhere erasesBelow
+unfolding doneOps clean formatOps startOps eraseWhere erasesBelow
 done-clean p b format s e = erases-clean p (λ n. not (bad p (b .chip) n)) (b .chip) (p .N)
 done-clean p b (read q) s e = refl
 done-clean p b (write q) s e = (write-promise p b q e) .erased
 done-clean p b (release c) s e = refl
 done-clean p b (queue l) s e = absurd s
+done-clean p b start s e = erases-clean p (leftOver p (b .chip)) (b .chip) (p .N)
 
 ops-clean : (p : Params) (b : Board) (c : Call) → Single c → clean p (b .chip) (opsBy p b c) ≡ true
 ops-clean p b c s = go (reply-cases (replyOf p b c))

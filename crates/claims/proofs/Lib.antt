@@ -4,11 +4,13 @@ pub mod Steps
 pub mod Once
 pub mod Programs
 pub mod Kept
+pub mod Known
 pub mod Memory
 pub mod Freed
 pub mod Stamps
 pub mod Condition1
 pub mod Again
+pub mod Standing
 pub mod Condition2
 pub mod RegionMachine
 pub mod Condition3
@@ -16,4 +18,3 @@ pub mod Unique
 pub mod Queues
 pub mod OldForm
 pub mod Frames
-pub mod StampsOverRuns

@@ -1,40 +1,40 @@
--- What the board reads as is what the memory holds: a format blanks both, a write gives both the same bytes, a release blanks a cluster of both, and
--- nothing else changes either.
+-- What the board reads as is what the host knows: a format blanks both, a write gives both the same bytes, a release blanks a cluster of both, what a start finds
+-- counts as accepted, and nothing else changes either.
 -- Assumes nothing.
 use mathlib.Core.Path.{_≡_, refl, sym, ap, ap₂, _∙_}
 use mathlib.Core.Logic.{_⊎_, inl, inr}
-use Prim.Native.Nat.{ℕ, zero, suc, _+_, _-_, _*_, _/_, _%_, _≤_, _<_}
+use Prim.Native.Nat.{ℕ, _+_, _-_, _*_, _/_, _%_, _≤_, _<_}
 use native.Mathlib.Nat.{div-add-mod', div-lt-iff-lt-mul, mod-lt}
 use native.Mathlib.Omega.{arith}
 use native.Mathlib.Decide.{ℕ-discrete, decLe, decLt}
 use mathlib.Core.Bool.{Bool, true, false, _&&_, cond}
-use mathlib.Core.List.{List, [], _∷_, _++_}
+use mathlib.Core.List.{List, [], _∷_}
 use lib.Dec.{leb}
 use borrow.Author.Tests.{eq-eqb, le-leb, le-ltb, lt-leb, lt-ltb, ne-eqb}
 use Rattle.lists.proofs.Joins.{join-cong}
 use Rattle.lists.specs.Below.{joinBelow}
 use Rattle.lists.specs.Parts.{part}
 use Rattle.rules.specs.declared.Params.{Params}
-use Rattle.rules.specs.declared.Reply.{Reply}
 use Rattle.rules.specs.declared.Reply.the-variants.{Accepted}
 use Rattle.rules.specs.Numbers.{clusterOf, sectorOf}
 use Rattle.rules.specs.Tables.{Board}
 use Rattle.rules.specs.Regions.{sector}
-use Rattle.rules.specs.Requests.{Call, Request, format, queue, read, release, requestCluster, write}
+use Rattle.rules.specs.Requests.{Call, Request, format, queue, read, release, requestCluster, start, write}
 use Rattle.rules.specs.Format.{formatted}
 use Rattle.rules.specs.Write.{written}
 use Rattle.rules.specs.Release.{released}
 use Rattle.rules.specs.Replies.{isAccepted, replyOf}
-use Rattle.rules.specs.Calls.{Part, readBytes}
+use Rattle.rules.specs.Calls.{readBytes}
 use Rattle.rules.proofs.Admitted.{Admitted, admitted, read-checks, write-checks}
 use Rattle.rules.proofs.FormatPromise.{format-reads}
 use Rattle.rules.proofs.Isolation.{index-inj}
-use Rattle.rules.proofs.Outcomes.{reply-cases, reply-is}
+use Rattle.rules.proofs.Outcomes.{reply-cases}
 use Rattle.rules.proofs.Releases.{release-others, release-reads}
 use Rattle.rules.proofs.WritePromise.{Promise, write-promise}
-use Rattle.claims.specs.Runs.{Memory, blank, boardAfter, cleared, given, leaves, memoryAfter, partsOf, remember, sectorAt}
-use Rattle.claims.proofs.Singles.{AllSingle, Single, all-single, board-same, parts-same, refused-leaves, singlesOf}
-use Rattle.claims.proofs.Steps.{accepted-leaves, doneBoard, partOf, parts-step}
+use Rattle.claims.specs.Runs.{Known, Memory, blank, boardAfter, cleared, given, knownAfter, leaves, learns, sectorAt}
+use Rattle.claims.proofs.Known.{known-same, known-step, knownBy}
+use Rattle.claims.proofs.Singles.{AllSingle, Single, all-single, board-same, refused-leaves, singlesOf}
+use Rattle.claims.proofs.Steps.{accepted-leaves, doneBoard}
 
 -- ---- the memory's write
 
@@ -134,35 +134,34 @@ pub format-agrees : (p : Params) (b : Board) → replyOf p b format ≡ Accepted
 unfolding sectorAt blank
 format-agrees p b e a h = format-reads p b e (clusterOf p a) (sectorOf p a)
 
--- an accepted call, any call, and a run of single calls change both alike
-done-agrees : (p : Params) (b : Board) (m : Memory) (c : Call) → Single c → replyOf p b c ≡ Accepted → Agrees p b m → Agrees p (doneBoard p b c) (remember p c m)
-unfolding remember doneBoard
-done-agrees p b m format s e h a low = format-agrees p b e a low
-done-agrees p b m (read q) s e h a low = h a low
-done-agrees p b m (release c) s e h a low = freed p b c a ∙ cleared-same p c (sectorAt p b) m a (h a low)
-done-agrees p b m (write q) s e h a low = stored p b q e a low ∙ given-same p q (sectorAt p b) m a (h a low)
-done-agrees p b m (queue l) s e h a low = absurd s
+-- an accepted call changes both alike; what a start finds is what is then read
+done-agrees : (p : Params) (b : Board) (k : Known) (c : Call) → Single c → replyOf p b c ≡ Accepted → Agrees p b (k .memory)
+    → Agrees p (doneBoard p b c) ((learns p (doneBoard p b c) c k) .memory)
+unfolding learns doneBoard
+done-agrees p b k format s e h a low = format-agrees p b e a low
+done-agrees p b k (read q) s e h a low = h a low
+done-agrees p b k (release c) s e h a low = freed p b c a ∙ cleared-same p c (sectorAt p b) (k .memory) a (h a low)
+done-agrees p b k (write q) s e h a low = stored p b q e a low ∙ given-same p q (sectorAt p b) (k .memory) a (h a low)
+done-agrees p b k (queue l) s e h a low = absurd s
+done-agrees p b k start s e h a low = refl
 
-call-agrees : (p : Params) (b : Board) (m : Memory) (c : Call) → Single c → Agrees p b m → Agrees p (leaves p b c) (cond (isAccepted (replyOf p b c)) (remember p c m) m)
-call-agrees p b m c s h = go (reply-cases (replyOf p b c))
+-- so does any call that is no queue
+call-agrees : (p : Params) (b : Board) (k : Known) (c : Call) → Single c → Agrees p b (k .memory) → Agrees p (leaves p b c) ((knownBy p b c k) .memory)
+unfolding knownBy
+call-agrees p b k c s h = go (reply-cases (replyOf p b c))
   where
-    go : (replyOf p b c ≡ Accepted) ⊎ (isAccepted (replyOf p b c) ≡ false) → Agrees p (leaves p b c) (cond (isAccepted (replyOf p b c)) (remember p c m) m)
-    go (inl e) = rw (accepted-leaves p b c s e, e) (unfold isAccepted in done-agrees p b m c s e h)
+    go : (replyOf p b c ≡ Accepted) ⊎ (isAccepted (replyOf p b c) ≡ false) → Agrees p (leaves p b c) ((cond (isAccepted (replyOf p b c)) (learns p (leaves p b c) c k) k) .memory)
+    go (inl e) = rw (accepted-leaves p b c s e, e) (unfold isAccepted in done-agrees p b k c s e h)
     go (inr e) = rw (e, refused-leaves p b c e) h
 
-pub memory-step : (p : Params) (b : Board) (m : Memory) (c : Call) (xs : List Part) → memoryAfter p m (partOf p b c ∷ xs) ≡ memoryAfter p (cond (isAccepted (replyOf p b c)) (remember p c m) m) xs
-unfolding memoryAfter partOf
-memory-step p b m c xs = ap (λ (r : Reply). memoryAfter p (cond (isAccepted r) (remember p c m) m) xs) (reply-is p b c)
-
-run-agrees : (p : Params) (b : Board) (m : Memory) (cs : List Call) → AllSingle cs → Agrees p b m → Agrees p (boardAfter p b cs) (memoryAfter p m (partsOf p b cs))
+-- a run of such calls, and any run
+run-agrees : (p : Params) (b : Board) (k : Known) (cs : List Call) → AllSingle cs → Agrees p b (k .memory) → Agrees p (boardAfter p b cs) ((knownAfter p b cs k) .memory)
 unfolding boardAfter
-run-agrees p b m [] s h = unfold partsOf memoryAfter in h
-run-agrees p b m (c ∷ cs) s h =
-    rw (parts-step p b c cs (s .0), memory-step p b m c (partsOf p (leaves p b c) cs)) (run-agrees p (leaves p b c) _ cs (s .1) (call-agrees p b m c (s .0) h))
+run-agrees p b k [] s h = unfold knownAfter in h
+run-agrees p b k (c ∷ cs) s h = rw (known-step p b c cs k (s .0)) (run-agrees p (leaves p b c) (knownBy p b c k) cs (s .1) (call-agrees p b k c (s .0) h))
 
--- and any run
-pub after-agrees : (p : Params) (b : Board) (m : Memory) (run : List Call) → Agrees p b m → Agrees p (boardAfter p b run) (memoryAfter p m (partsOf p b run))
-after-agrees p b m run h = rw (board-same p b run, parts-same p b run) (run-agrees p b m (singlesOf p b run) (all-single p b run) h)
+pub after-agrees : (p : Params) (b : Board) (k : Known) (run : List Call) → Agrees p b (k .memory) → Agrees p (boardAfter p b run) ((knownAfter p b run k) .memory)
+after-agrees p b k run h = rw (board-same p b run, known-same p b run k) (run-agrees p b k (singlesOf p b run) (all-single p b run) h)
 
 -- ---- the read
 

@@ -18,7 +18,7 @@ use Rattle.rules.specs.Numbers.{regionOf, sectorOf}
 use Rattle.rules.specs.Tables.{Board, stampAt}
 use Rattle.rules.specs.Regions.{View, looksAt, looksIn, sector, sectorIn, view}
 use Rattle.rules.specs.Traces.{erasesIn, programsIn}
-use Rattle.rules.specs.Requests.{Call, Request, format, queue, read, release, requestCluster, requestOf, requestRegion, write}
+use Rattle.rules.specs.Requests.{Call, Request, format, queue, read, release, requestCluster, requestOf, requestRegion, start, write}
 use Rattle.rules.specs.Write.{copies, nextStamp, planErases, planOf}
 use Rattle.rules.specs.Machine.{viewAfter, without}
 use Rattle.rules.specs.Replies.{OrderlyBoard, accessRows, badCount, isAccepted, replyOf, wrongData}
@@ -27,7 +27,7 @@ use Rattle.rules.proofs.Outcomes.{call-refused, read-accepted, release-accepted
 use Rattle.rules.proofs.Releases.{released-else, released-view}
 use Rattle.rules.proofs.TableFacts.{Lengths, lengths-in}
 use Rattle.rules.proofs.WritePromise.{write-promise}
-use Rattle.claims.specs.Runs.{Told, asked, boardAfter, isFormat, leaves, noFormat, partsOf, partsTo, requestsTo, toRegion, told, toldTo}
+use Rattle.claims.specs.Runs.{Told, asked, boardAfter, leaves, partsOf, partsTo, requestsTo, resets, toRegion, told, toldTo, undisturbed}
 use Rattle.claims.proofs.Kept.{clusterReply, orderly-kept, orderly-read, orderly-release, orderly-write, requestReply, writeReply}
 use Rattle.claims.proofs.Singles.{AllSingle, Single, refused-leaves}
 use Rattle.claims.proofs.Stamps.{other-stamp, released-stamp, written-stamp}
@@ -65,6 +65,7 @@ answerBy p st (write q) =
     (tells (writeReply p (st .stamp) q) 0 0 0 [])
 answerBy p st (release c) = tells (clusterReply p c) 0 0 0 []
 answerBy p st (queue l) = tells Accepted 0 0 0 []
+answerBy p st start = tells Accepted 0 0 0 []
 
 -- its next state
 stateBy : Params → State → Call → State
@@ -73,6 +74,7 @@ stateBy p st (read q) = st
 stateBy p st (release c) = cond (isAccepted (clusterReply p c)) (record { vw = without (st .vw) c; stamp = st .stamp }) st
 stateBy p st (write q) = cond (isAccepted (writeReply p (st .stamp) q)) (record { vw = viewAfter p (st .vw) (st .stamp + 1) q; stamp = st .stamp + 1 }) st
 stateBy p st (queue l) = st
+stateBy p st start = st
 
 -- over a list of requests
 pub stateRun : Params → State → List Call → State
@@ -196,6 +198,7 @@ asked-state p st (read q) = refl
 asked-state p st (write q) = refl
 asked-state p st (release c) = refl
 asked-state p st (queue l) = refl
+asked-state p st start = refl
 
 asked-answer : (p : Params) (st : State) (c : Call) → answerBy p st (asked c) ≡ answerBy p st c
 unfolding asked answerBy
@@ -204,6 +207,7 @@ asked-answer p st (read q) = rw (asked-reply p q)
 asked-answer p st (write q) = refl
 asked-answer p st (release c) = refl
 asked-answer p st (queue l) = refl
+asked-answer p st start = refl
 
 -- ---- a call more in the requests to a region, and in what is told of them
 
@@ -223,8 +227,8 @@ record Turn (p : Params) (b : Board) (r : ℕ) (c : Call) : Type 0 where
   own : toRegion p r c ≡ true → (stateOf p (leaves p b c) r ≡ stateBy p (stateOf p b r) c) × (toldBy (outcomeOf p b c) ≡ answerBy p (stateOf p b r) c)
   else : toRegion p r c ≡ false → stateOf p (leaves p b c) r ≡ stateOf p b r
 
-turn : (p : Params) (b : Board) (r : ℕ) → r < p .mu → OrderlyBoard p b → (c : Call) → Single c → isFormat c ≡ false → Turn p b r c
-unfolding toRegion isFormat
+turn : (p : Params) (b : Board) (r : ℕ) → r < p .mu → OrderlyBoard p b → (c : Call) → Single c → resets c ≡ false → Turn p b r c
+unfolding toRegion resets
 turn p b r low h format s n = absurd (false≢true (sym n))
 turn p b r low h (read q) s n =
     record { own = λ e. (rw (read-leaves p b q) (unfold stateBy in refl), read-told p b h r q (eqb-true _ _ e)); else = λ e. rw (read-leaves p b q) }
@@ -233,18 +237,19 @@ turn p b r low h (write q) s n =
 turn p b r low h (release c) s n =
     record { own = λ e. (release-own p b h r c, release-told p b h c (stateOf p b r)); else = λ e. release-else p b h r c (eqb-false _ _ e) }
 turn p b r low h (queue l) s n = absurd s
+turn p b r low h start s n = absurd (false≢true (sym n))
 
--- what a run of single calls without a format leaves a region and tells it
+-- what a run of single calls without a format or a start leaves a region and tells it
 pub record Gives (p : Params) (b : Board) (r : ℕ) (cs : List Call) : Type 0 where
   pub left : stateOf p (boardAfter p b cs) r ≡ stateRun p (stateOf p b r) (requestsTo p r (partsOf p b cs))
   pub answers : toldTo p r (partsOf p b cs) ≡ stateAnswers p (stateOf p b r) (requestsTo p r (partsOf p b cs))
 
-pub run-gives : (p : Params) (r : ℕ) → r < p .mu → (b : Board) (cs : List Call) → AllSingle cs → OrderlyBoard p b → noFormat cs ≡ true → Gives p b r cs
-unfolding boardAfter noFormat
+pub run-gives : (p : Params) (r : ℕ) → r < p .mu → (b : Board) (cs : List Call) → AllSingle cs → OrderlyBoard p b → undisturbed cs ≡ true → Gives p b r cs
+unfolding boardAfter undisturbed
 run-gives p r low b [] s h n = unfold boardAfter partsOf partsTo requestsTo toldTo stateRun stateAnswers in record { left = refl; answers = refl }
 run-gives p r low b (c ∷ cs) s h n =
-    go (so (toRegion p r c)) (turn p b r low h c (s .0) (not-true _ (and-left (not (isFormat c)) _ n)))
-    (run-gives p r low (leaves p b c) cs (s .1) (orderly-kept p b c (s .0) h) (and-right (not (isFormat c)) n))
+    go (so (toRegion p r c)) (turn p b r low h c (s .0) (not-true _ (and-left (not (resets c)) _ n)))
+    (run-gives p r low (leaves p b c) cs (s .1) (orderly-kept p b c (s .0) h) (and-right (not (resets c)) n))
   where
     requests : requestsTo p r (partsOf p b (c ∷ cs)) ≡ cond (toRegion p r c) (asked c ∷ requestsTo p r (partsOf p (leaves p b c) cs)) (requestsTo p r (partsOf p (leaves p b c) cs))
     requests = ap (requestsTo p r) (parts-step p b c cs (s .0)) ∙ unfold partOf requestsTo in one-more (λ (x : Part). asked (x .asks)) p r (partOf p b c) (partsOf p (leaves p b c) cs)

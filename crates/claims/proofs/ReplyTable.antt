@@ -11,7 +11,7 @@ use Rattle.rules.specs.declared.Params.{Params}
 use Rattle.rules.specs.declared.Reply.{Reply}
 use Rattle.rules.specs.declared.Reply.the-variants.{Accepted}
 use Rattle.rules.specs.Tables.{Board}
-use Rattle.rules.specs.Requests.{Call, format, queue, read, release, write}
+use Rattle.rules.specs.Requests.{Call, format, queue, read, release, start, write}
 use Rattle.rules.specs.Replies.{Row, accessRows, firstRow, lentRows, numberOf, orderRow, queueRows, replyOf, rowsOf, stampRow}
 use Rattle.claims.specs.Conditions.{ByTable, noneApplies}
 
@@ -113,6 +113,7 @@ rows-distinct p b (read q) = refl
 rows-distinct p b (write q) = refl
 rows-distinct p b (release c) = refl
 rows-distinct p b (queue l) = refl
+rows-distinct p b start = refl
 
 pub reply-by-table : (p : Params) (b : Board) (c : Call) → ByTable Accepted (rowsOf p b c) (replyOf p b c)
 unfolding replyOf

@@ -9,11 +9,11 @@ use Rattle.lists.proofs.Tests.{and-intro, and-left, and-right}
 use Rattle.rules.specs.declared.Params.{Params}
 use Rattle.rules.specs.declared.Reply.the-variants.{Accepted}
 use Rattle.rules.specs.Tables.{Board}
-use Rattle.rules.specs.Requests.{Call, Queue, Request, format, itemRequests, queue, read, release, write}
+use Rattle.rules.specs.Requests.{Call, Queue, Request, format, itemRequests, queue, read, release, start, write}
 use Rattle.rules.specs.Replies.{isAccepted, replyOf}
 use Rattle.rules.specs.Calls.{Outcome, Part, outcomeOf, queueWork, workOf, writeAll, writeWork}
 use Rattle.rules.proofs.Outcomes.{call-refused, queue-accepted, reply-cases}
-use Rattle.claims.specs.Runs.{boardAfter, isFormat, leaves, noFormat, partsOf}
+use Rattle.claims.specs.Runs.{boardAfter, leaves, partsOf, resets, undisturbed}
 use Rattle.claims.specs.Requests.{AsSingles, QueueAsSingles, writesOf}
 
 -- ---- a queue
@@ -46,6 +46,7 @@ Single (read q) = Unit {0}
 Single (write q) = Unit {0}
 Single (release c) = Unit {0}
 Single (queue l) = ⊥
+Single start = Unit {0}
 
 abbrev pub AllSingle : List Call → Type 0
 AllSingle [] = Unit {0}
@@ -57,6 +58,7 @@ singles p b format = format ∷ []
 singles p b (read q) = read q ∷ []
 singles p b (write q) = write q ∷ []
 singles p b (release c) = release c ∷ []
+singles p b start = start ∷ []
 singles p b (queue l) = cond (isAccepted (replyOf p b (queue l))) (writesOf p l) []
 
 unfoldable pub singlesOf : Params → Board → List Call → List Call
@@ -88,18 +90,20 @@ one-parts p b format = sym (append-nil _)
 one-parts p b (read q) = sym (append-nil _)
 one-parts p b (write q) = sym (append-nil _)
 one-parts p b (release c) = sym (append-nil _)
+one-parts p b start = sym (append-nil _)
 one-parts p b (queue l) = go (reply-cases (replyOf p b (queue l)))
   where
     go : (replyOf p b (queue l) ≡ Accepted) ⊎ (isAccepted (replyOf p b (queue l)) ≡ false) → (workOf p b (queue l)) .parts ≡ partsOf p b (cond (isAccepted (replyOf p b (queue l))) (writesOf p l) [])
     go (inl e) = (queue-as-singles p b l e) .parts ∙ rw e (unfold isAccepted in refl)
     go (inr e) = unfold workOf queueWork in rw e
 
-one-board : (p : Params) (b : Board) (c : Call) → leaves p b c ≡ boardAfter p b (singles p b c)
+pub one-board : (p : Params) (b : Board) (c : Call) → leaves p b c ≡ boardAfter p b (singles p b c)
 unfolding boardAfter singles leaves outcomeOf
 one-board p b format = refl
 one-board p b (read q) = refl
 one-board p b (write q) = refl
 one-board p b (release c) = refl
+one-board p b start = refl
 one-board p b (queue l) = go (reply-cases (replyOf p b (queue l)))
   where
     go : (replyOf p b (queue l) ≡ Accepted) ⊎ (isAccepted (replyOf p b (queue l)) ≡ false) → leaves p b (queue l) ≡ boardAfter p b (cond (isAccepted (replyOf p b (queue l))) (writesOf p l) [])
@@ -140,6 +144,7 @@ one-single p b format = (tt, tt)
 one-single p b (read q) = (tt, tt)
 one-single p b (write q) = (tt, tt)
 one-single p b (release c) = (tt, tt)
+one-single p b start = (tt, tt)
 one-single p b (queue l) = go (reply-cases (replyOf p b (queue l)))
   where
     go : (replyOf p b (queue l) ≡ Accepted) ⊎ (isAccepted (replyOf p b (queue l)) ≡ false) → AllSingle (cond (isAccepted (replyOf p b (queue l))) (writesOf p l) [])
@@ -151,32 +156,33 @@ unfolding singlesOf
 all-single p b [] = tt
 all-single p b (c ∷ cs) = single-append (singles p b c) (singlesOf p (leaves p b c) cs) (one-single p b c) (all-single p (leaves p b c) cs)
 
--- no format among them
-format-append : (xs ys : List Call) → noFormat xs ≡ true → noFormat ys ≡ true → noFormat (xs ++ ys) ≡ true
-unfolding noFormat
-format-append [] ys h k = k
-format-append (c ∷ xs) ys h k = and-intro (and-left (not (isFormat c)) _ h) (format-append xs ys (and-right (not (isFormat c)) h) k)
+-- no format and no start among them
+undisturbed-append : (xs ys : List Call) → undisturbed xs ≡ true → undisturbed ys ≡ true → undisturbed (xs ++ ys) ≡ true
+unfolding undisturbed
+undisturbed-append [] ys h k = k
+undisturbed-append (c ∷ xs) ys h k = and-intro (and-left (not (resets c)) _ h) (undisturbed-append xs ys (and-right (not (resets c)) h) k)
 
-writes-format : (qs : List Request) → noFormat (map write qs) ≡ true
-unfolding noFormat isFormat
-writes-format [] = refl
-writes-format (q ∷ qs) = writes-format qs
+writes-undisturbed : (qs : List Request) → undisturbed (map write qs) ≡ true
+unfolding undisturbed resets
+writes-undisturbed [] = refl
+writes-undisturbed (q ∷ qs) = writes-undisturbed qs
 
-one-format : (p : Params) (b : Board) (c : Call) → not (isFormat c) ≡ true → noFormat (singles p b c) ≡ true
-unfolding singles noFormat isFormat
-one-format p b format h = h
-one-format p b (read q) h = refl
-one-format p b (write q) h = refl
-one-format p b (release c) h = refl
-one-format p b (queue l) h = go (reply-cases (replyOf p b (queue l)))
+one-undisturbed : (p : Params) (b : Board) (c : Call) → not (resets c) ≡ true → undisturbed (singles p b c) ≡ true
+unfolding singles undisturbed resets
+one-undisturbed p b format h = h
+one-undisturbed p b (read q) h = refl
+one-undisturbed p b (write q) h = refl
+one-undisturbed p b (release c) h = refl
+one-undisturbed p b start h = h
+one-undisturbed p b (queue l) h = go (reply-cases (replyOf p b (queue l)))
   where
-    go : (replyOf p b (queue l) ≡ Accepted) ⊎ (isAccepted (replyOf p b (queue l)) ≡ false) → noFormat (cond (isAccepted (replyOf p b (queue l))) (writesOf p l) []) ≡ true
-    go (inl e) = rw e (unfold isAccepted writesOf in writes-format (itemRequests p (l .bytes) (l .items)))
+    go : (replyOf p b (queue l) ≡ Accepted) ⊎ (isAccepted (replyOf p b (queue l)) ≡ false) → undisturbed (cond (isAccepted (replyOf p b (queue l))) (writesOf p l) []) ≡ true
+    go (inl e) = rw e (unfold isAccepted writesOf in writes-undisturbed (itemRequests p (l .bytes) (l .items)))
     go (inr e) = rw e
 
-pub no-format : (p : Params) (b : Board) (run : List Call) → noFormat run ≡ true → noFormat (singlesOf p b run) ≡ true
+pub still-undisturbed : (p : Params) (b : Board) (run : List Call) → undisturbed run ≡ true → undisturbed (singlesOf p b run) ≡ true
 unfolding singlesOf
-no-format p b [] h = h
-no-format p b (c ∷ cs) h =
-    let k : not (isFormat c) && noFormat cs ≡ true = unfold noFormat in h in
-    format-append (singles p b c) (singlesOf p (leaves p b c) cs) (one-format p b c (and-left (not (isFormat c)) _ k)) (no-format p (leaves p b c) cs (and-right (not (isFormat c)) k))
+still-undisturbed p b [] h = h
+still-undisturbed p b (c ∷ cs) h =
+    let k : not (resets c) && undisturbed cs ≡ true = unfold undisturbed in h in
+    undisturbed-append (singles p b c) (singlesOf p (leaves p b c) cs) (one-undisturbed p b c (and-left (not (resets c)) _ k)) (still-undisturbed p (leaves p b c) cs (and-right (not (resets c)) k))

@@ -11,10 +11,11 @@ use Rattle.rules.specs.declared.Answer.{Answer}
 use Rattle.rules.specs.Tables.{Board}
 use Rattle.rules.specs.Regions.{looksAt}
 use Rattle.rules.specs.Traces.{Op}
-use Rattle.rules.specs.Requests.{Call, Request, format, queue, read, release, requestCluster, write}
+use Rattle.rules.specs.Requests.{Call, Request, format, queue, read, release, requestCluster, start, write}
 use Rattle.rules.specs.Format.{formatOps, formatted}
 use Rattle.rules.specs.Write.{writeOps, written}
 use Rattle.rules.specs.Release.{released}
+use Rattle.rules.specs.Start.{startOps, started}
 use Rattle.rules.specs.Replies.{isAccepted, replyOf}
 use Rattle.rules.specs.Calls.{Part, Work, does, opsOf, outcomeOf, readBytes, refuses, single, workOf, writeWork}
 use Rattle.rules.proofs.Outcomes.{reply-cases, work-accepted, work-refused}
@@ -30,6 +31,7 @@ doneOps p b (read q) = []
 doneOps p b (write q) = writeOps p b q
 doneOps p b (release c) = []
 doneOps p b (queue l) = []
+doneOps p b start = startOps p (b .chip)
 
 unfoldable pub doneBytes : Params → Board → Call → List ℕ
 doneBytes p b format = []
@@ -37,6 +39,7 @@ doneBytes p b (read q) = readBytes p b q
 doneBytes p b (write q) = q .bytes
 doneBytes p b (release c) = []
 doneBytes p b (queue l) = []
+doneBytes p b start = []
 
 unfoldable pub doneBoard : Params → Board → Call → Board
 doneBoard p b format = formatted p b
@@ -44,6 +47,7 @@ doneBoard p b (read q) = b
 doneBoard p b (write q) = written p b q
 doneBoard p b (release c) = released p b c
 doneBoard p b (queue l) = b
+doneBoard p b start = started p b
 
 doneLooks : Params → Board → Call → ℕ
 doneLooks p b format = 0
@@ -51,6 +55,7 @@ doneLooks p b (read q) = looksAt p b (requestCluster p q)
 doneLooks p b (write q) = looksAt p b (requestCluster p q)
 doneLooks p b (release c) = 0
 doneLooks p b (queue l) = 0
+doneLooks p b start = 0
 
 is-done : (p : Params) (b : Board) (c : Call) → Single c → workOf p b c ≡ does p b c (doneOps p b c) (doneLooks p b c) (doneBytes p b c) (doneBoard p b c)
 unfolding workOf writeWork doneOps doneLooks doneBytes doneBoard
@@ -59,6 +64,7 @@ is-done p b (read q) s = refl
 is-done p b (write q) s = refl
 is-done p b (release c) s = refl
 is-done p b (queue l) s = absurd s
+is-done p b start s = refl
 
 -- its one part
 unfoldable pub opsBy : Params → Board → Call → List Op
@@ -127,3 +133,7 @@ write-leaves p b q e = accepted-leaves p b (write q) tt e
 pub release-leaves : (p : Params) (b : Board) (c : ℕ) → replyOf p b (release c) ≡ Accepted → leaves p b (release c) ≡ released p b c
 unfolding doneBoard
 release-leaves p b c e = accepted-leaves p b (release c) tt e
+
+pub start-leaves : (p : Params) (b : Board) → replyOf p b start ≡ Accepted → leaves p b start ≡ started p b
+unfolding doneBoard
+start-leaves p b e = accepted-leaves p b start tt e

@@ -13,17 +13,20 @@ use Rattle.rules.specs.declared.Params.{Params}
 use Rattle.rules.specs.declared.Answer.{Answer}
 use Rattle.rules.specs.declared.Reply.the-variants.{Accepted}
 use Rattle.rules.specs.Parameters.{frames, pages}
-use Rattle.rules.specs.Numbers.{regionOf}
-use Rattle.rules.specs.Pages.{held}
+use Rattle.rules.specs.Numbers.{clusterOf, regionOf, sectorOf}
+use Rattle.rules.specs.Pages.{block, held}
 use Rattle.rules.specs.Tables.{Board, none, ctAt, btEntry, bstAt, markIndex, wordAt, stampAt}
 use Rattle.rules.specs.Regions.{looksAt, view}
 use Rattle.rules.specs.Traces.{replayChip, replayWear, clean}
-use Rattle.rules.specs.Requests.{Request, requestCluster, requestRegion, Queue, Call, format, read, write, release, queue, lent, lentAnswers}
+use Rattle.rules.specs.Requests.{Request, requestCluster, requestRegion, Queue, Call, format, read, write, release, queue, start, lent, lentAnswers}
 use Rattle.rules.specs.Format.{bad, goodBlocks}
+use Rattle.rules.specs.Start.{leftOver}
 use Rattle.rules.specs.Write.{Plan, continues, opens, reclaims, planOf, planErases, planFrame, planBlock, copies}
 use Rattle.rules.specs.Replies.{OrderlyBoard, Row, replyOf, rowsOf}
 use Rattle.rules.specs.Calls.{Outcome, outcomeOf}
-use Rattle.claims.specs.Runs.{AllFit, Memory, boardAfter, cleared, given, leaves, memoryAfter, noFormat, noPageTwice, partsOf, requestsTo, sectorAt, toldTo, traceOf}
+use Rattle.starts.specs.Again.{SameButWear}
+use Rattle.starts.specs.Latest.{latest}
+use Rattle.claims.specs.Runs.{AllFit, Known, Memory, boardAfter, cleared, given, knownAfter, leaves, noPageTwice, partsOf, requestsTo, sectorAt, toldTo, traceOf, undisturbed}
 
 -- ---- condition 1: every call, on every content
 
@@ -120,6 +123,16 @@ pub record Serves (l : Queue) (o : Outcome) : Type 0 where
   pub long : length (o .answers) ≡ length (l .answers)
   pub past : drop (length (l .items)) (o .answers) ≡ drop (length (l .items)) (l .answers)
 
+-- T-07, an accepted start, on any chip: it programs nothing and "reports its erases", one for each block that is left over; every other block keeps its bytes. Made again it
+-- changes nothing. "any wear serves": of what is lent the chip alone decides what it leaves, but for the wear, which counts on
+pub record Starts (p : Params) (b : Board) (o : Outcome) : Type 0 where
+  pub programs : o .answer .programs ≡ 0
+  pub erases : o .answer .erases ≡ countBelow (p .N) (leftOver p (b .chip))
+  pub looks : o .answer .looks ≡ 0
+  pub others : (n : ℕ) → leftOver p (b .chip) n ≡ false → block p (o .board .chip) n ≡ block p (b .chip) n
+  pub again : outcomeOf p (o .board) start ≡ record { answer = record { reply = Accepted; programs = 0; erases = 0; looks = 0 }; bytes = []; answers = []; board = o .board }
+  pub wear : (b″ : Board) → b″ .chip ≡ b .chip → replyOf p b″ start ≡ Accepted → SameButWear (o .board) ((outcomeOf p b″ start) .board)
+
 -- a call on any content: its reply is the table's; refused it changes nothing; "Every accepted call on an orderly state leaves one", and so does every accepted
 -- call but a queue, whose items are refused one by one, on any; and what each call does
 pub record OfCall (p : Params) (b : Board) (c : Call) (o : Outcome) : Type 0 where
@@ -132,20 +145,34 @@ pub record OfCall (p : Params) (b : Board) (c : Call) (o : Outcome) : Type 0 whe
   pub writes : (q : Request) → c ≡ write q → o .answer .reply ≡ Accepted → Writes p b q (requestRegion p q) (planOf p (view p b (requestRegion p q))) o
   pub frees : (n : ℕ) → c ≡ release n → o .answer .reply ≡ Accepted → Frees p b n o
   pub serves : (l : Queue) → c ≡ queue l → Serves l o
+  pub starts : c ≡ start → o .answer .reply ≡ Accepted → Starts p b o
 
 abbrev pub Condition1 : Type 0
 Condition1 = (p : Params) (b : Board) (c : Call) → OfCall p b c (outcomeOf p b c)
 
 -- ---- condition 2: every run "from an accepted format on", over any content
 
+-- what an LBA was last: "A released cluster with whole frames left comes back with the latest, which is also its old content"
+unfoldable pub old : Params → Board → Known → Memory
+old p b k a = cond (k .released (clusterOf p a)) (latest p (b .chip) (clusterOf p a) (sectorOf p a)) (k .memory a)
+
+-- T-07, a start on the board that a run has left: it is accepted and erases nothing, no chip byte changes, and "Every accepted write then reads back"
+pub record Restarts (p : Params) (b : Board) (k : Known) (o : Outcome) : Type 0 where
+  pub accepted : o .answer .reply ≡ Accepted
+  pub counts : Idle (o .answer)
+  pub chip : o .board .chip ≡ b .chip
+  pub reads : (a : ℕ) → a < p .C * p .alpha → sectorAt p (o .board) a ≡ old p b k a
+
 -- a run from board b on, which leaves board b′
 pub record OfRun (p : Params) (b : Board) (run : List Call) (b′ : Board) : Type 0 where
   -- the state stays orderly, so that by the table a call is refused for its request alone
   pub order : InOrder p b′
   -- "an accepted read returns for each sector the bytes last accepted for it since the last accepted format, and all ones if there are none",
-  -- with T-03 "since the format or the last release", whatever the memory had before the first format
-  pub reads : (m : Memory) (q : Request) → replyOf p b′ (read q) ≡ Accepted
-      → (outcomeOf p b′ (read q)) .bytes ≡ joinBelow (q .count) (λ i. memoryAfter p m (partsOf p b run) (q .lba + i))
+  -- with T-03 "since the format or the last release", and with T-07 what a start found; whatever the host knew before the first format
+  pub reads : (k : Known) (q : Request) → replyOf p b′ (read q) ≡ Accepted
+      → (outcomeOf p b′ (read q)) .bytes ≡ joinBelow (q .count) (λ i. (knownAfter p b run k) .memory (q .lba + i))
+  -- a start may come at any time
+  pub starts : (k : Known) → Restarts p b′ (knownAfter p b run k) (outcomeOf p b′ start)
   -- the chip and the wear are what the run's operations make of them
   pub chip : b′ .chip ≡ replayChip p (b .chip) (traceOf p b run)
   pub wear : b′ .wear ≡ replayWear (b .wear) (traceOf p b run)
@@ -172,13 +199,13 @@ pub record SameRegion (p : Params) (r : ℕ) (b b′ : Board) (run run′ : List
       → wordAt ((boardAfter p b run) .marks) (markIndex p r v w) ≡ wordAt ((boardAfter p b′ run′) .marks) (markIndex p r v w)
   pub stamp : stampAt ((boardAfter p b run) .stamps) r ≡ stampAt ((boardAfter p b′ run′) .stamps) r
 
--- for "two boards .. each formatted with reply 0, not formatted again": "If the requests to one region are the same and in the same order", up to what
+-- for "two boards .. each formatted with reply 0, not formatted again", and not started: "If the requests to one region are the same and in the same order", up to what
 -- the bytes lent to a read hold; T-01: "over
 -- the items of calls that answer 0; an item is its LBA, its count and its bytes, or that they do not lie there"
 abbrev pub Condition3 : Type 0
 Condition3 =
     (p : Params) (b b′ : Board) → replyOf p b format ≡ Accepted → replyOf p b′ format ≡ Accepted
-    → (cs cs′ : List Call) → noFormat cs ≡ true → noFormat cs′ ≡ true → (r : ℕ) → r < p .mu
+    → (cs cs′ : List Call) → undisturbed cs ≡ true → undisturbed cs′ ≡ true → (r : ℕ) → r < p .mu
     → requestsTo p r (partsOf p (leaves p b format) cs) ≡ requestsTo p r (partsOf p (leaves p b′ format) cs′)
     → SameRegion p r b b′ (format ∷ cs) (format ∷ cs′)
 

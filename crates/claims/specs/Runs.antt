@@ -1,5 +1,5 @@
 -- Runs: lists of calls with the same parameters, each on the board that the one before left; what their requests get, what they do to the chip, and
--- what a memory would hold that knows only the requests and their replies.
+-- what a host knows that has only its requests, their replies and what a start finds.
 -- Assumes nothing.
 use Prim.Native.Nat.{ℕ, _+_, _-_, _%_, _<_}
 use mathlib.Core.Path.{_≡_}
@@ -7,6 +7,7 @@ use mathlib.Core.Bool.{Bool, true, false, not, _&&_, _||_, cond}
 use mathlib.Core.List.{List, [], _∷_, _++_, map}
 use lib.ListN.{length, drop, replicate}
 use lib.Dec.{leb, ltb, eqb}
+use Rattle.lists.specs.Below.{updated}
 use Rattle.lists.specs.Parts.{part}
 use Rattle.rules.specs.declared.Params.{Params}
 use Rattle.rules.specs.declared.Answer.{Answer}
@@ -15,7 +16,7 @@ use Rattle.rules.specs.Numbers.{clusterOf, regionOf, sectorOf}
 use Rattle.rules.specs.Tables.{Board}
 use Rattle.rules.specs.Regions.{sector}
 use Rattle.rules.specs.Traces.{Op, program, erase}
-use Rattle.rules.specs.Requests.{Request, requestOf, requestRegion, Call, format, read, write, release, queue}
+use Rattle.rules.specs.Requests.{Request, requestOf, requestCluster, requestRegion, Call, format, read, write, release, queue, start}
 use Rattle.rules.specs.Replies.{isAccepted}
 use Rattle.rules.specs.Calls.{Part, opsOf, outcomeOf, workOf}
 use Rattle.rules.specs.Words.{SpareListed}
@@ -30,17 +31,18 @@ unfoldable pub boardAfter : Params → Board → List Call → Board
 boardAfter p b [] = b
 boardAfter p b (c ∷ cs) = boardAfter p (leaves p b c) cs
 
--- "not formatted again"
-unfoldable pub isFormat : Call → Bool
-isFormat format = true
-isFormat (read q) = false
-isFormat (write q) = false
-isFormat (release c) = false
-isFormat (queue l) = false
+-- "not formatted again"; T-07: condition 3 "ends at a board's first cut or start"
+unfoldable pub resets : Call → Bool
+resets format = true
+resets (read q) = false
+resets (write q) = false
+resets (release c) = false
+resets (queue l) = false
+resets start = true
 
-unfoldable pub noFormat : List Call → Bool
-noFormat [] = true
-noFormat (c ∷ cs) = not (isFormat c) && noFormat cs
+unfoldable pub undisturbed : List Call → Bool
+undisturbed [] = true
+undisturbed (c ∷ cs) = not (resets c) && undisturbed cs
 
 -- ---- what its requests get
 
@@ -56,6 +58,7 @@ toRegion p r (read q) = eqb (requestRegion p q) r
 toRegion p r (write q) = eqb (requestRegion p q) r
 toRegion p r (release c) = eqb (regionOf p c) r
 toRegion p r (queue l) = false
+toRegion p r start = false
 
 unfoldable pub partsTo : Params → ℕ → List Part → List Part
 partsTo p r [] = []
@@ -68,6 +71,7 @@ asked (read q) = read (requestOf (q .lba) (q .count) (replicate (length (q .byte
 asked (write q) = write q
 asked (release c) = release c
 asked (queue l) = queue l
+asked start = start
 
 -- what the caller is told: the reply with the three counts, and where it is 0 the data
 pub record Told : Type 0 where
@@ -110,9 +114,9 @@ AllFit p (o ∷ os) = Fits p o × AllFit p os
 unfoldable pub noPageTwice : List Op → Type 0
 noPageTwice ops = (n q : ℕ) (x y : List ℕ) (before between after : List Op) → ops ≡ before ++ (program n q x ∷ (between ++ (program n q y ∷ after))) → erasesBlock n between ≡ true
 
--- ---- what the host was told
+-- ---- what the host knows
 
--- a memory: the bytes of each LBA
+-- the bytes of each LBA
 abbrev pub Memory : Type 0
 Memory = ℕ → List ℕ
 
@@ -127,19 +131,32 @@ given p q m a = cond (leb (q .lba) a && ltb a (q .lba + q .count)) (part (p .s) 
 unfoldable pub cleared : Params → ℕ → Memory → Memory
 cleared p c m a = cond (eqb (clusterOf p a) c) (blank p a) (m a)
 
--- what an accepted request makes of it; a queue does so by its items
-unfoldable pub remember : Params → Call → Memory → Memory
-remember p format m = blank p
-remember p (read q) m = m
-remember p (write q) m = given p q m
-remember p (release c) m = cleared p c m
-remember p (queue l) m = m
-
--- "the bytes last accepted for it since the last accepted format", with T-03 "since the format or the last release", by the requests and their replies alone
-unfoldable pub memoryAfter : Params → Memory → List Part → Memory
-memoryAfter p m [] = m
-memoryAfter p m (x ∷ xs) = memoryAfter p (cond (isAccepted (x .answer .reply)) (remember p (x .asks) m) m) xs
-
 -- what an LBA reads as
 unfoldable pub sectorAt : Params → Board → Memory
 sectorAt p b a = sector p b (clusterOf p a) (sectorOf p a)
+
+-- "the bytes last accepted for it since the last accepted format", with T-03 "since the format or the last release"; and the clusters released and not written since
+pub record Known : Type 0 where
+  pub memory : Memory
+  pub released : ℕ → Bool
+
+abbrev pub known : Memory → (ℕ → Bool) → Known
+known m f = record { memory = m; released = f }
+
+-- what an accepted request makes of it, in a call that leaves board b′; a queue does so by its items. T-07: "For condition 2, what the start finds counts as accepted at
+-- it"
+unfoldable pub learns : Params → Board → Call → Known → Known
+learns p b′ format k = known (blank p) (λ c. false)
+learns p b′ (read q) k = k
+learns p b′ (write q) k = known (given p q (k .memory)) (updated (k .released) (requestCluster p q) false)
+learns p b′ (release c) k = known (cleared p c (k .memory)) (updated (k .released) c true)
+learns p b′ (queue l) k = k
+learns p b′ start k = known (sectorAt p b′) (λ c. false)
+
+unfoldable pub learnsAll : Params → Board → List Part → Known → Known
+learnsAll p b′ [] k = k
+learnsAll p b′ (x ∷ xs) k = learnsAll p b′ xs (cond (isAccepted (x .answer .reply)) (learns p b′ (x .asks) k) k)
+
+unfoldable pub knownAfter : Params → Board → List Call → Known → Known
+knownAfter p b [] k = k
+knownAfter p b (c ∷ cs) k = knownAfter p (leaves p b c) cs (learnsAll p (leaves p b c) ((workOf p b c) .parts) k)

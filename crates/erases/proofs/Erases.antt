@@ -13,20 +13,22 @@ use Rattle.rules.specs.declared.Params.{Params}
 use Rattle.rules.specs.declared.Reply.the-variants.{Accepted}
 use Rattle.rules.specs.Tables.{Board}
 use Rattle.rules.specs.Regions.{view}
-use Rattle.rules.specs.Requests.{Call, Request, format, queue, read, release, requestRegion, write}
-use Rattle.rules.specs.Replies.{OrderlyBoard, isAccepted, replyOf}
+use Rattle.rules.specs.Requests.{Call, Request, format, queue, read, release, requestRegion, start, write}
+use Rattle.rules.specs.Replies.{isAccepted, replyOf}
 use Rattle.rules.specs.Calls.{Part, outcomeOf}
 use Rattle.rules.proofs.Admitted.{format-admitted}
 use Rattle.rules.proofs.Outcomes.{reply-cases, reply-is}
 use Rattle.rules.proofs.Sizes.{sizes}
 use Rattle.rules.proofs.WritePromise.{write-promise}
-use Rattle.claims.specs.Runs.{leaves, partsOf, partsTo, toRegion}
+use Rattle.starts.specs.Stands.{Stands}
+use Rattle.claims.specs.Runs.{Known, leaves, partsOf, partsTo, toRegion}
 use Rattle.claims.proofs.Condition1.{condition-1}
-use Rattle.claims.proofs.Kept.{accepted-orderly, orderly-kept}
+use Rattle.claims.proofs.Known.{knownBy}
 use Rattle.claims.proofs.Singles.{AllSingle, Single, all-single, parts-same, refused-leaves, singlesOf}
-use Rattle.claims.proofs.Steps.{format-leaves, partOf, parts-step, read-leaves, release-leaves, write-leaves}
+use Rattle.claims.proofs.Standing.{Standing, call-standing, first-standing}
+use Rattle.claims.proofs.Steps.{format-leaves, partOf, parts-step, read-leaves, release-leaves, start-leaves, write-leaves}
 use Rattle.erases.specs.Erases.{ErasesPerRegion, acceptedWrites, erasesBy, isWrite, spareShare}
-use Rattle.erases.proofs.Room.{format-room, release-room, room, write-turn}
+use Rattle.erases.proofs.Room.{format-room, release-room, room, start-room, write-turn}
 use Rattle.erases.proofs.Rows.{Spaced, Turn, few-erases, less-room}
 use Rattle.erases.proofs.Shares.{share-some}
 
@@ -109,24 +111,32 @@ module _ (p : Params) (r : ℕ) (low : r < p .mu) (b : Board) (es : List ℕ) wh
           (aside (write q) (rw (write-leaves p b q e, (write-promise p b q e) .isolated r low (λ i. ne (sym i))) (omega arith)) s)
       go (no ne) (inr e) = rw (ne-eqb (requestRegion p q) r ne) (refused-aside (write q) e s)
 
-  one-call : (c : Call) → Single c → After c → Before (Then c)
+  start-call : Stands p b → After start → Before es
+  start-call st s = go (reply-cases (replyOf p b start))
+    where
+      go : (replyOf p b start ≡ Accepted) ⊎ (isAccepted (replyOf p b start) ≡ false) → Before es
+      go (inl e) = aside start (rw (start-leaves p b e) (omega (arith, start-room p b r low st))) s
+      go (inr e) = refused-aside start e s
+
+  one-call : (c : Call) → Single c → Stands p b → After c → Before (Then c)
   unfolding isWrite
-  one-call format one s = format-call s
-  one-call (read q) one s = aside (read q) (rw (read-leaves p b q) (omega arith)) s
-  one-call (write q) one s = write-call q s
-  one-call (release c) one s = release-call c s
-  one-call (queue l) one s = absurd one
+  one-call format one st s = format-call s
+  one-call (read q) one st s = aside (read q) (rw (read-leaves p b q) (omega arith)) s
+  one-call (write q) one st s = write-call q s
+  one-call (release c) one st s = release-call c s
+  one-call start one st s = start-call st s
+  one-call (queue l) one st s = absurd one
 
 -- ---- a run
 
-run-spaced : (p : Params) (r : ℕ) → r < p .mu → (b : Board) (cs : List Call) → AllSingle cs → OrderlyBoard p b
+run-spaced : (p : Params) (r : ℕ) → r < p .mu → (b : Board) (k : Known) (cs : List Call) → AllSingle cs → Standing p b k
     → Spaced (spareShare p r) (room p (view p b r)) (erasesBy p r (partsOf p b cs))
 unfolding partOf
-run-spaced p r low b [] s h = unfold erasesBy partsOf partsTo acceptedWrites in tt
-run-spaced p r low b (c ∷ cs) s h =
+run-spaced p r low b k [] s h = unfold erasesBy partsOf partsTo acceptedWrites in tt
+run-spaced p r low b k (c ∷ cs) s h =
     let es = erasesBy p r (partsOf p (leaves p b c) cs) in
     rw (parts-step p b c cs (s .0), one-more p r (partOf p b c) (partsOf p (leaves p b c) cs))
-    (one-call p r low b es c (s .0) (run-spaced p r low (leaves p b c) cs (s .1) (orderly-kept p b c (s .0) h)))
+    (one-call p r low b es c (s .0) (h .stands) (run-spaced p r low (leaves p b c) (knownBy p b c k) cs (s .1) (call-standing p b k c (s .0) h)))
 
 -- the first format is no write
 past-format : (p : Params) (b : Board) (cs : List Call) (r : ℕ) → erasesBy p r (partsOf p b (format ∷ cs)) ≡ erasesBy p r (partsOf p (leaves p b format) cs)
@@ -136,4 +146,7 @@ pub erases-per-region : ErasesPerRegion
 erases-per-region p b e cs r low earlier row later is =
     few-erases (spareShare p r) (room p (view p (leaves p b format) r)) earlier row later (share-some p (sizes p ((format-admitted p b e) .fine)) r)
     (rw (← is, past-format p b cs r, parts-same p (leaves p b format) cs)
-    (run-spaced p r low (leaves p b format) (singlesOf p (leaves p b format) cs) (all-single p (leaves p b format) cs) (accepted-orderly p b format tt e)))
+    (run-spaced p r low (leaves p b format) (knownBy p b format k) (singlesOf p (leaves p b format) cs) (all-single p (leaves p b format) cs) (first-standing p b k e)))
+  where
+    k : Known
+    k = record { memory = λ a. []; released = λ c. false }

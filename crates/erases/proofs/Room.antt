@@ -13,7 +13,7 @@ use lib.ListN.{length}
 use borrow.Author.Tests.{ltb-false}
 use Rattle.lists.specs.Parts.{allAre}
 use Rattle.lists.proofs.Joins.{allAre-part}
-use Rattle.lists.proofs.Sums.{sum-but, sum-le, sum-zero, sumBelow}
+use Rattle.lists.proofs.Sums.{sum-but, sum-le, sum-same, sum-zero, sumBelow}
 use Rattle.lists.proofs.Tests.{count-is, so}
 use Rattle.rules.specs.declared.Params.{Params}
 use Rattle.rules.specs.declared.Reply.the-variants.{Accepted}
@@ -24,6 +24,7 @@ use Rattle.rules.specs.Regions.{View, assigned, validFrames, view}
 use Rattle.rules.specs.Requests.{Request, format, requestCluster, requestRegion, write}
 use Rattle.rules.specs.Format.{formatted}
 use Rattle.rules.specs.Release.{released}
+use Rattle.rules.specs.Start.{started}
 use Rattle.rules.specs.Write.{Plan, hasRoom, lowestUnassigned, newFrame, planErases, planFrame, planOf, planVBlock, victim, written, nextStamp}
 use Rattle.rules.specs.Machine.{viewAfter, withFrame, withRoom, without}
 use Rattle.rules.specs.Replies.{replyOf}
@@ -41,6 +42,8 @@ use Rattle.rules.proofs.Sizes.{Sizes}
 use Rattle.rules.proofs.Words.{plan-exactly}
 use Rattle.rules.proofs.WritePromise.{makes, write-promise}
 use Rattle.rules.proofs.Writes.{own-sheet}
+use Rattle.starts.specs.Stands.{Stands}
+use Rattle.starts.proofs.Keeps.{start-keeps}
 use Rattle.erases.specs.Erases.{clustersIn, spareShare}
 use Rattle.erases.proofs.Copied.{copied-few}
 use Rattle.erases.proofs.Rows.{Turn}
@@ -172,3 +175,8 @@ format-room p b r e =
 pub release-room : (p : Params) (b : Board) (c r : ℕ) → room p (view p (released p b c) r) ≡ room p (view p b r)
 unfolding room without
 release-room p b c r = rw (released-view p b c r)
+
+-- a start on a board that stands finds every block as it is
+pub start-room : (p : Params) (b : Board) (r : ℕ) → r < p .mu → Stands p b → room p (view p (started p b) r) ≡ room p (view p b r)
+unfolding room
+start-room p b r low st = sum-same (p .gamma) _ _ (λ v h. ap (λ (blk : List ℕ). frames p - filled p blk) ((start-keeps p b st) .bodies r low v))

@@ -12,7 +12,7 @@ use Rattle.rules.specs.declared.Reply.the-variants.{Accepted}
 use Rattle.rules.specs.Parameters.{frames}
 use Rattle.rules.specs.Numbers.{regionOf}
 use Rattle.rules.specs.Tables.{Board}
-use Rattle.rules.specs.Requests.{Call, format, read, write, release, queue}
+use Rattle.rules.specs.Requests.{Call, format, read, write, release, queue, start}
 use Rattle.rules.specs.Replies.{isAccepted, replyOf}
 use Rattle.rules.specs.Calls.{Part}
 use Rattle.claims.specs.Runs.{partsOf, partsTo}
@@ -40,6 +40,7 @@ isWrite (read q) = false
 isWrite (write q) = true
 isWrite (release c) = false
 isWrite (queue l) = false
+isWrite start = false
 
 -- "accepted writes", in order: reads, releases and refused writes may stand between them
 unfoldable pub acceptedWrites : List Part → List Part
@@ -57,7 +58,7 @@ total (n ∷ ns) = n + total ns
 -- ---- the figure
 
 -- "From a format on, without cuts, any k accepted writes to the region in a row bring at most k/G erases, rounded up": any writes that stand in a row in the
--- list of them, whatever else is called before, between and after them, other formats too
+-- list of them, whatever else is called before, between and after them, other formats and starts too
 abbrev pub ErasesPerRegion : Type 0
 ErasesPerRegion =
     (p : Params) (b : Board) → replyOf p b format ≡ Accepted → (cs : List Call) (r : ℕ) → r < p .mu

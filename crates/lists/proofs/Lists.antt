@@ -5,7 +5,7 @@ use mathlib.Core.List.{List, [], _++_, _∷_}
 use Prim.Native.Nat.{_-_, _<_, suc, zero, ℕ}
 use native.Mathlib.Decide.{ℕ-discrete}
 use native.Mathlib.Omega.{arith}
-use lib.ListN.{List·getD-append, getD, getD-replicate, length, length-append, length-replicate, length-set, replicate, set}
+use lib.ListN.{List·getD-append, getD, getD-replicate, length, length-append, length-replicate, length-set, replicate, set, take}
 use lib.Seq.{ext-getD, getD-at, getD-set-other, getD-set-same}
 use Rattle.lists.specs.Below.{updated, listBelow}
 use Rattle.lists.proofs.Joins.{updated-other, updated-same}

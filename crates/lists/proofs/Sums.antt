@@ -19,7 +19,7 @@ unfolding sumBelow
 sum-le zero f g h = omega arith
 sum-le (suc n) f g h = omega (arith, sum-le n f g (λ i k. h i (omega arith)), h n (omega arith))
 
-sum-same : (n : ℕ) (f g : ℕ → ℕ) → ((i : ℕ) → i < n → f i ≡ g i) → sumBelow n f ≡ sumBelow n g
+pub sum-same : (n : ℕ) (f g : ℕ → ℕ) → ((i : ℕ) → i < n → f i ≡ g i) → sumBelow n f ≡ sumBelow n g
 unfolding sumBelow
 sum-same zero f g h = omega arith
 sum-same (suc n) f g h = omega (arith, sum-same n f g (λ i k. h i (omega arith)), h n (omega arith))

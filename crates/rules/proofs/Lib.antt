@@ -32,7 +32,7 @@ pub mod FormatPromise
 pub mod Releases
 pub mod Totals
 pub mod Outcomes
-pub mod FormatCounts
+pub mod Counts
 pub mod ValidFrames
 pub mod ItemData
 pub mod Words

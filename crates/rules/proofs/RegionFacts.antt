@@ -181,7 +181,7 @@ last-full p z r v blk h = go ((block-in p r v blk h) .1) (ℕ-discrete (filled p
 pub whole-good : (p : Params) (r v : ℕ) (blk : List ℕ) → blockRule p r v blk ≡ true → (f : ℕ) → f < frames p → whole p (frame p blk f) ≡ true → GoodFrame p r v (frame p blk f)
 whole-good p r v blk h f low w = let u = (block-in p r v blk h) .1 in u .front f (whole-front p r v (filled p blk) blk u f low w) low
 
-block-out : (p : Params) (r v : ℕ) (blk : List ℕ) → (0 < filled p blk) × UpTo p r v (filled p blk) blk → blockRule p r v blk ≡ true
+pub block-out : (p : Params) (r v : ℕ) (blk : List ℕ) → (0 < filled p blk) × UpTo p r v (filled p blk) blk → blockRule p r v blk ≡ true
 unfolding blockRule
 block-out p r v blk k = and-intro (lt-ltb _ _ (k .0)) (up-to-back p r v _ blk (k .1))
 

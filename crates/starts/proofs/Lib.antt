@@ -11,6 +11,7 @@ pub mod UsedGood
 pub mod Shows
 pub mod ShowsStarts
 pub mod Again
+pub mod Accepted
 pub mod Refound
 pub mod Steady
 pub mod Returns

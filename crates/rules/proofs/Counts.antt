@@ -1,15 +1,17 @@
--- A format reports no program, and one erase for each block not bad.
+-- A format and a start report no program, and one erase for each block that is not bad, or that is left over.
 -- Assumes nothing.
 use mathlib.Core.Path.{_≡_, ap, _∙_}
 use Prim.Native.Nat.{ℕ}
 use mathlib.Core.Bool.{not}
 use mathlib.Core.List.{List}
+use Rattle.lists.specs.Below.{countBelow}
 use Rattle.rules.specs.declared.Params.{Params}
 use Rattle.rules.specs.declared.Reply.the-variants.{Accepted}
 use Rattle.rules.specs.Tables.{Board}
 use Rattle.rules.specs.Traces.{eraseWhere, erasesIn, programsIn}
 use Rattle.rules.specs.Requests.{format}
 use Rattle.rules.specs.Format.{bad, formatOps, goodBlocks}
+use Rattle.rules.specs.Start.{leftOver, startOps}
 use Rattle.rules.specs.Replies.{replyOf}
 use Rattle.rules.specs.Calls.{Outcome, answerOf, outcomeOf}
 use Rattle.rules.proofs.Outcomes.{format-accepted}
@@ -28,3 +30,7 @@ unfolding answerOf
 format-counts p b e =
     let k = format-erases p (b .chip) in
     ap (λ (o : Outcome). o .answer) (format-accepted p b e) ∙ (λ i. record { reply = Accepted; programs = k .0 i; erases = k .1 i; looks = 0 })
+
+pub start-counts : (p : Params) (chip : List ℕ) → (programsIn (startOps p chip) ≡ 0) × (erasesIn (startOps p chip) ≡ countBelow (p .N) (leftOver p chip))
+unfolding startOps eraseWhere erasesBelow
+start-counts p chip = erases-counted (leftOver p chip) (p .N)
