@@ -7,9 +7,9 @@
  * length of one call.  To keep a board, keep these eight arrays and its
  * parameters.
  *
- * There are six calls: cnftl_format, cnftl_read, cnftl_write, cnftl_queue,
- * cnftl_release and cnftl_why.  Each one returns for every request and for
- * every content of the lent memory.  What cannot be done is refused by number,
+ * There are seven calls: cnftl_format, cnftl_read, cnftl_write, cnftl_queue,
+ * cnftl_release, cnftl_why and cnftl_start.  Each one returns for every request
+ * and for every content of the lent memory.  What cannot be done is refused by number,
  * and a refusal changes no lent byte, but for two lists: that of a cnftl_why is
  * filled with reply 7 too, and a queue writes the answer of a refused item.
  *
@@ -44,9 +44,9 @@
  *     CNFTL_MARK_WORDS*(r*gamma + v) + f/64.  All other bits are 0.
  *   - stamps: for each region the stamp that was taken last, 0 after a format.
  *     An accepted write, single or of a queue, takes the next one of its region
- *     for its pages; nothing else changes the entry.  A region whose entry is
- *     4,294,967,295 has no stamp left: its writes are refused with 9 until the
- *     next format.
+ *     for its pages; a start sets it to the largest one on the region's pages.
+ *     A region whose entry is 4,294,967,295 has no stamp left: its writes are
+ *     refused with 9 until the next format.
  *
  * What the caller answers for:
  *   - Every pointer is non-null and aligned for its element type, even when
@@ -56,7 +56,7 @@
  *     chip, and not the data, the list, the requests or the answers and any
  *     other of them.
  *   - During a call nobody else writes the lent memory, and during a format,
- *     a write, a queue or a release nobody else reads it.  Calls on different
+ *     a write, a queue, a release or a start nobody else reads it.  Calls on different
  *     boards may run at the same time.
  *   - A board is used with the same parameters in every call.
  *
@@ -158,7 +158,8 @@ enum cnftl_reply {
                                  queue: its count*s bytes, from first on, do
                                  not lie in data                            */
     CNFTL_TOO_FEW_BLOCKS = 6, /* fewer than mu*gamma+1 blocks are not bad   */
-    CNFTL_NOT_ORDERLY = 7,    /* chip and tables break a cnftl_rule         */
+    CNFTL_NOT_ORDERLY = 7,    /* chip and tables break a cnftl_rule; of a
+                                 start: the chip is none to start from      */
     CNFTL_TOO_FEW_ANSWERS = 8, /* fewer places for answers than requests    */
     CNFTL_NO_STAMP_LEFT = 9   /* a write's region has no stamp left         */
 };
@@ -252,6 +253,37 @@ uint64_t cnftl_format(uint32_t s, uint32_t alpha, uint32_t beta, uint32_t d,
                       uint32_t *wear, size_t wear_len,
                       uint64_t *marks, size_t marks_len,
                       uint32_t *stamps, size_t stamps_len);
+
+/*
+ * Start a board from its chip alone, where its tables are gone.  Any wear of
+ * the right length serves; what the other tables hold makes no difference.
+ * Bad blocks, told as a format tells them, become reserved, erased ones free.
+ * Any other block must be one that a board of these parameters can have: the
+ * first k frames programmed, k from 1 to F, whole or only begun, all of one
+ * region and one virtual block below gamma, the rest erased; it becomes the
+ * used block of that virtual block.  If two blocks name one virtual block, the
+ * one that is full stays and the other is erased, its wear going up by one.
+ * For each cluster CT names the segment of its whole frame with the largest
+ * stamp, so that a released cluster with whole frames left comes back with the
+ * latest.  FST names the last segment of the region's block that is not full,
+ * or where all are full that of its lowest virtual block.  Each region's last
+ * stamp is the largest on its pages, else 0, and the marks are worked out.
+ * Replies 1, 2, 6, 7, 0.  7 is given exactly when a good block is neither
+ * erased nor such a block; when three blocks name one virtual block, or two of
+ * which not exactly one is full; when a region otherwise has two blocks that
+ * are not full; or when two whole frames of one cluster, in blocks that stay,
+ * share a stamp.  Counts: 0 programs, one erase for each block erased.
+ */
+uint64_t cnftl_start(uint32_t s, uint32_t alpha, uint32_t beta, uint32_t d,
+                     uint32_t mu, uint32_t gamma, uint32_t c, uint32_t n,
+                     uint8_t *chip, size_t chip_len,
+                     uint16_t *ct, size_t ct_len,
+                     uint16_t *bt, size_t bt_len,
+                     uint16_t *fst, size_t fst_len,
+                     uint8_t *bst, size_t bst_len,
+                     uint32_t *wear, size_t wear_len,
+                     uint64_t *marks, size_t marks_len,
+                     uint32_t *stamps, size_t stamps_len);
 
 /*
  * Read count sectors from sector lba on into data.  They must lie in one
@@ -631,6 +663,11 @@ struct cnftl_board {
 static inline uint64_t cnftl_board_format(const struct cnftl_board *b)
 {
     return cnftl_format(CNFTL_BOARD(b));
+}
+
+static inline uint64_t cnftl_board_start(const struct cnftl_board *b)
+{
+    return cnftl_start(CNFTL_BOARD(b));
 }
 
 static inline uint64_t cnftl_board_read(const struct cnftl_board *b,

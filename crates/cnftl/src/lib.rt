@@ -3,7 +3,7 @@ ghost use mathlib.Core.Path.{_≡_};
 ghost use mathlib.Core.List.{[]};
 ghost use Rattle.rules.specs.Lent.{entryBoard, exitBoard};
 ghost use Rattle.rules.specs.Calls.{outcomeOf};
-ghost use Rattle.rules.specs.Requests.{format, read, write, release, requestOf};
+ghost use Rattle.rules.specs.Requests.{format, read, write, release, start, requestOf};
 ghost use Rattle.c_queue.specs.Flat.{flatCall, flatOutcome};
 ghost use Rattle.c_answer.specs.Packed.{paramsOf};
 ghost use Rattle.cnftl.specs.Packed.{Given};
@@ -41,6 +41,32 @@ pub extern "C" fn cnftl_format(
 {
     let p = c_answer::params(s, alpha, beta, d, mu, gamma, c, n);
     c_answer::pack(calls::format(p, chip, ct, bt, fst, bst, wear, marks, stamps))
+}
+
+// Document 02's start.
+#[no_mangle]
+pub extern "C" fn cnftl_start(
+    s: u32,
+    alpha: u32,
+    beta: u32,
+    d: u32,
+    mu: u32,
+    gamma: u32,
+    c: u32,
+    n: u32,
+    chip: &mut [u8],
+    ct: &mut [u16],
+    bt: &mut [u16],
+    fst: &mut [u16],
+    bst: &mut [u8],
+    wear: &mut [u32],
+    marks: &mut [u64],
+    stamps: &mut [u32],
+) -> u64
+    ensures { λ word. ⌜ Given (outcomeOf (paramsOf s alpha beta d mu gamma c n) (entryBoard chip ct bt fst bst wear marks stamps) start) word [] (exitBoard chip ct bt fst bst wear marks stamps) ⌝ }
+{
+    let p = c_answer::params(s, alpha, beta, d, mu, gamma, c, n);
+    c_answer::pack(calls::start(p, chip, ct, bt, fst, bst, wear, marks, stamps))
 }
 
 // Document 01's read.

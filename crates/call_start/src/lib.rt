@@ -1,0 +1,62 @@
+// Document 02's T-07, "Start from the chip alone", on the lent chip and tables. No `requires`: the contract says that the whole outcome is the rules', for every input.
+ghost use mathlib.Core.Path.{_≡_};
+ghost use mathlib.Core.List.{[]};
+ghost use Rattle.rules.specs.Lent.{entryBoard, exitBoard};
+ghost use Rattle.rules.specs.Requests.{start};
+ghost use Rattle.rules.specs.Replies.{replyOf};
+ghost use Rattle.rules.specs.Calls.{outcomeOf};
+ghost use Rattle.outcomes.specs.Claims.{outcome};
+use rules::Answer;
+use rules::Params;
+use rules::Reply;
+
+// The reply to a start: a format's, 1, 2 or 6; then 7 where the chip is none to start from.
+fn start_reply(
+    p: Params,
+    chip: &[u8],
+    ct: &[u16],
+    bt: &[u16],
+    fst: &[u16],
+    bst: &[u8],
+    wear: &[u32],
+    marks: &[u64],
+    stamps: &[u32],
+) -> Reply
+    ensures { λ r. ⌜ r ≡ replyOf p (entryBoard chip ct bt fst bst wear marks stamps) start ⌝ }
+{
+    let reply = replies::format_reply(p, chip, ct, bt, fst, bst, wear, marks, stamps);
+    if rules::number(reply) != 0 {
+        return reply;
+    }
+    if !check_start::can_start(p, chip) {
+        return Reply::NotOrderly;
+    }
+    Reply::Accepted
+}
+
+// The blocks that are left over are erased, and every table but the wear is rebuilt from the chip.
+pub fn start(
+    p: Params,
+    chip: &mut [u8],
+    ct: &mut [u16],
+    bt: &mut [u16],
+    fst: &mut [u16],
+    bst: &mut [u8],
+    wear: &mut [u32],
+    marks: &mut [u64],
+    stamps: &mut [u32],
+) -> Answer
+    ensures { λ a. ⌜ outcome a [] [] (exitBoard chip ct bt fst bst wear marks stamps) ≡ outcomeOf p (entryBoard chip ct bt fst bst wear marks stamps) start ⌝ }
+{
+    let reply = start_reply(p, chip, ct, bt, fst, bst, wear, marks, stamps);
+    if rules::number(reply) != 0 {
+        return reply_rows::idle(reply);
+    }
+    let k = start_work::start_all(p, chip, ct, bt, fst, bst, wear, marks, stamps);
+    Answer {
+        reply,
+        programs: 0,
+        erases: k as u32,
+        looks: 0,
+    }
+}
