@@ -5,10 +5,11 @@
  * answers, every byte of chip, tables, data and lists, and the guard bytes
  * around each slice must be equal.  The model of a queue is single writes.
  * Accepted reads are also compared with a plain record of the bytes last
- * accepted for each sector (the shadow), and what a why has told with the read
- * and the write that follow it; their third count, which C does not get, is the
- * model's.  The header's writes per erase are compared with the model's for any
- * allowed parameters.
+ * accepted for each sector (the shadow), also after a start, which brings a
+ * released cluster back with its latest whole frame that is left; and what a
+ * why has told with the read and the write that follow it; their third count,
+ * which C does not get, is the model's.  The header's writes per erase are
+ * compared with the model's for any allowed parameters.
  *
  *   fuzz [--calls N] [--seed S] [--mutant K]    compare
  *   fuzz --mutants                              list the model's mutants
@@ -100,6 +101,7 @@ static size_t room[SLICES];       /* bytes between the guards */
 static size_t shift;              /* where byte slices start, 0 to 7 */
 static uint8_t *shadow;           /* the bytes last accepted, by sector */
 static bool shadow_holds;         /* false while the board went another way */
+static uint8_t *released;         /* 1 for a cluster released and not written */
 static uint32_t hot_from, hot;    /* the clusters that get half the traffic */
 
 /* The first element of a slice.  Slices of bytes may start anywhere. */
@@ -209,6 +211,7 @@ static void open_board(struct cnftl_params p, size_t chip_bytes)
     copy_side(&model, &product);
     shadow = get_memory((size_t)cnftl_sectors(&p) * p.s);
     shadow_holds = false;
+    released = get_memory(p.c);
     hot = between(1, p.c < 4 ? p.c : 4);
     hot_from = p.c <= 65536 && once_in(2) ? 0 : p.c - hot;
 }
@@ -222,20 +225,25 @@ static void close_board(void)
         free(saved.raw[i]);
     }
     free(shadow);
+    free(released);
 }
 
 /* ==== One call on both sides =========================================== */
 
 struct call {
-    char kind; /* 'F', 'R', 'W', a release 'L', a why 'Y', a queue 'Q' */
+    char kind; /* 'F', 'R', 'W', a release 'L', a why 'Y', a queue 'Q', a
+                  start 'S' */
     struct cnftl_params p;
     size_t len[SLICES];
     uint32_t lba, count; /* lba is a release's cluster */
 };
 
-static const char call_kinds[] = "FRWLYQ";
+static const char call_kinds[] = "FRWLYQS";
 static uint64_t calls, limit = 1000000, seed = 1;
-static uint64_t seen[REPLIES], kinds[6], reclaims, shadow_reads;
+static uint64_t seen[REPLIES], kinds[7], reclaims, shadow_reads;
+static uint64_t starts_seen[REPLIES]; /* replies to starts */
+static uint64_t sweeps;               /* starts that erased a block */
+static uint64_t came_back;            /* released clusters that a start found */
 static uint64_t items_seen[REPLIES]; /* replies to the items of queues */
 static uint64_t broken[RULES];   /* rules that a why has told */
 static uint64_t forecasts[4];    /* writes as a why has forecast them */
@@ -273,6 +281,8 @@ static uint64_t call_product(const struct call *k)
         return cnftl_why(LENT(k, &product), QUESTION(k, &product));
     case 'Q':
         return cnftl_queue(LENT(k, &product), QUEUE(k, &product));
+    case 'S':
+        return cnftl_start(LENT(k, &product));
     default:
         return cnftl_write(LENT(k, &product), REQUEST(k, &product));
     }
@@ -292,6 +302,8 @@ static uint64_t call_model(const struct call *k)
         return model_why(LENT(k, &model), QUESTION(k, &model));
     case 'Q':
         return model_queue(LENT(k, &model), QUEUE(k, &model));
+    case 'S':
+        return model_start(LENT(k, &model));
     default:
         return model_write(LENT(k, &model), REQUEST(k, &model));
     }
@@ -354,10 +366,61 @@ static void follow_items(const struct call *k)
     for (size_t i = 0; i < k->len[REQUESTS] / 3; i++) {
         const uint32_t *item = longs_of(&product, REQUESTS) + 3 * i;
 
-        if (cnftl_reply_of(wides_of(&product, ANSWERS)[i]) == CNFTL_ACCEPTED)
+        if (cnftl_reply_of(wides_of(&product, ANSWERS)[i]) == CNFTL_ACCEPTED) {
             memcpy(shadow + (size_t)item[0] * par.s,
                    bytes_of(&product, DATA) + item[2],
                    (size_t)item[1] * par.s);
+            released[item[0] / par.alpha] = 0;
+        }
+    }
+}
+
+/* A page of the chip, counted over it. */
+static const uint8_t *page_at(size_t page)
+{
+    return bytes_of(&product, CHIP) + page * cnftl_page_bytes(&par);
+}
+
+/* The first page of the latest whole frame of a cluster that is left on the
+   chip of a board that was changed by calls alone, or NULL. */
+static const uint8_t *latest_frame(uint32_t cluster)
+{
+    size_t pages = par.n * cnftl_pages_per_block(&par);
+    size_t page = cnftl_page_bytes(&par);
+    const uint8_t *latest = NULL;
+    uint32_t most = 0;
+
+    for (size_t i = 0; i < pages; i += par.alpha) {
+        const uint8_t *last = page_at(i + par.alpha) - CNFTL_SPARE_BYTES;
+        uint32_t number, stamp;
+
+        if (last[6] != 0 || last[5] != 255)
+            continue;
+        memcpy(&number, last, sizeof number);
+        memcpy(&stamp, last + 7, sizeof stamp);
+        if (number == cluster && (latest == NULL || stamp > most)) {
+            latest = last + CNFTL_SPARE_BYTES - par.alpha * page;
+            most = stamp;
+        }
+    }
+    return latest;
+}
+
+/* "A released cluster with whole frames left comes back with the latest": what
+   the shadow has of it after a start. */
+static void follow_start(void)
+{
+    for (uint32_t cluster = 0; cluster < par.c; cluster++) {
+        const uint8_t *latest;
+
+        if (!released[cluster])
+            continue;
+        released[cluster] = 0;
+        latest = latest_frame(cluster);
+        came_back += latest != NULL;
+        for (uint32_t i = 0; latest != NULL && i < par.alpha; i++)
+            memcpy(shadow + ((size_t)cluster * par.alpha + i) * par.s,
+                   latest + i * cnftl_page_bytes(&par), par.s);
     }
 }
 
@@ -372,12 +435,17 @@ static void follow_shadow(const struct call *k, uint64_t a)
         shadow_holds = shadow_holds && k->kind == 'R';
     } else if (k->kind == 'F') {
         memset(shadow, 255, (size_t)cnftl_sectors(&par) * par.s);
+        memset(released, 0, par.c);
         shadow_holds = true;
     } else if (shadow_holds && k->kind == 'L') {
         memset(shadow + (size_t)k->lba * par.alpha * par.s, 255,
                (size_t)par.alpha * par.s);
+        released[k->lba] = 1;
     } else if (shadow_holds && k->kind == 'W') {
         memcpy(sectors, bytes_of(&product, DATA), k->len[DATA]);
+        released[k->lba / par.alpha] = 0;
+    } else if (shadow_holds && k->kind == 'S') {
+        follow_start();
     } else if (shadow_holds && k->kind == 'Q') {
         follow_items(k);
     } else if (shadow_holds) {
@@ -407,6 +475,10 @@ static void count_call(const struct call *k, uint64_t a)
     reclaims += k->kind == 'W' && cnftl_erases_of(a) == 1;
     if (k->kind == 'Q' && cnftl_reply_of(a) == CNFTL_ACCEPTED)
         count_items(k);
+    if (k->kind == 'S') {
+        starts_seen[cnftl_reply_of(a) % REPLIES]++;
+        sweeps += cnftl_erases_of(a) > 0;
+    }
     if (k->kind == 'Y' && cnftl_reply_of(a) == CNFTL_NOT_ORDERLY)
         broken[longs_of(&product, LIST)[CNFTL_WHY_RULE] % RULES]++;
     if (calls % 100000 == 0)
@@ -503,7 +575,7 @@ static struct call right_call(char kind)
     memcpy(k.len, right_len, sizeof right_len);
     k.lba = kind == 'L' ? cluster : cluster * par.alpha + place;
     k.count = between(1, par.alpha - place);
-    k.len[DATA] = strchr("LY", kind) ? 0 : (size_t)k.count * par.s;
+    k.len[DATA] = strchr("LYS", kind) ? 0 : (size_t)k.count * par.s;
     k.len[LIST] = kind == 'Y' ? CNFTL_WHY_ENTRIES : 0;
     if (kind == 'Q') {
         uint32_t items = below(MOST_ITEMS + 1);
@@ -1008,6 +1080,36 @@ static void build_orderly(void)
     put_marks();
 }
 
+/* Gives the frames of a region's blocks stamps of their own, rising along each
+   block in some order of the blocks, and the region the largest one or more. */
+static void spread_stamps(uint32_t region)
+{
+    uint32_t first = below(par.gamma), stamp = once_in(2) ? 0 : below(1u << 31);
+
+    for (uint32_t i = 0; i < par.gamma; i++) {
+        uint32_t block = bt[region * par.gamma + (first + i) % par.gamma];
+
+        for (uint32_t k = 0; block < par.n && k < frames_in(block); k++) {
+            stamp += between(1, 3);
+            for (uint32_t place = 0; place < par.alpha; place++)
+                if (spare_at(block, k, place)[6] == 0)
+                    put_number(spare_at(block, k, place) + 7, stamp);
+        }
+    }
+    stamps[region] = stamp + below(3);
+}
+
+/* Makes an orderly state one that a start takes: what is reserved is bad, and
+   no two frames of a region have one stamp. */
+static void make_startable(void)
+{
+    for (uint32_t b = 0; b < par.n; b++)
+        if (bst[b] == CNFTL_BLOCK_RESERVED)
+            mark_bad(b);
+    for (uint32_t r = 0; r < par.mu; r++)
+        spread_stamps(r);
+}
+
 /* ==== One thing changed in a state ===================================== */
 
 /* A 16-bit entry: none, a neighbour, just past the top, or anything. */
@@ -1386,6 +1488,73 @@ static void change_stamps(void)
     changes[below(sizeof changes / sizeof *changes)]();
 }
 
+/* A free block takes the first pages of a used one, as copies that were cut
+   short leave it: so many frames, and perhaps the first pages of one more. */
+static void copy_block(void)
+{
+    uint32_t entry = some_entry(true), to = some_block(CNFTL_BLOCK_FREE);
+    uint32_t pages = (uint32_t)cnftl_pages_per_block(&par), k;
+
+    if (entry == CNFTL_NONE || to == CNFTL_NONE)
+        return;
+    k = once_in(8) ? pages : between(1, pages);
+    memset(frame_at(to, 0), 255, block_bytes());
+    memcpy(frame_at(to, 0), frame_at(bt[entry], 0), k * cnftl_page_bytes(&par));
+    if (once_in(4))
+        bst[to] = CNFTL_BLOCK_USED;
+}
+
+/* A used block loses its last frames, down to one. */
+static void shorten_block(void)
+{
+    uint32_t entry = some_entry(true), k, to;
+
+    if (entry == CNFTL_NONE || (k = frames_in(bt[entry])) < 2)
+        return;
+    for (to = between(1, k - 1); k > to; k--)
+        memset(frame_at(bt[entry], k - 1), 255, frame_bytes());
+}
+
+/* A frame of a used block gets the cluster and the stamp of another frame of
+   its region, on its programmed pages. */
+static void repeat_stamp(void)
+{
+    uint32_t entry = some_entry(true), other, from, to;
+
+    if (entry == CNFTL_NONE)
+        return;
+    other = entry / par.gamma * par.gamma + below(par.gamma);
+    if (bt[other] >= par.n || frames_in(bt[other]) == 0
+        || frames_in(bt[entry]) == 0)
+        return;
+    from = below(frames_in(bt[other]));
+    to = below(frames_in(bt[entry]));
+    for (uint32_t place = 0; place < par.alpha; place++) {
+        uint8_t *spare = spare_at(bt[entry], to, place);
+
+        if (spare[6] != 0)
+            continue;
+        memcpy(spare + 7, spare_at(bt[other], from, 0) + 7, 4);
+        if (once_in(2) || place > 0)
+            memcpy(spare, spare_at(bt[other], from, 0), 4);
+    }
+}
+
+/* What a start looks at changes: whole blocks, or two stamps. */
+static void change_for_start(void)
+{
+    static void (*const changes[])(void) = {
+        copy_block, copy_block, copy_block, shorten_block, repeat_stamp,
+        cut_frame, cut_write, change_virtual, change_used_spare
+    };
+
+    if (once_in(2))
+        make_startable();
+    do
+        changes[below(sizeof changes / sizeof *changes)]();
+    while (once_in(3));
+}
+
 /* One whole table becomes anything. */
 static void scramble_table(void)
 {
@@ -1407,6 +1576,8 @@ static void change_state(void)
     };
 
     if (once_in(5)) {
+        change_for_start();
+    } else if (once_in(5)) {
         change_marks();
         if (once_in(4))
             change_stamps();
@@ -1646,7 +1817,7 @@ static void changed_requests(void)
     change_state();
     shadow_holds = false;
     do {
-        struct call k = right_call("RRRWWWLYYQQ"[below(11)]);
+        struct call k = right_call("RRRWWWLYYQQSSSS"[below(15)]);
 
         if (once_in(8))
             add_faults(&k);
@@ -1664,32 +1835,41 @@ static void changed_requests(void)
 /* One call of any kind with faults. */
 static void faulty_request(void)
 {
-    struct call k = right_call("FRRWWLYYQQQQ"[below(12)]);
+    struct call k = right_call("FRRWWLYYQQQQS"[below(13)]);
 
     add_faults(&k);
     make_call(&k);
 }
 
-/* A format; a board that cannot be formatted gets few calls more. */
+/* A format; a board that cannot be formatted gets a start, which cannot be made
+   either, and few calls more. */
 static void format_request(void)
 {
-    struct call k = right_call('F');
+    struct call k = right_call('F'), start = right_call('S');
 
-    if (make_call(&k) != CNFTL_ACCEPTED && rest_of_episode > 8)
+    if (make_call(&k) == CNFTL_ACCEPTED)
+        return;
+    if (calls < limit)
+        make_call(&start);
+    if (rest_of_episode > 8)
         rest_of_episode = 8;
 }
 
-/* A right read, write, release, why or queue.  It is accepted if the board was
-   changed by calls alone since a format.  A board that is not orderly is
+/* A right read, write, release, why, queue or start.  It is accepted if the
+   board was changed by calls alone since a format, and a start then erases
+   nothing.  A board that is not orderly is
    formatted soon, and one with no stamp left in a region later. */
 static void right_request(void)
 {
-    struct call k = right_call("RRRRWWWWWWWLYYQQ"[below(16)]);
+    struct call k = right_call(once_in(64) ? 'S'
+                               : "RRRRWWWWWWWLYYQQ"[below(16)]);
     bool sound = shadow_holds;
-    uint32_t reply = make_call(&k);
+    uint64_t a = answer_of(&k);
+    uint32_t reply = cnftl_reply_of(a);
 
-    if (sound && reply != CNFTL_ACCEPTED)
-        differ(&k, "the reply on a sound board", reply, CNFTL_ACCEPTED);
+    if (sound && (reply != CNFTL_ACCEPTED
+                  || (k.kind == 'S' && cnftl_erases_of(a) != 0)))
+        differ(&k, "the reply on a sound board", a, CNFTL_ACCEPTED);
     if (k.kind == 'Y' && reply == CNFTL_ACCEPTED)
         hold_to_it(&k);
     if (((reply == CNFTL_NOT_ORDERLY && once_in(4))
@@ -1717,6 +1897,8 @@ static void start_state(void)
         return;
     if (kind < (large_blocks() ? 14 : 7) && par.n > par.mu * par.gamma) {
         build_orderly();
+        if (once_in(2))
+            make_startable();
         copy_side(&model, &product);
         read_built_state();
         return;
@@ -1760,8 +1942,8 @@ static void run_wrapped_board(void)
 
     assert((uint64_t)cnftl_chip_bytes(&p) == UINT64_C(4294967296));
     open_board(p, 0);
-    for (int i = 0; i < 5 && calls < limit; i++) {
-        struct call k = right_call("FRWYQ"[i]);
+    for (int i = 0; i < 6 && calls < limit; i++) {
+        struct call k = right_call("FRWYQS"[i]);
 
         make_call(&k);
     }
@@ -1927,6 +2109,13 @@ static const int item_replies[] = {
 };
 enum { ITEM_REPLIES = sizeof item_replies / sizeof *item_replies };
 
+/* The replies that a start gets. */
+static const int start_replies[] = {
+    CNFTL_ACCEPTED, CNFTL_BAD_PARAMETER, CNFTL_WRONG_LENGTH,
+    CNFTL_TOO_FEW_BLOCKS, CNFTL_NOT_ORDERLY
+};
+enum { START_REPLIES = sizeof start_replies / sizeof *start_replies };
+
 /* Prints what was seen; false if something never was. */
 static bool report(void)
 {
@@ -1947,6 +2136,16 @@ static bool report(void)
     printf("\n");
     for (int i = 0; i < ITEM_REPLIES; i++)
         all = all && items_seen[item_replies[i]] > 0;
+    printf("fuzz: %" PRIu64 " starts (%" PRIu64 " with an erase, %" PRIu64
+           " released clusters came back), by reply:", kinds[6], sweeps,
+           came_back);
+    for (int i = 0; i < START_REPLIES; i++)
+        printf(" %d: %" PRIu64, start_replies[i],
+               starts_seen[start_replies[i]]);
+    printf("\n");
+    for (int i = 0; i < START_REPLIES; i++)
+        all = all && starts_seen[start_replies[i]] > 0;
+    all = all && sweeps > 0 && came_back > 0;
     printf("fuzz: %" PRIu64 " whys, %" PRIu64 " read as told, written as told:"
            " %" PRIu64 " continued, %" PRIu64 " opened, %" PRIu64
            " reclaimed, %" PRIu64 " had no stamp left\n", kinds[4], held_reads,

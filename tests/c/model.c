@@ -10,6 +10,7 @@
 
 #include <assert.h>
 #include <stdbool.h>
+#include <stdlib.h>
 #include <string.h>
 
 int model_mutant = MODEL_RIGHT;
@@ -1857,4 +1858,379 @@ uint64_t model_why(uint32_t s, uint32_t alpha, uint32_t beta, uint32_t d,
     if (reply == ACCEPTED)
         tell_all(&v, cluster_of(&p, lba), list);
     return answer(reply, 0, 0, 0);
+}
+
+/* ==== Start from the chip alone ======================================== */
+
+/* What a good block that is not erased is, by itself. */
+struct finding {
+    bool used, sound, full, left_over;
+    uint32_t region, virtual_block;
+};
+
+/* "bad blocks by T-02's rule; erased ones free": whether a block is neither. */
+static bool block_in_use(const struct view *v, uint32_t block)
+{
+    return !block_bad(v, block) && !erased_from(v, block, 0);
+}
+
+/* How many frames from the first on are as they are in a used block of this
+   region and virtual block. */
+static uint32_t sound_frames(const struct view *v, uint32_t region,
+                             uint32_t virtual_block, uint32_t block)
+{
+    uint32_t k = 0;
+
+    for (; k < v->p.f; k++) {
+        uint32_t cluster = cluster_in(spare_at(v, block, k, 0));
+
+        if (!frame_programmed(v, virtual_block, block, k) || cluster >= v->p.c
+            || region_of(&v->p, cluster) != region)
+            break;
+    }
+    return k;
+}
+
+/* A block in use "orderly by itself with one region and one virtual block
+   below gamma", or not. */
+static struct finding find_block(const struct view *v, uint32_t block)
+{
+    struct finding found = { false, false, false, false, 0, 0 };
+    const uint8_t *spare = spare_at(v, block, 0, 0);
+    uint32_t k;
+
+    if (!block_in_use(v, block))
+        return found;
+    found.used = true;
+    found.region = region_of(&v->p, cluster_in(spare));
+    found.virtual_block = spare[11];
+    k = sound_frames(v, found.region, found.virtual_block, block);
+    found.sound = k > 0 && erased_from(v, block, k)
+               && found.virtual_block < v->p.gamma;
+    if (MUTANT(START_GAMMA) && !found.sound && k > 0
+        && erased_from(v, block, k)) {
+        found.virtual_block %= v->p.gamma;
+        found.sound = true;
+    }
+    found.full = k == v->p.f;
+    return found;
+}
+
+/* All blocks of a chip. */
+static struct finding found_blocks[65536];
+
+/* The blocks that name a virtual block: how many, and how many are full. */
+struct naming {
+    uint32_t all, full;
+};
+
+static struct naming naming_of(const struct view *v, uint32_t region,
+                               uint32_t virtual_block)
+{
+    struct naming names = { 0, 0 };
+
+    for (uint32_t b = 0; b < v->p.n; b++)
+        if (found_blocks[b].used && found_blocks[b].region == region
+            && found_blocks[b].virtual_block == virtual_block) {
+            names.all++;
+            names.full += found_blocks[b].full;
+        }
+    return names;
+}
+
+/* "If two blocks name one virtual block, the one with a page of every frame
+   programmed (full) stays and the other is erased." */
+static bool is_left_over(const struct view *v, uint32_t block)
+{
+    const struct finding *found = &found_blocks[block];
+    struct naming names;
+
+    if (!found->used)
+        return false;
+    names = naming_of(v, found->region, found->virtual_block);
+    if (MUTANT(START_FULL_ERASED))
+        return found->full && names.all == 2;
+    return !found->full && names.full > 0;
+}
+
+/* "when three blocks name one virtual block or two of which not exactly one is
+   full" */
+static bool pair_right(struct naming names)
+{
+    if (MUTANT(START_PAIR_REFUSED))
+        return names.all < 2;
+    if (names.all == 3 && names.full == 1 && MUTANT(START_THREE))
+        return true;
+    if (names.all == 2 && names.full == 2 && MUTANT(START_TWO_FULL))
+        return true;
+    return names.all < 2 || (names.all == 2 && names.full == 1);
+}
+
+/* "when a region otherwise has two blocks not full" */
+static bool one_open(const struct view *v, uint32_t region)
+{
+    uint32_t open = 0;
+
+    for (uint32_t b = 0; b < v->p.n; b++)
+        open += found_blocks[b].used && found_blocks[b].region == region
+             && !found_blocks[b].full
+             && (!found_blocks[b].left_over || MUTANT(START_OPEN_COUNTED));
+    return open < 2 || MUTANT(START_TWO_OPEN);
+}
+
+/* A whole frame of a block that is kept. */
+struct kept_frame {
+    uint32_t cluster, stamp;
+};
+
+/* For sorting: by cluster, then by stamp. */
+static int by_cluster(const void *a, const void *b)
+{
+    const struct kept_frame *x = a, *y = b;
+
+    if (x->cluster != y->cluster)
+        return x->cluster < y->cluster ? -1 : 1;
+    return (x->stamp > y->stamp) - (x->stamp < y->stamp);
+}
+
+/* Gathers the whole frames of a region's blocks; returns how many. */
+static uint32_t gather_frames(const struct view *v, uint32_t region,
+                              struct kept_frame *list)
+{
+    uint32_t count = 0;
+
+    for (uint32_t b = 0; b < v->p.n; b++) {
+        if (!found_blocks[b].used || found_blocks[b].region != region
+            || (found_blocks[b].left_over && !MUTANT(START_STAMPS_ALL)))
+            continue;
+        for (uint32_t frame = 0; frame < v->p.f; frame++)
+            if (MUTANT(START_BEGUN_STAMPS) ? frame_taken(v, b, frame)
+                                           : frame_whole(v, b, frame)) {
+                list[count].cluster = cluster_in(spare_at(v, b, frame, 0));
+                list[count++].stamp = stamp_in(spare_at(v, b, frame, 0));
+            }
+    }
+    return count;
+}
+
+/* "when two kept whole frames of a cluster share a stamp" */
+static bool stamps_apart(const struct view *v, uint32_t region)
+{
+    static struct kept_frame list[2 * 16 * 256];
+    uint32_t count = gather_frames(v, region, list);
+
+    qsort(list, count, sizeof *list, by_cluster);
+    for (uint32_t i = 1; i < count; i++)
+        if (list[i].cluster == list[i - 1].cluster
+            && list[i].stamp == list[i - 1].stamp)
+            return MUTANT(START_SAME_STAMPS);
+    return true;
+}
+
+/* Looks at all blocks; false where a good block "is neither erased nor orderly
+   by itself". */
+static bool find_blocks(const struct view *v)
+{
+    for (uint32_t b = 0; b < v->p.n; b++) {
+        found_blocks[b] = find_block(v, b);
+        if (found_blocks[b].used && !found_blocks[b].sound
+            && !MUTANT(START_ANY_BLOCK))
+            return false;
+        if (found_blocks[b].used && !found_blocks[b].sound)
+            found_blocks[b].used = false;
+    }
+    for (uint32_t b = 0; b < v->p.n; b++)
+        found_blocks[b].left_over = is_left_over(v, b);
+    return true;
+}
+
+/* Whether a start can be made from the chip. */
+static bool startable(const struct view *v)
+{
+    if (!find_blocks(v))
+        return false;
+    for (uint32_t b = 0; b < v->p.n; b++)
+        if (found_blocks[b].used
+            && !pair_right(naming_of(v, found_blocks[b].region,
+                                     found_blocks[b].virtual_block)))
+            return false;
+    for (uint32_t r = 0; r < v->p.mu; r++)
+        if (!one_open(v, r) || !stamps_apart(v, r))
+            return false;
+    return true;
+}
+
+/* BST, BT and the erases; returns how many. */
+static uint32_t start_blocks(struct lent *l)
+{
+    const struct params *p = &l->v.p;
+    uint32_t erases = 0;
+
+    for (size_t i = 0; i < (size_t)p->mu * p->gamma; i++)
+        l->bt[i] = NONE;
+    for (uint32_t b = 0; b < p->n; b++) {
+        const struct finding *found = &found_blocks[b];
+
+        if (!found->used || found->left_over) {
+            if (!(MUTANT(START_ERASED_USED) && !found->used
+                  && l->bst[b] < 2))
+                l->bst[b] = block_bad(&l->v, b) ? RESERVED : FREE;
+        } else {
+            assign(l, found->region, found->virtual_block, b);
+        }
+        if (!found->left_over)
+            continue;
+        if (!MUTANT(START_NOT_ERASED))
+            erase_pages(l, b);
+        if (!MUTANT(START_NO_WEAR))
+            count_erase(l, b);
+        erases++;
+    }
+    return MUTANT(START_NO_COUNT) ? 0 : erases;
+}
+
+/* "per cluster the whole frame with the largest stamp" */
+static void start_cluster(struct lent *l, uint32_t cluster)
+{
+    const struct view *v = &l->v;
+    uint32_t region = region_of(&v->p, cluster), best = 0;
+    bool found = false;
+
+    for (uint32_t i = 0; i < v->p.gamma; i++) {
+        uint32_t block = block_of(v, region, i);
+
+        for (uint32_t f = 0; block != NONE && f < v->p.f; f++) {
+            uint32_t stamp = stamp_in(spare_at(v, block, f, 0));
+
+            if (!(MUTANT(START_BEGUN_CT)
+                  ? frame_taken(v, block, f)
+                    && cluster_in(spare_at(v, block, f, 0)) == cluster
+                  : frame_holds(v, block, f, cluster)))
+                continue;
+            if (found && !(MUTANT(START_SMALLEST) ? stamp < best
+                           : MUTANT(START_LAST_FRAME) || stamp > best))
+                continue;
+            found = true;
+            best = stamp;
+            l->ct[cluster] = (uint16_t)segment_of(&v->p, i, f);
+        }
+    }
+    if (!found && !MUTANT(START_KEEPS_CT))
+        l->ct[cluster] = NONE;
+}
+
+/* FST: the block that is not full. "If all of a region's blocks are full, FST
+   names the last segment of the lowest virtual block." */
+static void start_fst(struct lent *l, uint32_t region)
+{
+    const struct view *v = &l->v;
+    uint32_t chosen = NONE;
+
+    for (uint32_t i = 0; i < v->p.gamma; i++) {
+        uint32_t block = block_of(v, region, i);
+
+        if (block == NONE)
+            continue;
+        if (chosen == NONE || MUTANT(START_FST_HIGHEST)
+            || (frames_taken(v, block) < v->p.f && !MUTANT(START_FST_FULL)))
+            chosen = i;
+        if (frames_taken(v, block) < v->p.f && !MUTANT(START_FST_FULL))
+            break;
+    }
+    l->fst[region] = NONE;
+    if (chosen != NONE)
+        l->fst[region] = (uint16_t)segment_of(&v->p, chosen,
+            MUTANT(START_FST_FIRST)
+            ? 0 : frames_taken(v, block_of(v, region, chosen)) - 1);
+}
+
+/* Whether a mutant leaves a frame out of the last stamp. */
+static bool stamp_left_out(const struct view *v, uint32_t virtual_block,
+                           uint32_t block, uint32_t frame)
+{
+    uint32_t cluster = cluster_in(spare_at(v, block, frame, 0));
+
+    if (MUTANT(START_WHOLE_LAST))
+        return !frame_whole(v, block, frame);
+    return MUTANT(START_LAST_CT)
+        && v->ct[cluster] != segment_of(&v->p, virtual_block, frame);
+}
+
+/* "the stamps (largest on the region's pages, else 0)" */
+static void start_stamp(struct lent *l, uint32_t region)
+{
+    const struct view *v = &l->v;
+    uint32_t most = 0;
+    bool any = false;
+
+    for (uint32_t i = 0; i < v->p.gamma; i++) {
+        uint32_t block = block_of(v, region, i);
+
+        for (uint32_t f = 0; block != NONE && f < frames_taken(v, block); f++) {
+            uint32_t stamp = stamp_in(spare_at(v, block, f, 0));
+
+            any = true;
+            if (stamp > most && !stamp_left_out(v, i, block, f))
+                most = stamp;
+        }
+    }
+    if (any || !MUTANT(START_KEEPS_STAMPS))
+        l->stamps[region] = most;
+}
+
+/* "The start rebuilds BST, BT, CT, FST, the marks and the stamps"; returns its
+   erases. */
+static uint32_t start_steps(struct lent *l)
+{
+    uint32_t erases = start_blocks(l);
+
+    for (uint32_t x = 0; x < l->v.p.c; x++)
+        start_cluster(l, x);
+    for (uint32_t r = 0; r < l->v.p.mu; r++) {
+        start_fst(l, r);
+        start_stamp(l, r);
+    }
+    if (!MUTANT(START_KEEPS_MARKS))
+        work_out_marks(&l->v, l->marks);
+    return erases;
+}
+
+/* T-07: "Refusals: 1, 2, 6 and 7 for the start". */
+static uint32_t refuse_start(const struct view *v)
+{
+    bool few = good_blocks(v) < v->p.mu * v->p.gamma + 1;
+
+    if (few && !(MUTANT(START_7_FIRST) && !startable(v)))
+        return TOO_FEW_BLOCKS;
+    return startable(v) ? ACCEPTED : NOT_ORDERLY;
+}
+
+/* "The start reports its erases." */
+uint64_t model_start(uint32_t s, uint32_t alpha, uint32_t beta, uint32_t d,
+                     uint32_t mu, uint32_t gamma, uint32_t c, uint32_t n,
+                     uint8_t *chip, size_t chip_len,
+                     uint16_t *ct, size_t ct_len,
+                     uint16_t *bt, size_t bt_len,
+                     uint16_t *fst, size_t fst_len,
+                     uint8_t *bst, size_t bst_len,
+                     uint32_t *wear, size_t wear_len,
+                     uint64_t *marks, size_t marks_len,
+                     uint32_t *stamps, size_t stamps_len)
+{
+    struct params p = make_params(s, alpha, beta, d, mu, gamma, c, n);
+    struct lengths len = {
+        chip_len, ct_len, bt_len, fst_len, bst_len, wear_len, marks_len,
+        stamps_len
+    };
+    struct lent l = {
+        { p, chip, ct, bt, fst, bst, wear, marks, stamps },
+        chip, ct, bt, fst, bst, wear, marks, stamps
+    };
+    uint32_t reply = refuse_board(&p, &len);
+
+    if (reply == ACCEPTED)
+        reply = refuse_start(&l.v);
+    if (reply != ACCEPTED)
+        return answer(reply, 0, 0, 0);
+    return answer(ACCEPTED, 0, start_steps(&l), 0);
 }

@@ -46,5 +46,6 @@ extern __typeof__(cnftl_write) model_write;
 extern __typeof__(cnftl_queue) model_queue;
 extern __typeof__(cnftl_release) model_release;
 extern __typeof__(cnftl_why) model_why;
+extern __typeof__(cnftl_start) model_start;
 
 #endif

@@ -169,6 +169,34 @@
     X(LOOKS_AFTER_RECLAIM, "looks: counted in the state after the reclaim")    \
     X(LOOKS_COPIES, "looks: one counted for each copy too")                    \
     X(LOOKS_WHOLE, "looks: none counted for a write of a whole cluster")       \
+    /* start */                                                                \
+    X(START_7_FIRST, "start: 7 tested before 6")                               \
+    X(START_GAMMA, "start: a virtual block from gamma up taken for one")       \
+    X(START_ANY_BLOCK, "start: a block that is not orderly erased, not 7")     \
+    X(START_THREE, "start: three blocks of a virtual block accepted")          \
+    X(START_TWO_FULL, "start: two full blocks of a virtual block accepted")    \
+    X(START_PAIR_REFUSED, "start: a full block and another refused")           \
+    X(START_TWO_OPEN, "start: two blocks not full of a region accepted")       \
+    X(START_OPEN_COUNTED, "start: a block left over counted as not full")      \
+    X(START_SAME_STAMPS, "start: whole frames with one stamp accepted")        \
+    X(START_STAMPS_ALL, "start: stamps of a block left over compared too")     \
+    X(START_BEGUN_STAMPS, "start: stamps of frames only begun compared")       \
+    X(START_FULL_ERASED, "start: the full block of two erased")                \
+    X(START_NOT_ERASED, "start: a block left over freed and not erased")       \
+    X(START_NO_WEAR, "start: the wear of a block left over not counted")       \
+    X(START_NO_COUNT, "start: its erases not reported")                        \
+    X(START_SMALLEST, "start: CT by the smallest stamp")                       \
+    X(START_LAST_FRAME, "start: CT by the last frame, not by the stamp")       \
+    X(START_BEGUN_CT, "start: a frame only begun counted for CT")              \
+    X(START_KEEPS_CT, "start: a CT entry without a frame left as lent")        \
+    X(START_FST_HIGHEST, "start: FST of the highest block where all are full") \
+    X(START_FST_FULL, "start: FST of the lowest block, one not full or not")   \
+    X(START_FST_FIRST, "start: FST by the first segment of the block")         \
+    X(START_WHOLE_LAST, "start: last stamp by whole frames alone")             \
+    X(START_LAST_CT, "start: last stamp by the frames that CT names")          \
+    X(START_KEEPS_STAMPS, "start: last stamp of an empty region left as lent") \
+    X(START_KEEPS_MARKS, "start: the marks left as lent")                      \
+    X(START_ERASED_USED, "start: BST of an erased block left as lent")         \
     /* writes per erase */                                                     \
     X(FIGURE_DOWN, "figure: spare frames / gamma rounded down")                \
     X(FIGURE_MORE, "figure: one more where gamma divides the spare frames")    \
