@@ -1,6 +1,6 @@
 /*
- * model_fast.c - document 01 with 02's marks and stamps in plain C, written for
- * speed.
+ * model_fast.c - document 01 with 02's marks, stamps and start in plain C,
+ * written for speed.
  *
  * The orderly check passes once over the chip.  It reads only the spare bytes
  * of programmed pages, compares erased pages by words, and searches nothing:
@@ -19,6 +19,12 @@
  * A write keeps the marks: it sets the new frame's and clears the old one's,
  * and after a reclaim the copies have the first marks of their block.  It takes
  * the next stamp of its region, if there is one left, for its pages.
+ *
+ * A start checks all before it stores anything, on the chip alone: one pass
+ * over the blocks; then, region by region, one over the heads of the blocks and
+ * one over the region's frames, in which a bit for each stamp mod 16,384 tells
+ * most stamps apart at once.  Then it builds the tables in passes over heads
+ * and frames; CT holds frame numbers on the way.
  */
 #include "model_fast.h"
 
@@ -181,9 +187,11 @@ static uint32_t pages_alike(const struct board *b, const uint8_t *bytes,
 }
 
 /* The cluster of a frame with these spare bytes in its first page, BEGUN if
-   only its first pages are programmed, or WRONG if it is not orderly. */
+   only its first pages are programmed, or WRONG if it is not orderly or has a
+   stamp above the last one. */
 static uint32_t check_frame(const struct board *b, uint32_t region,
-                            uint32_t virtual_block, const uint8_t *bytes)
+                            uint32_t virtual_block, uint32_t last,
+                            const uint8_t *bytes)
 {
     struct spare first = spare_in(bytes);
     uint32_t cluster = (uint32_t)first.low, stamp = stamp_in(first), pages;
@@ -191,7 +199,7 @@ static uint32_t check_frame(const struct board *b, uint32_t region,
 
     if (first.low != right.low || first.high != right.high
         || cluster >= b->c || cluster % b->mu != region
-        || stamp > b->stamps[region])
+        || stamp > last)
         return WRONG;
     pages = pages_alike(b, bytes, first);
     if (pages == b->alpha)
@@ -251,7 +259,8 @@ static uint32_t check_used_block(const struct board *b, uint32_t region,
 
         if (spare[6] != 0)
             break;
-        cluster[held] = check_frame(b, region, virtual_block, spare);
+        cluster[held] = check_frame(b, region, virtual_block,
+                                    b->stamps[region], spare);
         if (cluster[held++] == WRONG)
             return 0;
         if (held == b->beta) {
@@ -635,7 +644,7 @@ static uint64_t write_steps(const struct board *b, const struct lent *l,
     return answer(ACCEPTED, b->alpha * (t.copied + 1), t.victim_block != NONE);
 }
 
-/* ==== The four calls =================================================== */
+/* ==== The calls ======================================================== */
 
 /* Whether neither of a block's first two pages has the maker's bad mark. */
 static bool block_good(const struct board *b, uint32_t block)
@@ -795,4 +804,322 @@ uint64_t fast_queue(uint32_t s, uint32_t alpha, uint32_t beta, uint32_t d,
         answers[i] = write_item(&b, &l, in_order, requests + 3 * i, data,
                                 data_len);
     return answer(ACCEPTED, 0, 0);
+}
+
+/* ==== The start ======================================================== */
+
+enum { MOST_VIRTUAL = 16, SEEN_BITS = 16384 };
+
+/* The block of each virtual block of a region that is full, and that is not;
+   NONE where there is none. */
+struct heads {
+    uint32_t full[MOST_VIRTUAL], open[MOST_VIRTUAL];
+};
+
+/* Whether a block with its first frame programmed is orderly by itself. */
+static bool check_alone(const struct board *b, uint32_t block)
+{
+    const uint8_t *spare = spare_at(b, block, 0);
+    uint32_t cluster = cluster_in(spare), region = cluster % b->mu, k;
+
+    if (cluster >= b->c || spare[11] >= b->gamma)
+        return false;
+    for (k = 0; k < b->frames && spare_at(b, block, k)[6] == 0; k++)
+        if (check_frame(b, region, spare[11], UINT32_MAX,
+                        spare_at(b, block, k)) == WRONG)
+            return false;
+    return all_ones(b->chip + frame_at(b, block, k),
+                    (b->frames - k) * b->frame);
+}
+
+/* Whether every good block is erased or orderly by itself. */
+static bool check_alone_all(const struct board *b)
+{
+    for (uint32_t i = 0; i < b->n; i++) {
+        if (!block_good(b, i))
+            continue;
+        if (spare_at(b, i, 0)[6] == 0
+            ? !check_alone(b, i) : !all_ones(b->chip + i * b->block, b->block))
+            return false;
+    }
+    return true;
+}
+
+/* Whether a block's last frame is programmed. */
+static bool block_full(const struct board *b, uint32_t block)
+{
+    return spare_at(b, block, b->frames - 1)[6] == 0;
+}
+
+/* Whether a block is in use, where all are erased or orderly by themselves. */
+static bool in_use(const struct board *b, uint32_t block)
+{
+    return spare_at(b, block, 0)[6] == 0 && block_good(b, block);
+}
+
+/* Finds the blocks of a region; false where two of a kind name one virtual
+   block. */
+static bool find_heads(const struct board *b, uint32_t region,
+                       struct heads *h)
+{
+    for (uint32_t v = 0; v < b->gamma; v++)
+        h->full[v] = h->open[v] = NONE;
+    for (uint32_t i = 0; i < b->n; i++) {
+        const uint8_t *spare = spare_at(b, i, 0);
+        uint32_t *place;
+
+        if (spare[6] != 0 || cluster_in(spare) % b->mu != region
+            || !block_good(b, i))
+            continue;
+        place = (block_full(b, i) ? h->full : h->open) + spare[11];
+        if (*place != NONE)
+            return false;
+        *place = i;
+    }
+    return true;
+}
+
+/* A frame's stamp. */
+static uint32_t stamp_of(const struct board *b, uint32_t block, uint32_t frame)
+{
+    return stamp_in(spare_in(spare_at(b, block, frame)));
+}
+
+/* Whether a frame is whole. */
+static bool is_whole(const struct board *b, uint32_t block, uint32_t frame)
+{
+    return spare_at(b, block, frame)[(b->alpha - 1) * b->page + 6] == 0;
+}
+
+/* Whether a whole frame of the region's kept blocks before this one has its
+   cluster and its stamp. */
+static bool repeated(const struct board *b, const uint32_t *kept,
+                     uint32_t virtual_block, uint32_t frame)
+{
+    uint32_t block = kept[virtual_block];
+    uint32_t cluster = cluster_in(spare_at(b, block, frame));
+    uint32_t stamp = stamp_of(b, block, frame);
+
+    for (uint32_t v = 0; v <= virtual_block; v++) {
+        uint32_t end = v < virtual_block ? b->frames : frame;
+
+        for (uint32_t f = 0; kept[v] != NONE && f < end; f++)
+            if (is_whole(b, kept[v], f) && stamp_of(b, kept[v], f) == stamp
+                && cluster_in(spare_at(b, kept[v], f)) == cluster)
+                return true;
+    }
+    return false;
+}
+
+/* Whether no two whole frames of a cluster in these blocks share a stamp. */
+static bool check_apart(const struct board *b, const uint32_t *kept)
+{
+    uint64_t seen[SEEN_BITS / 64] = { 0 };
+
+    for (uint32_t v = 0; v < b->gamma; v++)
+        for (uint32_t f = 0; kept[v] != NONE && f < b->frames; f++) {
+            uint32_t bit;
+
+            if (!is_whole(b, kept[v], f))
+                continue;
+            bit = stamp_of(b, kept[v], f) % SEEN_BITS;
+            if (seen[bit / 64] >> bit % 64 & 1 && repeated(b, kept, v, f))
+                return false;
+            seen[bit / 64] |= UINT64_C(1) << bit % 64;
+        }
+    return true;
+}
+
+/* Whether a region can be started. */
+static bool check_start_region(const struct board *b, uint32_t region)
+{
+    struct heads h;
+    uint32_t kept[MOST_VIRTUAL], open = 0;
+
+    if (!find_heads(b, region, &h))
+        return false;
+    for (uint32_t v = 0; v < b->gamma; v++) {
+        kept[v] = h.full[v] != NONE ? h.full[v] : h.open[v];
+        open += h.full[v] == NONE && h.open[v] != NONE;
+    }
+    return open <= 1 && check_apart(b, kept);
+}
+
+/* Whether the chip can be started. */
+static bool startable(const struct board *b)
+{
+    if (!check_alone_all(b))
+        return false;
+    for (uint32_t r = 0; r < b->mu; r++)
+        if (!check_start_region(b, r))
+            return false;
+    return true;
+}
+
+/* The BT entry that a block in use names. */
+static uint16_t *entry_of(const struct board *b, const struct lent *l,
+                          uint32_t block)
+{
+    const uint8_t *spare = spare_at(b, block, 0);
+
+    return l->bt + cluster_in(spare) % b->mu * b->gamma + spare[11];
+}
+
+/* BT, BST and the erases; how many. */
+static uint32_t start_blocks(const struct board *b, const struct lent *l)
+{
+    uint32_t erases = 0;
+
+    memset(l->bt, 255, (size_t)b->mu * b->gamma * sizeof *l->bt);
+    for (uint32_t i = 0; i < b->n; i++) {
+        l->bst[i] = block_good(b, i) ? FREE : RESERVED;
+        if (in_use(b, i) && block_full(b, i)) {
+            *entry_of(b, l, i) = (uint16_t)i;
+            l->bst[i] = USED;
+        }
+    }
+    for (uint32_t i = 0; i < b->n; i++) {
+        uint16_t *entry;
+
+        if (l->bst[i] != FREE || spare_at(b, i, 0)[6] != 0)
+            continue;
+        entry = entry_of(b, l, i);
+        if (*entry == NONE) {
+            *entry = (uint16_t)i;
+            l->bst[i] = USED;
+        } else {
+            erase(b, l, i);
+            erases++;
+        }
+    }
+    return erases;
+}
+
+/* One block's frames into CT, as frame numbers of the region; the largest
+   stamp so far. */
+static uint32_t start_block(const struct board *b, const struct lent *l,
+                            const uint16_t *bt, uint32_t virtual_block,
+                            uint32_t most)
+{
+    uint32_t block = bt[virtual_block];
+
+    for (uint32_t f = 0; f < b->frames; f++) {
+        const uint8_t *spare = spare_at(b, block, f);
+        uint32_t stamp, cluster, held;
+
+        if (spare[6] != 0)
+            break;
+        stamp = stamp_in(spare_in(spare));
+        most = stamp > most ? stamp : most;
+        if (!is_whole(b, block, f))
+            continue;
+        cluster = cluster_in(spare);
+        held = l->ct[cluster];
+        if (held == NONE
+            || stamp_of(b, bt[held / b->frames], held % b->frames) < stamp)
+            l->ct[cluster] = (uint16_t)(virtual_block * b->frames + f);
+    }
+    return most;
+}
+
+/* How many frames of a block are programmed. */
+static uint32_t frames_in(const struct board *b, uint32_t block)
+{
+    uint32_t k = 0;
+
+    while (k < b->frames && spare_at(b, block, k)[6] == 0)
+        k++;
+    return k;
+}
+
+/* A region's clusters, stamp and FST entry. */
+static void start_region(const struct board *b, const struct lent *l,
+                         uint32_t region)
+{
+    const uint16_t *bt = l->bt + (size_t)region * b->gamma;
+    uint32_t most = 0, open = NONE;
+
+    for (uint32_t v = 0; v < b->gamma; v++) {
+        if (bt[v] == NONE)
+            continue;
+        most = start_block(b, l, bt, v, most);
+        if (open == NONE || !block_full(b, bt[v]))
+            open = v;
+    }
+    l->stamps[region] = most;
+    l->fst[region] = open == NONE ? NONE
+        : (uint16_t)(open * b->d + (frames_in(b, bt[open]) - 1) / b->beta);
+}
+
+/* The marks of a virtual block: in each segment the last whole frame of each
+   cluster whose CT entry names it. */
+static void start_marks(const struct board *b, const struct lent *l,
+                        uint32_t entry)
+{
+    uint64_t *words = l->marks + WORDS * (size_t)entry;
+    uint32_t block = l->bt[entry];
+
+    memset(words, 0, WORDS * sizeof *words);
+    for (uint32_t f = 0; block != NONE && f < b->frames; f++) {
+        uint32_t segment = entry % b->gamma * b->d + f / b->beta;
+        uint32_t end = (f / b->beta + 1) * b->beta, cluster, later;
+
+        if (!is_whole(b, block, f))
+            continue;
+        cluster = cluster_in(spare_at(b, block, f));
+        if (l->ct[cluster] != segment)
+            continue;
+        for (later = f + 1; later < end; later++)
+            if (is_whole(b, block, later)
+                && cluster_in(spare_at(b, block, later)) == cluster)
+                break;
+        if (later == end)
+            words[f / 64] |= UINT64_C(1) << f % 64;
+    }
+}
+
+/* All tables, from the chip alone. */
+static uint64_t start_steps(const struct board *b, const struct lent *l)
+{
+    uint32_t erases = start_blocks(b, l);
+
+    memset(l->ct, 255, b->c * sizeof *l->ct);
+    for (uint32_t r = 0; r < b->mu; r++)
+        start_region(b, l, r);
+    for (uint32_t x = 0; x < b->c; x++)
+        if (l->ct[x] != NONE)
+            l->ct[x] = (uint16_t)(l->ct[x] / b->beta);
+    for (uint32_t i = 0; i < b->mu * b->gamma; i++)
+        start_marks(b, l, i);
+    return answer(ACCEPTED, 0, erases);
+}
+
+/* Refuses or makes the steps of a start. */
+uint64_t fast_start(uint32_t s, uint32_t alpha, uint32_t beta, uint32_t d,
+                    uint32_t mu, uint32_t gamma, uint32_t c, uint32_t n,
+                    uint8_t *chip, size_t chip_len,
+                    uint16_t *ct, size_t ct_len,
+                    uint16_t *bt, size_t bt_len,
+                    uint16_t *fst, size_t fst_len,
+                    uint8_t *bst, size_t bst_len,
+                    uint32_t *wear, size_t wear_len,
+                    uint64_t *marks, size_t marks_len,
+                    uint32_t *stamps, size_t stamps_len)
+{
+    struct board b = make_board(s, alpha, beta, d, mu, gamma, c, n);
+    struct lent l = { chip, ct, bt, fst, bst, wear, marks, stamps };
+    uint32_t reply = refuse_board(&b, chip_len, ct_len, bt_len, fst_len,
+                                  bst_len, wear_len, marks_len, stamps_len);
+    uint32_t good = 0;
+
+    if (reply != ACCEPTED)
+        return answer(reply, 0, 0);
+    look_at(&b, chip, ct, bt, fst, bst, wear, marks, stamps);
+    for (uint32_t i = 0; i < n; i++)
+        good += block_good(&b, i);
+    if (good < mu * gamma + 1)
+        return answer(TOO_FEW_BLOCKS, 0, 0);
+    if (!startable(&b))
+        return answer(NOT_ORDERLY, 0, 0);
+    return start_steps(&b, &l);
 }

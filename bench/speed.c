@@ -9,9 +9,11 @@
  *
  * Two rows are of a batch of 1,000 writes: as one queue, for which both sides
  * check the state once, and as single writes, of which there is one batch only.
+ * Two are of a start: on a full board, and with a block left over besides.
  *
- * The last row is the work of a write with reclaim without the check of the
- * state, on a board of the largest blocks and regions: F = 256, gamma = 16.
+ * One row of the last board, of the largest blocks and regions, F = 256 and
+ * gamma = 16, is the work of a write with reclaim without the check of the
+ * state.
  */
 #undef NDEBUG
 #include "boards.h"
@@ -88,10 +90,12 @@ static struct timed timed_call(char kind, uint32_t lba)
     uint64_t a, b;
 
     a = kind == 'F' ? cnftl_board_format(&product)
+      : kind == 'S' ? cnftl_board_start(&product)
       : kind == 'R' ? cnftl_board_read(&product, lba, 1, data[0], len)
                     : cnftl_board_write(&product, lba, 1, data[0], len);
     middle = now();
     b = kind == 'F' ? fast_format(CNFTL_BOARD(&plain))
+      : kind == 'S' ? fast_start(CNFTL_BOARD(&plain))
       : kind == 'R' ? fast_read(CNFTL_BOARD(&plain), lba, 1, data[1], len)
                     : fast_write(CNFTL_BOARD(&plain), lba, 1, data[1], len);
     end = now();
@@ -307,6 +311,36 @@ static void time_batches(const char *name, double look)
     print_row(name, "1,000 single writes", 0, look);
 }
 
+/* Puts the first half of a full block's pages into a free block of both
+   boards, as a reclaim that was cut short leaves them. */
+static void leave_over(void)
+{
+    const struct cnftl_params *p = &product.params;
+    size_t block = cnftl_pages_per_block(p) * cnftl_page_bytes(p);
+    size_t free_block = (size_t)p->mu * p->gamma * block;
+
+    memcpy(product.chip + free_block, product.chip, block / 2);
+    memcpy(plain.chip + free_block, plain.chip, block / 2);
+}
+
+/* The rows of a start on a full board, and of one that also has a block left
+   over. */
+static void time_starts(const char *name, double look)
+{
+    double end = begin_row();
+
+    fill_boards(product.params.beta * product.params.d);
+    while (goes_on(0, end))
+        time_call('S', 0);
+    print_row(name, "start", 0, look);
+    end = begin_row();
+    while (goes_on(0, end)) {
+        leave_over();
+        time_call('S', 0);
+    }
+    print_row(name, "start, a block left", 0, look);
+}
+
 /* All rows of one board. */
 static void time_board(const char *name, const struct cnftl_params *p,
                        double look)
@@ -324,6 +358,7 @@ static void time_board(const char *name, const struct cnftl_params *p,
     print_row(name, "write with reclaim", 1, look);
     if (p->mu > 2)
         time_batches(name, look);
+    time_starts(name, look);
     assert(same_boards());
     free_board(&product);
     free_board(&plain);
@@ -377,6 +412,7 @@ static void time_largest(const char *name, double look)
     print_row(name, "read", 0, look);
     print_row(name, "write with reclaim", 1, look);
     print_work(name);
+    time_starts(name, look);
     assert(same_boards());
     free_board(&product);
     free_board(&plain);
