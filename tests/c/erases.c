@@ -3,10 +3,10 @@
  * the answers of the layer on boards that are written for long.
  *
  * Each board is small and of any shape, and the layer formats it.  Then it gets
- * single writes, queues, releases, reads and calls that are refused.  The
- * erases of a region are those that the answers to its accepted writes count,
- * and two of them must never be fewer than G accepted writes to the region
- * apart, where G is the figure.  That is T-10 for every window: one with e
+ * single writes, queues, releases, reads, starts and calls that are refused.
+ * The erases of a region are those that the answers to its accepted writes
+ * count, and two of them must never be fewer than G accepted writes to the
+ * region apart, where G is the figure.  That is T-10 for every window: one with e
  * erases is then at least (e - 1)*G + 1 writes long, so k writes bring at most
  * k/G erases, rounded up.
  *
@@ -63,7 +63,7 @@ static bool reached;           /* whether a figure of 2 or more was reached:
 
 /* What was seen. */
 static uint64_t calls, boards, fewer_clusters, writes, items, erases;
-static uint64_t releases, reads, refusals[REPLIES];
+static uint64_t releases, reads, starts, refusals[REPLIES];
 /* By gamma: boards with a figure of 2 or more, those of them that reached it,
    and the erases by which they did. */
 static uint64_t roomy[MOST_GAMMA + 1], tight[MOST_GAMMA + 1];
@@ -314,6 +314,18 @@ static void read_one(void)
     reads++;
 }
 
+/* A start, at times with the tables lost; it erases nothing. */
+static void start_one(void)
+{
+    if (below(2) == 0) {
+        memset(board.ct, 255, cnftl_ct_entries(p) * sizeof *board.ct);
+        memset(board.bst, 255, cnftl_bst_entries(p));
+    }
+    if (cnftl_board_start(&board) != CNFTL_ACCEPTED)
+        fail("a start is refused, or erases a block");
+    starts++;
+}
+
 /* A queue of one write with these lengths of its lists. */
 static uint64_t short_queue(size_t requests_len, size_t answers_len)
 {
@@ -397,6 +409,8 @@ static void make_call(void)
         release_one();
     else if (kind == 1)
         read_one();
+    else if (kind == 2 && below(4) == 0)
+        start_one();
     else if (kind == 2)
         refused_call();
     else if (kind < 7)
@@ -412,15 +426,15 @@ static void make_call(void)
 static bool report(void)
 {
     bool all = fewer_clusters > 0 && items > 0 && erases >= calls / 10
-            && releases > 0 && reads > 0;
+            && releases > 0 && reads > 0 && starts > 0;
 
     printf("erases: %" PRIu64 " calls from seed %" PRIu64 " on %" PRIu64
            " boards, %" PRIu64 " of them with fewer clusters than regions\n",
            calls, seed, boards, fewer_clusters);
     printf("  %" PRIu64 " accepted writes, %" PRIu64 " of them in queues, %"
            PRIu64 " erases\n", writes, items, erases);
-    printf("  %" PRIu64 " releases, %" PRIu64 " reads, refused by reply:",
-           releases, reads);
+    printf("  %" PRIu64 " releases, %" PRIu64 " reads, %" PRIu64
+           " starts, refused by reply:", releases, reads, starts);
     for (int reply = 1; reply < REPLIES; reply++) {
         printf(" %d: %" PRIu64, reply, refusals[reply]);
         all = all && refusals[reply] > 0;

@@ -493,6 +493,74 @@ static void check_replies(void)
               CNFTL_NOT_ORDERLY, 0, 0));
 }
 
+/* Board T after the fifth write, with its tables lost and wear 1 throughout. */
+static void lose_tables(void)
+{
+    new_board();
+    assert(is(cnftl_board_format(&board), CNFTL_ACCEPTED, 0, 5));
+    for (int i = 0; i < 5; i++)
+        run_line(&session[i]);
+    memset(ct, 255, sizeof ct);
+    memset(bt, 255, sizeof bt);
+    memset(fst, 255, sizeof fst);
+    memset(bst, 255, sizeof bst);
+    memset(marks, 255, sizeof marks);
+    memset(stamps, 255, sizeof stamps);
+}
+
+/* Whether a start has found what there is after the fifth write. */
+static int is_found(void)
+{
+    static const uint16_t found_ct[6] = {
+        3, 0, 1, CNFTL_NONE, 2, CNFTL_NONE
+    };
+    static const uint16_t found_bt[4] = { 0, 2, 1, CNFTL_NONE };
+    static const uint8_t found_bst[5] = { 1, 1, 1, 0, 0 };
+
+    return memcmp(ct, found_ct, sizeof found_ct) == 0
+        && memcmp(bt, found_bt, sizeof found_bt) == 0
+        && fst[0] == 1 && fst[1] == 0
+        && memcmp(bst, found_bst, sizeof found_bst) == 0
+        && marks_are(2, 3, 1, 0) && stamps[0] == 4 && stamps[1] == 1;
+}
+
+/* A start: from the chip alone; again, which changes nothing; with a block left
+   over, which is erased; with the bytes of a page wrong, which is refused and
+   changes nothing; and its other replies. */
+static void check_start(void)
+{
+    static uint8_t before[640];
+
+    lose_tables();
+    assert(is(cnftl_board_release(&board, 0), CNFTL_NOT_ORDERLY, 0, 0));
+    memcpy(before, chip, sizeof chip);
+    assert(is(cnftl_board_start(&board), CNFTL_ACCEPTED, 0, 0) && is_found());
+    assert(memcmp(before, chip, sizeof chip) == 0);
+    assert(is(cnftl_board_start(&board), CNFTL_ACCEPTED, 0, 0) && is_found());
+    assert(is(cnftl_board_read(&board, 0, 2, data, 32), CNFTL_ACCEPTED, 0, 0)
+           && sector_is(0, 21) && sector_is(1, 17));
+
+    memcpy(chip + 3 * 128, chip, 64);
+    assert(is(cnftl_board_start(&board), CNFTL_ACCEPTED, 0, 1) && is_found());
+    assert(memcmp(before, chip, sizeof chip) == 0 && wear[3] == 2);
+
+    assert(is(cnftl_board_release(&board, 0), CNFTL_ACCEPTED, 0, 0));
+    assert(ct[0] == CNFTL_NONE);
+    assert(is(cnftl_board_start(&board), CNFTL_ACCEPTED, 0, 0) && is_found());
+
+    lose_tables();
+    chip[27] = 1;
+    memcpy(before, chip, sizeof chip);
+    assert(is(cnftl_board_start(&board), CNFTL_NOT_ORDERLY, 0, 0));
+    assert(memcmp(before, chip, sizeof chip) == 0 && bst[0] == 255
+           && ct[0] == CNFTL_NONE && stamps[0] == UINT32_MAX);
+    chip[21] = 0;
+    assert(is(cnftl_board_start(&board), CNFTL_TOO_FEW_BLOCKS, 0, 0));
+    board.params.gamma = 17;
+    assert(is(cnftl_board_start(&board), CNFTL_BAD_PARAMETER, 0, 0));
+    board.params.gamma = 2;
+}
+
 /* The wear: a format counts it up, and it stays at its largest number. */
 static void check_wear(void)
 {
@@ -656,6 +724,7 @@ int main(void)
     check_marks();
     check_stamps();
     check_spares();
+    check_start();
     check_wear();
     check_replies();
     printf("header: Board T answers as printed\n");

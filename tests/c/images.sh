@@ -13,6 +13,9 @@ put() { printf "$3" | dd of="$1" bs=1 seek="$2" conv=notrunc 2>"$room/err"; }
 # `broken COPY OFFSET BYTES` copies the image and does so with the copy.
 broken() { cp "$room/board" "$1" && put "$1" "$2" "$3"; }
 
+# `bare COPY` copies the image up to the end of its chip.
+bare() { head -c "$ct" "$room/board" >"$1"; }
+
 # `complains STATUS TEXT PROGRAM ARGUMENTS` runs a program; it should print nothing but this text, as one line on standard error after its own name.
 complains() {
     local expected=$1 text=$2 program=$3 status
