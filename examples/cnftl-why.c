@@ -6,12 +6,14 @@
  *
  * IMAGE is a file with a whole board in it (docs/IMAGE.md), which is read and
  * not changed.  The answer of cnftl_why is printed in words, with a drawing of
- * the frames that it speaks of.
+ * the frames that it speaks of.  Of a board that is not orderly, or whose
+ * tables are missing, it says what a start from the chip would make of the
+ * sector.
  *
  * Exit status: 0 the answer was given, 1 the layer refused the question, since
  * the board has no such sector, 2 wrong use, or the file is missing, no board
  * image of this version, or cannot be read, 3 the board is not orderly, and the
- * answer is the first rule that it breaks.
+ * first rule that it breaks was told.
  */
 #include "image.h"
 
@@ -157,9 +159,14 @@ static void draw_block(const struct cnftl_board *b, uint32_t virtual_block,
 
 /* ==== The answer ======================================================= */
 
-/* Tells which rule a board breaks that is not orderly. */
-static void tell_rule(const uint32_t *list)
+/* Tells which rule a board breaks that is not orderly, or that it has no
+   tables. */
+static void tell_rule(const uint32_t *list, int bare)
 {
+    if (bare) {
+        printf("The image ends with its chip: its tables are missing.\n");
+        return;
+    }
     printf("The board is not orderly: no read, write or release is accepted "
            "(reply %d).\n", CNFTL_NOT_ORDERLY);
     printf("Rule %lu is the first one broken:\n  %s.\n",
@@ -263,13 +270,36 @@ static void tell_answer(const struct cnftl_board *b, uint32_t region,
                "^ the frame meant\n");
 }
 
-/* The board in a file, or the end of the program. */
-static struct cnftl_board load(const char *path)
+/* Tells what would be so after a start from the chip, which is made on the
+   board in memory. */
+static void tell_start(const struct cnftl_board *b, uint32_t lba)
+{
+    uint64_t a = cnftl_board_start(b);
+    uint32_t reply = cnftl_reply_of(a), list[CNFTL_WHY_ENTRIES];
+
+    if (reply != CNFTL_ACCEPTED) {
+        printf("A start from the chip alone is refused with reply %lu:\n"
+               "  %s.\n", (unsigned long)reply,
+               reply == CNFTL_NOT_ORDERLY
+               ? "its blocks are not those that a power loss leaves"
+               : cnftl_reply_text(reply));
+        return;
+    }
+    printf("A start from the chip alone erases %lu block%s; after it:\n",
+           (unsigned long)cnftl_erases_of(a), plural(cnftl_erases_of(a)));
+    cnftl_board_why(b, lba, list);
+    tell_answer(b, cnftl_region_of(&b->params, lba), list);
+}
+
+/* The board in a file, and whether it is bare, without tables; or the end of
+   the program. */
+static struct cnftl_board load(const char *path, int *bare)
 {
     struct cnftl_board b;
     struct image_result r = image_load(&b, path);
 
-    if (r.fault != IMAGE_FINE)
+    *bare = r.fault == IMAGE_NO_TABLES;
+    if (r.fault != IMAGE_FINE && !*bare)
         fail(NO_ANSWER, "%s: %s", path, r.message);
     return b;
 }
@@ -295,6 +325,7 @@ int main(int argc, char **argv)
 {
     uint32_t list[CNFTL_WHY_ENTRIES], lba, reply, region;
     struct cnftl_board b;
+    int bare;
 
     if (argc == 2 && strcmp(argv[1], "--help") == 0) {
         fputs(help, stdout);
@@ -303,16 +334,18 @@ int main(int argc, char **argv)
     if (argc != 3)
         fail(NO_ANSWER, "use: cnftl-why IMAGE LBA");
     lba = number(argv[2]);
-    b = load(argv[1]);
+    b = load(argv[1], &bare);
     reply = ask(&b, lba, list);
     region = cnftl_region_of(&b.params, lba);
     printf("Sector %lu is at place %lu of cluster %lu, in region %lu.\n",
            (unsigned long)lba, (unsigned long)(lba % b.params.alpha),
            (unsigned long)(lba / b.params.alpha), (unsigned long)region);
-    if (reply == CNFTL_NOT_ORDERLY)
-        tell_rule(list);
-    else
+    if (reply == CNFTL_NOT_ORDERLY) {
+        tell_rule(list, bare);
+        tell_start(&b, lba);
+    } else {
         tell_answer(&b, region, list);
+    }
     image_free_board(&b);
     return reply == CNFTL_NOT_ORDERLY ? NOT_ORDERLY : ANSWERED;
 }

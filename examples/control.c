@@ -5,11 +5,13 @@
  *   control --help
  *
  * IMAGE is a file with a whole board in it (docs/IMAGE.md).  If there is no
- * such file, a new board is formatted.  Two stations share the board, and each
- * keeps a ledger of its own serials: ledger 0 in the sectors of region 0 and
- * ledger 1 in those of region 1.  What goes into one changes no answer about
- * the other.  The program lists both, enters a few new serials in each, every
- * one in a sector of its own, reads them back, and writes the image.
+ * such file, a new board is formatted.  If its tables are missing or do not fit
+ * the chip, as after a power loss, the board is started from its chip alone.
+ * Two stations share the board, and each keeps a ledger of its own serials:
+ * ledger 0 in the sectors of region 0 and ledger 1 in those of region 1.  What
+ * goes into one changes no answer about the other.  The program lists both,
+ * enters a few new serials in each, every one in a sector of its own, reads
+ * them back, and writes the image.
  *
  * Exit status: 0 done, 1 wrong use, 2 the file cannot be read or written, or
  * there is no memory for it, 3 the file is no board image of this version,
@@ -105,6 +107,70 @@ static struct cnftl_board format_new(const char *path, struct counts *counts)
     return b;
 }
 
+/* How many of the 16-bit entries of a table are not none. */
+static unsigned long entries_in(const uint16_t *table, size_t entries)
+{
+    unsigned long count = 0;
+
+    for (size_t i = 0; i < entries; i++)
+        count += table[i] != CNFTL_NONE;
+    return count;
+}
+
+/* How many blocks are in this state. */
+static unsigned long blocks_in(const struct cnftl_board *b, uint8_t state)
+{
+    unsigned long count = 0;
+
+    for (size_t i = 0; i < cnftl_bst_entries(&b->params); i++)
+        count += b->bst[i] == state;
+    return count;
+}
+
+/* Starts a board from its chip, and says what was found there. */
+static void start_board(const char *path, const char *why,
+                        const struct cnftl_board *b, struct counts *counts)
+{
+    unsigned long swept = counts->erases;
+
+    check("start", cnftl_board_start(b), counts);
+    swept = counts->erases - swept;
+    printf("%s: %s, so it was started from its chip\n", path, why);
+    printf("  %lu blocks in use, %lu free, %lu bad; %lu left over and erased\n",
+           blocks_in(b, CNFTL_BLOCK_USED), blocks_in(b, CNFTL_BLOCK_FREE),
+           blocks_in(b, CNFTL_BLOCK_RESERVED), swept);
+    printf("  %lu of %lu clusters found\n",
+           entries_in(b->ct, cnftl_ct_entries(&b->params)),
+           (unsigned long)b->params.c);
+}
+
+/* The same of a board whose tables do not fit.  A cluster that had no entry in
+   CT and has one now was released, or its entry was lost. */
+static void start_misfit(const char *path, const struct cnftl_board *b,
+                         struct counts *counts)
+{
+    size_t entries = cnftl_ct_entries(&b->params);
+    unsigned long back = entries;
+    uint16_t *before = malloc(entries * sizeof *before);
+
+    if (before == NULL)
+        fail(NO_ACCESS, "%s: no memory for its clusters", path);
+    memcpy(before, b->ct, entries * sizeof *before);
+    start_board(path, "its tables do not fit the chip", b, counts);
+    for (size_t i = 0; i < entries; i++)
+        back -= before[i] != CNFTL_NONE || b->ct[i] == CNFTL_NONE;
+    printf("  %lu of them had been released, or had lost their entry\n", back);
+    free(before);
+}
+
+/* Whether the layer takes chip and tables for an orderly board. */
+static int is_orderly(const struct cnftl_board *b)
+{
+    uint32_t list[CNFTL_WHY_ENTRIES];
+
+    return cnftl_reply_of(cnftl_board_why(b, 0, list)) == CNFTL_ACCEPTED;
+}
+
 /* The board in the file, or a new one if there is no file. */
 static struct cnftl_board open_board(const char *path, struct counts *counts)
 {
@@ -113,10 +179,15 @@ static struct cnftl_board open_board(const char *path, struct counts *counts)
 
     if (r.fault == IMAGE_NO_FILE)
         return format_new(path, counts);
-    check_image(path, &r);
+    if (r.fault != IMAGE_NO_TABLES)
+        check_image(path, &r);
     if (b.params.mu < LEDGERS)
         fail(ONE_REGION, "%s: the board has one region, for %d ledgers", path,
              LEDGERS);
+    if (r.fault == IMAGE_NO_TABLES)
+        start_board(path, r.message, &b, counts);
+    else if (!is_orderly(&b))
+        start_misfit(path, &b, counts);
     return b;
 }
 

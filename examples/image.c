@@ -71,6 +71,12 @@ static uint64_t image_bytes(const struct cnftl_params *p)
     return (uint64_t)HEADER_BYTES + cnftl_chip_bytes(p) + cnftl_table_bytes(p);
 }
 
+/* Bytes of an image that ends with its chip. */
+static uint64_t bare_bytes(const struct cnftl_params *p)
+{
+    return (uint64_t)HEADER_BYTES + cnftl_chip_bytes(p);
+}
+
 /* ==== The memory ======================================================= */
 
 /* The memory of a board of these parameters, all of it or none. */
@@ -155,19 +161,32 @@ static int take_longs(FILE *f, uint64_t *to, size_t entries)
     return 1;
 }
 
-/* Takes the chip and the tables, all that follows the header. */
-static int take_board(FILE *f, struct cnftl_board *b)
+/* Takes the tables, all that follows the chip. */
+static int take_tables(FILE *f, struct cnftl_board *b)
 {
     const struct cnftl_params *p = &b->params;
 
-    return take(f, b->chip, cnftl_chip_bytes(p))
-        && take_words(f, b->ct, cnftl_ct_entries(p))
+    return take_words(f, b->ct, cnftl_ct_entries(p))
         && take_words(f, b->bt, cnftl_bt_entries(p))
         && take_words(f, b->fst, cnftl_fst_entries(p))
         && take(f, b->bst, cnftl_bst_entries(p))
         && take_numbers(f, b->wear, cnftl_wear_entries(p))
         && take_longs(f, b->marks, cnftl_marks_entries(p))
         && take_numbers(f, b->stamps, cnftl_stamps_entries(p));
+}
+
+/* The tables of a board of which only the chip is left. */
+static void lose_tables(struct cnftl_board *b)
+{
+    const struct cnftl_params *p = &b->params;
+
+    memset(b->ct, 255, cnftl_ct_entries(p) * sizeof *b->ct);
+    memset(b->bt, 255, cnftl_bt_entries(p) * sizeof *b->bt);
+    memset(b->fst, 255, cnftl_fst_entries(p) * sizeof *b->fst);
+    memset(b->bst, 255, cnftl_bst_entries(p));
+    memset(b->wear, 0, cnftl_wear_entries(p) * sizeof *b->wear);
+    memset(b->marks, 255, cnftl_marks_entries(p) * sizeof *b->marks);
+    memset(b->stamps, 255, cnftl_stamps_entries(p) * sizeof *b->stamps);
 }
 
 /* Looks whether the image is of the version that is read here. */
@@ -209,8 +228,8 @@ static struct image_result take_header(FILE *f, struct cnftl_params *p)
     return fine;
 }
 
-/* Looks whether the file has the length that its parameters ask for, and goes
-   on after the header. */
+/* Looks whether the file has the length that its parameters ask for, or ends
+   with the chip, and goes on after the header. */
 static struct image_result check_size(FILE *f, const struct cnftl_params *p)
 {
     long size;
@@ -218,6 +237,8 @@ static struct image_result check_size(FILE *f, const struct cnftl_params *p)
     if (fseek(f, 0, SEEK_END) != 0 || (size = ftell(f)) < 0
         || fseek(f, HEADER_BYTES, SEEK_SET) != 0)
         return wrong(IMAGE_NO_ACCESS, "cannot be read");
+    if ((uint64_t)size == bare_bytes(p))
+        return wrong(IMAGE_NO_TABLES, "its tables are missing");
     if ((uint64_t)size != image_bytes(p))
         return wrong(IMAGE_WRONG_SIZE, "too %s: %ld bytes, not %llu",
                      (uint64_t)size < image_bytes(p) ? "short" : "long", size,
@@ -225,21 +246,35 @@ static struct image_result check_size(FILE *f, const struct cnftl_params *p)
     return fine;
 }
 
+/* Reads chip and tables into the memory of a board; the tables are lost where
+   the image ends with its chip. */
+static struct image_result take_board(FILE *f, struct cnftl_board *b,
+                                      struct image_result size)
+{
+    int bare = size.fault == IMAGE_NO_TABLES;
+
+    if (!take(f, b->chip, cnftl_chip_bytes(&b->params))
+        || (!bare && !take_tables(f, b))) {
+        image_free_board(b);
+        return wrong(IMAGE_NO_ACCESS, "cannot be read");
+    }
+    if (bare)
+        lose_tables(b);
+    return size;
+}
+
 /* Reads a board from an open image. */
 static struct image_result load(struct cnftl_board *b, FILE *f)
 {
     struct cnftl_params p;
-    struct image_result r = take_header(f, &p);
+    struct image_result r = take_header(f, &p), memory;
 
     if (r.fault == IMAGE_FINE)
         r = check_size(f, &p);
-    if (r.fault == IMAGE_FINE)
-        r = image_new_board(b, &p);
-    if (r.fault == IMAGE_FINE && !take_board(f, b)) {
-        image_free_board(b);
-        r = wrong(IMAGE_NO_ACCESS, "cannot be read");
-    }
-    return r;
+    if (r.fault != IMAGE_FINE && r.fault != IMAGE_NO_TABLES)
+        return r;
+    memory = image_new_board(b, &p);
+    return memory.fault == IMAGE_FINE ? take_board(f, b, r) : memory;
 }
 
 /* Reads the board in the file. */

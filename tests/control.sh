@@ -72,6 +72,45 @@ check "both ledgers are full" says < <(
     echo '0 pages programmed, 0 blocks erased'
 )
 
+# Starts: the board without its tables, and with an FST entry lost; both ledgers are whole, and the image is one with tables again.
+both() {
+    list 20
+    printf 'ledger %d is full\n' 0 1
+    printf 'ledger %d: 20 serials found, 0 entered, 20 now\n' 0 1
+    echo '0 pages programmed, 0 blocks erased'
+}
+cp "$room/board" "$room/whole"
+check "an image without its tables" bare "$room/bare"
+check "it takes the board's place" mv "$room/bare" "$room/board"
+check "the board is started from its chip" says < <(
+    echo 'board: its tables are missing, so it was started from its chip'
+    echo '  6 blocks in use, 4 free, 0 bad; 0 left over and erased'
+    echo '  20 of 20 clusters found'
+    both
+)
+check "the image has its tables again" says < <(both)
+check "and is as it was, but for FST and wear" [ "$(cmp -l "$room/whole" "$room/board" | awk '{ print ($1 > 3936 && $1 <= 3940) || ($1 > 3950 && $1 <= 3990) }' | sort -u)" = 1 ]
+# The CT entry of a cluster is gone, and its mark is not, so that the tables do not fit.
+check "cluster 19 loses its entry" broken "$room/lost" $((ct + 2 * 19)) '\377\377'
+check "the board with it" mv "$room/lost" "$room/board"
+check "a start brings it back" says < <(
+    echo 'board: its tables do not fit the chip, so it was started from its chip'
+    echo '  6 blocks in use, 4 free, 0 bad; 0 left over and erased'
+    echo '  20 of 20 clusters found'
+    echo '  1 of them had been released, or had lost their entry'
+    both
+)
+# The first frame of block 0 stands in block 9 too, as a reclaim that was cut short leaves it.
+left_over() { dd if="$room/board" of="$room/board" bs=1 skip=44 seek=$((44 + 9 * 8 * page)) count=$((2 * page)) conv=notrunc 2>"$room/err"; }
+check "a block is left over" left_over
+check "a start erases it" says < <(
+    echo 'board: its tables do not fit the chip, so it was started from its chip'
+    echo '  6 blocks in use, 4 free, 0 bad; 1 left over and erased'
+    echo '  20 of 20 clusters found'
+    echo '  0 of them had been released, or had lost their entry'
+    both | sed 's/, 0 blocks erased$/, 1 blocks erased/'
+)
+
 # `refuses STATUS TEXT FILE`: the program says so, and leaves the file as it was.
 refuses() { cp "$3" "$room/before" && complains "$1" "$2" control "$3" && cmp "$room/before" "$3"; }
 
@@ -91,8 +130,8 @@ fault() {
     esac
 }
 each_fault fault
-check "an FST entry becomes none" broken "$room/fst" "$fst" '\377\377'
-check "a board that is not orderly" refuses 5 "read was refused with reply 7: the board is not orderly" "$room/fst"
+check "the place in a page is wrong" broken "$room/place" $((44 + spare + 4)) '\001'
+check "a board that is not orderly, nor to be started" refuses 5 "start was refused with reply 7: the board is not orderly" "$room/place"
 # s=16, alpha=1, beta=1, d=2, mu=1, gamma=1, c=1, n=2: 128 bytes of chip and 52 of tables
 one_region() {
     printf 'CNFTLIMG\4\0\0\0\20\0\0\0\1\0\0\0\1\0\0\0\2\0\0\0\1\0\0\0\1\0\0\0\1\0\0\0\2\0\0\0' && head -c 180 /dev/zero

@@ -119,49 +119,60 @@ V valid, S stale, B begun, E erased, one letter a frame; ^ the frame meant
 END
 
 check "the first block full, the second begun" control 2
+# `breaks IMAGE RULE TEXT`: the rule that is told of sector 5, and then what a start would make of it, on standard input.
+breaks() {
+    tells 3 "$1" 5 < <(
+        echo 'Sector 5 is at place 1 of cluster 2, in region 0.'
+        echo 'The board is not orderly: no read, write or release is accepted (reply 7).'
+        printf 'Rule %s is the first one broken:\n  %s.\n' "$2" "$3"
+        cat
+    )
+}
+# Where nothing is wrong with the chip, and where its blocks are wrong themselves.
+found() {
+    cat <<'END'
+A start from the chip alone erases 0 blocks; after it:
+It reads from frame 3 of physical block 0,
+  which is virtual block 0 of region 0; segment 1 there:
+    segment     1  SV
+                    ^
+A read or a write of it looks at 1 spare area: that of frame 3.
+A write continues the open block: it takes frame 2 of virtual block 1,
+  physical block 2, and programs 2 pages:
+    segment     2  SV
+    segment     3  EE
+                   ^
+V valid, S stale, B begun, E erased, one letter a frame; ^ the frame meant
+END
+}
+refused() {
+    echo 'A start from the chip alone is refused with reply 7:'
+    echo '  its blocks are not those that a power loss leaves.'
+}
 check "a BST entry becomes 3" broken "$room/bst" "$bst" '\003'
-check "rule 1" tells 3 "$room/bst" 5 <<'END'
-Sector 5 is at place 1 of cluster 2, in region 0.
-The board is not orderly: no read, write or release is accepted (reply 7).
-Rule 1 is the first one broken:
-  a BST entry is not 0, 1 or 2.
-END
+check "rule 1" breaks "$room/bst" 1 "a BST entry is not 0, 1 or 2" < <(found)
 check "an FST entry becomes none" broken "$room/fst" "$fst" '\377\377'
-check "rule 8" tells 3 "$room/fst" 5 <<'END'
-Sector 5 is at place 1 of cluster 2, in region 0.
-The board is not orderly: no read, write or release is accepted (reply 7).
-Rule 8 is the first one broken:
-  FST does not name the open block's last segment, or two blocks are not full.
-END
+check "rule 8" breaks "$room/fst" 8 "FST does not name the open block's last segment, or two blocks are not full" < <(found)
+check "an image without its tables" bare "$room/bare"
+check "what a start makes of it" tells 3 "$room/bare" 5 < <(
+    echo 'Sector 5 is at place 1 of cluster 2, in region 0.'
+    echo 'The image ends with its chip: its tables are missing.'
+    found
+)
 
 check "frame 0, which is stale, gets a mark beside frames 1 and 3" broken "$room/marked" "$marks" '\013'
-check "rule 10" tells 3 "$room/marked" 5 <<'END'
-Sector 5 is at place 1 of cluster 2, in region 0.
-The board is not orderly: no read, write or release is accepted (reply 7).
-Rule 10 is the first one broken:
-  a mark is 1 where no frame is valid, or 0 where one is.
-END
+check "rule 10" breaks "$room/marked" 10 "a mark is 1 where no frame is valid, or 0 where one is" < <(found)
 check "the mark of frame 1 is lost" broken "$room/unmarked" "$marks" '\010'
 check "rule 10 for that too" grep -q '^Rule 10 is the first one broken' <(run "$room/cnftl-why" "$room/unmarked" 5)
 check "the marks are those of frames 1 and 3" broken "$room/same" "$marks" '\012'
 check "nothing was changed by that" cmp "$room/board" "$room/same"
 
 check "the first page names virtual block 1" broken "$room/virtual" $((44 + spare + 11)) '\001'
-check "rule 7" tells 3 "$room/virtual" 5 <<'END'
-Sector 5 is at place 1 of cluster 2, in region 0.
-The board is not orderly: no read, write or release is accepted (reply 7).
-Rule 7 is the first one broken:
-  a used block does not begin with frames of its virtual block and go on erased.
-END
+check "rule 7" breaks "$room/virtual" 7 "a used block does not begin with frames of its virtual block and go on erased" < <(refused)
 check "the second page gets another stamp than the first" broken "$room/mixed" $((44 + page + spare + 7)) '\000'
 check "rule 7 for that too" grep -q '^Rule 7 is the first one broken' <(run "$room/cnftl-why" "$room/mixed" 5)
 check "region 0 has taken 5 stamps, and its sixth write the sixth" broken "$room/stamped" "$stamps" '\005'
-check "rule 11" tells 3 "$room/stamped" 5 <<'END'
-Sector 5 is at place 1 of cluster 2, in region 0.
-The board is not orderly: no read, write or release is accepted (reply 7).
-Rule 11 is the first one broken:
-  a page has a larger stamp than the last one of its region.
-END
+check "rule 11" breaks "$room/stamped" 11 "a page has a larger stamp than the last one of its region" < <(found)
 check "it has taken 6" broken "$room/same" "$stamps" '\006'
 check "nothing was changed by that either" cmp "$room/board" "$room/same"
 
