@@ -1,6 +1,6 @@
 #!/usr/bin/env bash
 # T-04: the stack that the calls use, read off the archive's instructions, with the deepest chain of each; and the largest local array in the code
-# that a call reaches. The limits are the bench card's 4 KiB, and one page's buffer.
+# that they reach. The limits are the bench card's 4 KiB, for a write's arrays one page's buffer, and for any call's half of the card.
 set -u
 cd "$(dirname "$0")/.."
 . tests/c/common.sh
@@ -11,7 +11,6 @@ grep '^cnftl_' "$room/stack"
 most=$(sed -n 's/^most //p' "$room/stack")
 check "the deepest chain, $most bytes, is under $card" [ "$most" -gt 0 -a "$most" -lt "$card" ]
 
-# the longest array type or value in the crates that cnftl reaches: those that it uses, and what these use
 reaches() { # NAME..: these crates and all under them
     local all="$*" more
     while :; do
@@ -21,7 +20,15 @@ reaches() { # NAME..: these crates and all under them
     done
     echo "$all"
 }
-longest=$(for each in $(reaches cnftl); do grep -o -h -E '; [0-9]+\]' "crates/$each/src/lib.rt"; done | tr -d '; ]' | sort -n | tail -n 1)
-echo "largest local array: $longest elements"
-check "the largest local array, $longest, is at most $page" [ "$longest" -gt 0 -a "$longest" -le "$page" ]
+# Bytes of the longest array value in the crates that NAME.. reach, by the width that stands in its first element or its type.
+longest() {
+    for each in $(reaches "$@"); do grep -o -h -E '(u8|u16|u32|u64|usize); [0-9]+\]' "crates/$each/src/lib.rt"; done |
+        sed 's/usize/u64/; s/[^0-9]/ /g' | awk '{ n = $1 / 8 * $2; if (n > most) most = n } END { print most + 0 }'
+}
+one=$(longest call_write)
+echo "largest local array of a write: $one bytes"
+check "a write's largest local array, $one bytes, is at most $page" [ "$one" -gt 0 -a "$one" -le "$page" ]
+all=$(longest cnftl)
+echo "largest local array of any call: $all bytes"
+check "the largest local array, $all bytes, is at most half the card" [ "$all" -gt 0 -a "$all" -le $((card / 2)) ]
 counted
