@@ -22,16 +22,25 @@ use Rattle.check_pairs.specs.Rows.{Entered, Row}
 use Rattle.check_pairs.proofs.Pairs.{pairs-fail}
 use Rattle.check_pairs.proofs.Rows.{row-placed, row-same}
 
+-- a block that names no virtual block of the region leaves both rows as they are
+module _ (p : Params) (z : Sizes p) (chip : List ℕ) (r n : ℕ) (full part : List ℕ) (full-row : Row p (namesFull p chip r) n full) (part-row : Row p (namesOpen p chip r) n part) where
+  stays : ((v : ℕ) → names p chip r v n ≡ false) → Entered p chip r n true full part
+  stays no-name =
+      record {
+        fullRow = λ t. row-same p (z .gammaHigh) (namesFull p chip r) n full full-row (λ v k. unfold namesFull in rw (no-name v));
+        openRow = λ t. row-same p (z .gammaHigh) (namesOpen p chip r) n part part-row (λ v k. unfold namesOpen in rw (no-name v));
+        refused = λ f. absurd (never refl f);
+      }
+
+  pub stays-elsewhere : (regionNamed p (block p chip n) ≡ r → ⊥) → Entered p chip r n true full part
+  stays-elsewhere other = stays (λ v. unfold names in rw (ne-eqb (regionNamed p (block p chip n)) r other) (and-false (inUse p chip n)))
+
 module _ (p : Params) (z : Sizes p) (chip : List ℕ) (r n : ℕ) (low : n < p .N) (h : Head) (is : HeadOf p chip n h) where
   -- ---- which virtual block it names
 
   names-unused : h .used ≡ false → (v : ℕ) → names p chip r v n ≡ false
   unfolding names
   names-unused e v = rw (sym (is .usedIs) ∙ e)
-
-  names-other : h .used ≡ true → (h .region ≡ r → ⊥) → (v : ℕ) → names p chip r v n ≡ false
-  unfolding names
-  names-other e other v = rw (ne-eqb (regionNamed p (block p chip n)) r (λ q. other ((is .names e) .regionIs ∙ q))) (and-false (inUse p chip n))
 
   names-is : h .used ≡ true → h .region ≡ r → (v : ℕ) → names p chip r v n ≡ eqb (h .vblock .0) v
   unfolding names
@@ -40,19 +49,11 @@ module _ (p : Params) (z : Sizes p) (chip : List ℕ) (r n : ℕ) (low : n < p .
   -- ---- its place in the rows
 
   module _ (full part : List ℕ) (full-row : Row p (namesFull p chip r) n full) (part-row : Row p (namesOpen p chip r) n part) where
-    stays : ((v : ℕ) → names p chip r v n ≡ false) → Entered p chip r n true full part
-    stays no-name =
-        record {
-          fullRow = λ t. row-same p (z .gammaHigh) (namesFull p chip r) n full full-row (λ v k. unfold namesFull in rw (no-name v));
-          openRow = λ t. row-same p (z .gammaHigh) (namesOpen p chip r) n part part-row (λ v k. unfold namesOpen in rw (no-name v));
-          refused = λ f. absurd (never refl f);
-        }
-
     pub enters-unused : h .used ≡ false → Entered p chip r n true full part
-    enters-unused e = stays (names-unused e)
+    enters-unused e = stays p z chip r n full part full-row part-row (names-unused e)
 
     pub enters-other : h .used ≡ true → (h .region ≡ r → ⊥) → Entered p chip r n true full part
-    enters-other e other = stays (names-other e other)
+    enters-other e other = stays-elsewhere p z chip r n full part full-row part-row (λ q. other ((is .names e) .regionIs ∙ q))
 
     -- it names a virtual block of the region, and takes its place there, if that is free
     module _ (e : h .used ≡ true) (mine : h .region ≡ r) where

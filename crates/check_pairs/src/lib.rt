@@ -29,7 +29,7 @@ fn put(row: &mut [u16], v: VBlock, n: PBlock) -> bool
 }
 
 // Block n takes its place, if it names a virtual block of region r. False if another of its kind has it.
-fn enter(p: Params, chip: &[u8], r: usize, full: &mut [u16], part: &mut [u16], n: PBlock) -> bool
+fn place(p: Params, chip: &[u8], r: usize, full: &mut [u16], part: &mut [u16], n: PBlock) -> bool
     requires { ⌜ Asked p (now chip) ⌝ }
     requires { ⌜ n .0 < p .N ⌝ }
     requires { ⌜ Row p (namesFull p (now chip) r) (n .0) (now full) ⌝ }
@@ -47,6 +47,20 @@ fn enter(p: Params, chip: &[u8], r: usize, full: &mut [u16], part: &mut [u16], n
         return put(full, h.vblock, n);
     }
     put(part, h.vblock, n)
+}
+
+// The same. Most blocks are of another region, and that is seen first, in one page.
+fn enter(p: Params, chip: &[u8], r: usize, full: &mut [u16], part: &mut [u16], n: PBlock) -> bool
+    requires { ⌜ Asked p (now chip) ⌝ }
+    requires { ⌜ n .0 < p .N ⌝ }
+    requires { ⌜ Row p (namesFull p (now chip) r) (n .0) (now full) ⌝ }
+    requires { ⌜ Row p (namesOpen p (now chip) r) (n .0) (now part) ⌝ }
+    ensures { λ ok. ⌜ Entered p (now (chip .entry)) r (n .0) ok (now (full .exit)) (now (part .exit)) ⌝ }
+{
+    if chip_heads::elsewhere(p, chip, r, n) {
+        return true;
+    }
+    place(p, chip, r, full, part, n)
 }
 
 // Every block takes its place. False if two of a kind name one virtual block.

@@ -5,7 +5,7 @@ ghost use Prim.Native.Nat.{_<_};
 ghost use lib.ListN.{length};
 ghost use Rattle.rules.specs.Parameters.{allowed, blockBytes, chipBytes};
 ghost use Rattle.rules.specs.Pages.{block};
-ghost use Rattle.rules.specs.Start.{inUse, sound};
+ghost use Rattle.rules.specs.Start.{inUse, regionNamed, sound};
 ghost use Rattle.chip_heads.specs.Heads.{HeadOf, Names};
 use rules::PBlock;
 use rules::Params;
@@ -64,4 +64,16 @@ pub fn head_of(p: Params, chip: &[u8], n: PBlock) -> Head
         return unused();
     }
     says(p, blk)
+}
+
+// True if the first page of block n names no cluster of region r, whatever else the block is.
+pub fn elsewhere(p: Params, chip: &[u8], r: usize, n: PBlock) -> bool
+    requires { ⌜ allowed p ≡ true ⌝ }
+    requires { ⌜ length (now chip) ≡ chipBytes p ⌝ }
+    requires { ⌜ n .0 < p .N ⌝ }
+    ensures { λ o. ⌜ (o ≡ true → regionNamed p (block p (now (chip .entry)) (n .0)) ≡ r → ⊥) ⌝ }
+{
+    let fr = chip_blocks::frame_of(p, chip_blocks::block_of(p, chip, n), 0);
+    let c = chip_spares::cluster_in(p, fr);
+    (c.0 as u32 % p.mu as u32) as usize != r
 }
