@@ -15,6 +15,7 @@ pub mod Release
 pub mod Replies
 pub mod Refusals
 pub mod Calls
+pub mod Cuts
 pub mod Words
 pub mod Machine
 pub mod BoardT
