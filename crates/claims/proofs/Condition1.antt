@@ -20,6 +20,7 @@ use Rattle.rules.specs.Write.{Plan, continues, opens, planBlock, planOf, reclai
 use Rattle.rules.specs.Release.{released}
 use Rattle.rules.specs.Replies.{OrderlyBoard, isAccepted, replyOf}
 use Rattle.rules.specs.Calls.{Work, answerOf, answersIn, outcomeOf, over, workOf, writeAll, writeWork}
+use Rattle.rules.specs.Cuts.{limited, stepOutcome}
 use Rattle.rules.proofs.Admitted.{admitted, release-admitted, write-checks}
 use Rattle.rules.proofs.Continues.{Makes}
 use Rattle.rules.proofs.Counts.{format-counts, start-counts}
@@ -33,8 +34,10 @@ use Rattle.rules.proofs.Views.{free-block}
 use Rattle.rules.proofs.WritePromise.{makes, write-promise}
 use Rattle.starts.proofs.Again.{same-but-wear}
 use Rattle.starts.proofs.StartTables.{swept}
-use Rattle.claims.specs.Runs.{boardAfter, leaves, sectorAt}
-use Rattle.claims.specs.Conditions.{Condition1, Formats, Frees, InOrder, Reads, Serves, Starts, Unchanged, Writes, assignedBlocks, blocksOf, takesBlock}
+use Rattle.claims.specs.Runs.{sectorAt}
+use Rattle.claims.proofs.PlainRuns.{plainBoard, plainLeaves}
+use Rattle.claims.specs.Conditions.{Condition1, Formats, Frees, InOrder, Reads, Serves, Starts, Unchanged, WithBudget, Writes, assignedBlocks, blocksOf, takesBlock}
+use Rattle.claims.proofs.Budgets.{cuts, fewer-uncut, no-budget, refused-uncut, unspent-same}
 use Rattle.claims.proofs.Kept.{accepted-orderly, after-orderly}
 use Rattle.claims.proofs.Memory.{freed, read-agrees, stored}
 use Rattle.claims.proofs.Freed.{none-copied}
@@ -60,8 +63,8 @@ in-order p b h =
     record { state = h; all = blocks-total p z b t; used = used-total p z b t }
 
 -- on an orderly state
-kept-orderly : (p : Params) (b : Board) (c : Call) → OrderlyBoard p b → OrderlyBoard p (leaves p b c)
-unfolding boardAfter
+kept-orderly : (p : Params) (b : Board) (c : Call) → OrderlyBoard p b → OrderlyBoard p (plainLeaves p b c)
+unfolding plainBoard
 kept-orderly p b c h = after-orderly p b (c ∷ []) h
 
 -- a call that is no queue
@@ -206,6 +209,19 @@ module _ (p : Params) (b : Board) (l : Queue) where
           rw (call-refused p b (queue l) e)
           (record { counts = unfold answerOf programsIn erasesIn in (refl, refl, refl); bytes = unfold lent in refl; long = unfold lentAnswers in refl; past = unfold lentAnswers in refl })
 
+-- ---- a budget
+
+with-budget : (p : Params) (b : Board) (c : Call) (k : ℕ) → WithBudget p b c k ((workOf p b c) .parts) (outcomeOf p b c) (stepOutcome p b (limited k c))
+with-budget p b c k =
+    record {
+      refused = λ ne.
+          let e = is-refused (replyOf p b c) (λ a. ne (reply-is p b c ∙ a)) in
+          rw (unspent-same p b k c (refused-uncut p b k c e)) (refused-unchanged p b c e);
+      without = λ e. unspent-same p b k c (no-budget p b k c e);
+      unspent = λ h. unspent-same p b k c (fewer-uncut p b k c h);
+      spent = λ h e few. cuts p b k c h (sym (reply-is p b c) ∙ e) few;
+    }
+
 -- ---- the condition
 
 pub condition-1 : Condition1
@@ -213,12 +229,13 @@ condition-1 p b c =
     record {
       reply = rw (reply-is p b c) (reply-by-table p b c);
       refused = λ ne. refused-unchanged p b c (is-refused (replyOf p b c) (λ e. ne (reply-is p b c ∙ e)));
-      kept = λ h. unfold leaves in in-order p (leaves p b c) (kept-orderly p b c h);
-      order = λ e n. unfold leaves in in-order p (leaves p b c) (accepted-orderly p b c (no-queue c n) (sym (reply-is p b c) ∙ e));
+      kept = λ h. unfold plainLeaves in in-order p (plainLeaves p b c) (kept-orderly p b c h);
+      order = λ e n. unfold plainLeaves in in-order p (plainLeaves p b c) (accepted-orderly p b c (no-queue c n) (sym (reply-is p b c) ∙ e));
       formats = λ is e. rw is (format-formats p b (sym (reply-is p b format) ∙ (rw is at e)));
       reads = λ q is e. rw is (read-reads p b q (sym (reply-is p b (read q)) ∙ (rw is at e)));
       writes = λ q is e. rw is (write-writes p b q (sym (reply-is p b (write q)) ∙ (rw is at e)));
       frees = λ n is e. rw is (release-frees p b n (sym (reply-is p b (release n)) ∙ (rw is at e)));
       serves = λ l is. rw is (queue-serves p b l);
       starts = λ is e. rw is (start-starts p b (sym (reply-is p b start) ∙ (rw is at e)));
+      budget = with-budget p b c;
     }

@@ -5,7 +5,7 @@ use Prim.Native.Nat.{ℕ, _+_, _*_, _<_}
 use native.Mathlib.Omega.{arith}
 use native.Mathlib.Decide.{decLt}
 use mathlib.Core.Bool.{Bool, true, false, cond}
-use mathlib.Core.List.{List, [], _∷_}
+use mathlib.Core.List.{List, [], _∷_, map}
 use lib.Dec.{eqb, ltb}
 use lib.ListN.{List·getD-eq-default, getD, getD-replicate, length-replicate, replicate}
 use Rattle.rules.specs.declared.Params.{Params}
@@ -17,10 +17,12 @@ use Rattle.rules.specs.Marks.{marked, wordOf}
 use Rattle.rules.specs.Requests.{Call, format}
 use Rattle.rules.specs.Format.{formatted}
 use Rattle.rules.specs.Replies.{OrderlyBoard, replyOf}
+use Rattle.rules.specs.Cuts.{callOf, plain}
 use Rattle.rules.proofs.Isolation.{view-path}
 use Rattle.rules.proofs.TableFacts.{marks-in}
 use Rattle.marks.proofs.Tables.{region-word}
-use Rattle.claims.specs.Runs.{Told, boardAfter, leaves, partsOf, partsTo, requestsTo, toRegion, toldTo, undisturbed}
+use Rattle.claims.specs.Runs.{Told, leaves, partsTo, requestsTo, toRegion, toldTo}
+use Rattle.claims.proofs.PlainRuns.{after-format, format-board, format-parts, plainBoard, plainLeaves, plainParts, plainUndisturbed, undisturbed-uncut}
 use Rattle.claims.specs.Conditions.{Condition3}
 use Rattle.claims.proofs.Kept.{accepted-orderly, after-orderly}
 use Rattle.claims.proofs.RegionMachine.{Gives, State, run-gives, stateAnswers, stateOf, stateRun}
@@ -60,43 +62,57 @@ format-state p b r = λ i. record { vw = format-view p b r i; stamp = format-sta
 
 -- ---- a run from a format on
 
-module _ (p : Params) (b : Board) (e : replyOf p b format ≡ Accepted) (r : ℕ) (low : r < p .mu) (cs : List Call) (n : undisturbed cs ≡ true) where
-  ordered : OrderlyBoard p (leaves p b format)
+module _ (p : Params) (b : Board) (e : replyOf p b format ≡ Accepted) (r : ℕ) (low : r < p .mu) (cs : List Call) (n : plainUndisturbed cs ≡ true) where
+  ordered : OrderlyBoard p (plainLeaves p b format)
   ordered = accepted-orderly p b format tt e
 
-  start : stateOf p (leaves p b format) r ≡ fresh
+  start : stateOf p (plainLeaves p b format) r ≡ fresh
   start = rw (format-leaves p b e) (format-state p b r)
 
-  gives : Gives p (leaves p b format) r (singlesOf p (leaves p b format) cs)
-  gives = run-gives p r low (leaves p b format) (singlesOf p (leaves p b format) cs) (all-single p (leaves p b format) cs) ordered (still-undisturbed p (leaves p b format) cs n)
+  gives : Gives p (plainLeaves p b format) r (singlesOf p (plainLeaves p b format) cs)
+  gives = run-gives p r low (plainLeaves p b format) (singlesOf p (plainLeaves p b format) cs) (all-single p (plainLeaves p b format) cs) ordered (still-undisturbed p (plainLeaves p b format) cs n)
 
   -- the format tells the region nothing
-  past-format : toldTo p r (partsOf p b (format ∷ cs)) ≡ toldTo p r (partsOf p (leaves p b format) cs)
+  past-format : toldTo p r (plainParts p b (format ∷ cs)) ≡ toldTo p r (plainParts p (plainLeaves p b format) cs)
   past-format = rw (parts-step p b format cs tt) (unfold toldTo partsTo partOf toRegion in refl)
 
-  region-answers : toldTo p r (partsOf p b (format ∷ cs)) ≡ stateAnswers p fresh (requestsTo p r (partsOf p (leaves p b format) cs))
-  region-answers = rw (past-format, parts-same p (leaves p b format) cs) (gives .answers ∙ rw start)
+  region-answers : toldTo p r (plainParts p b (format ∷ cs)) ≡ stateAnswers p fresh (requestsTo p r (plainParts p (plainLeaves p b format) cs))
+  region-answers = rw (past-format, parts-same p (plainLeaves p b format) cs) (gives .answers ∙ rw start)
 
-  region-state : stateOf p (boardAfter p b (format ∷ cs)) r ≡ stateRun p fresh (requestsTo p r (partsOf p (leaves p b format) cs))
-  unfolding boardAfter
-  region-state = rw (board-same p (leaves p b format) cs, parts-same p (leaves p b format) cs) (gives .left ∙ rw start)
+  region-state : stateOf p (plainBoard p b (format ∷ cs)) r ≡ stateRun p fresh (requestsTo p r (plainParts p (plainLeaves p b format) cs))
+  unfolding plainBoard
+  region-state = rw (board-same p (plainLeaves p b format) cs, parts-same p (plainLeaves p b format) cs) (gives .left ∙ rw start)
 
   -- its words of marks are a function of its view
-  region-words : (v w : ℕ) → v < p .gamma → w < 4 → wordAt ((boardAfter p b (format ∷ cs)) .marks) (markIndex p r v w) ≡ wordOf (marked p (view p (boardAfter p b (format ∷ cs)) r) v) w
-  region-words v w h k = rw (marks-in p (boardAfter p b (format ∷ cs)) (after .lengths) (after .tidy)) (region-word p (boardAfter p b (format ∷ cs)) r v w low h k)
+  region-words : (v w : ℕ) → v < p .gamma → w < 4 → wordAt ((plainBoard p b (format ∷ cs)) .marks) (markIndex p r v w) ≡ wordOf (marked p (view p (plainBoard p b (format ∷ cs)) r) v) w
+  region-words v w h k = rw (marks-in p (plainBoard p b (format ∷ cs)) (after .lengths) (after .tidy)) (region-word p (plainBoard p b (format ∷ cs)) r v w low h k)
     where
-      after : OrderlyBoard p (boardAfter p b (format ∷ cs))
-      after = unfold boardAfter in after-orderly p (leaves p b format) cs ordered
+      after : OrderlyBoard p (plainBoard p b (format ∷ cs))
+      after = unfold plainBoard in after-orderly p (plainLeaves p b format) cs ordered
 
+-- ---- the condition
+
+-- no call of either run is cut, so both are plain runs
 pub condition-3 : Condition3
-condition-3 p b b′ e e′ cs cs′ n n′ r low same =
-    let states : stateOf p (boardAfter p b (format ∷ cs)) r ≡ stateOf p (boardAfter p b′ (format ∷ cs′)) r =
-    region-state p b e r low cs n ∙ ap (stateRun p fresh) same ∙ sym (region-state p b′ e′ r low cs′ n′) in
-    let views : view p (boardAfter p b (format ∷ cs)) r ≡ view p (boardAfter p b′ (format ∷ cs′)) r = ap (λ (x : State). x .vw) states in
+condition-3 p b b′ e e′ ss ss′ n n′ r low same =
+    let cs = map callOf ss in
+    let cs′ = map callOf ss′ in
+    let u = undisturbed-uncut p (leaves p b (plain format)) ss n in
+    let u′ = undisturbed-uncut p (leaves p b′ (plain format)) ss′ n′ in
+    let alike : requestsTo p r (plainParts p (plainLeaves p b format) cs) ≡ requestsTo p r (plainParts p (plainLeaves p b′ format) cs′) =
+    ap (requestsTo p r) (sym (after-format p b ss (u .0))) ∙ same ∙ ap (requestsTo p r) (after-format p b′ ss′ (u′ .0)) in
+    let states : stateOf p (plainBoard p b (format ∷ cs)) r ≡ stateOf p (plainBoard p b′ (format ∷ cs′)) r =
+    region-state p b e r low cs (u .1) ∙ ap (stateRun p fresh) alike ∙ sym (region-state p b′ e′ r low cs′ (u′ .1)) in
+    let views : view p (plainBoard p b (format ∷ cs)) r ≡ view p (plainBoard p b′ (format ∷ cs′)) r = ap (λ (x : State). x .vw) states in
+    let is = format-board p b ss (u .0) in
+    let is′ = format-board p b′ ss′ (u′ .0) in
     record {
-      answers = region-answers p b e r low cs n ∙ ap (stateAnswers p fresh) same ∙ sym (region-answers p b′ e′ r low cs′ n′);
-      views = views;
+      answers =
+          rw (format-parts p b ss (u .0), format-parts p b′ ss′ (u′ .0))
+          (region-answers p b e r low cs (u .1) ∙ ap (stateAnswers p fresh) alike ∙ sym (region-answers p b′ e′ r low cs′ (u′ .1)));
+      views = rw (is, is′) views;
       words = λ v w h k.
-          region-words p b e r low cs n v w h k ∙ ap (λ (vw : View). wordOf (marked p vw v) w) views ∙ sym (region-words p b′ e′ r low cs′ n′ v w h k);
-      stamp = ap (λ (x : State). x .stamp) states;
+          rw (is, is′)
+          (region-words p b e r low cs (u .1) v w h k ∙ ap (λ (vw : View). wordOf (marked p vw v) w) views ∙ sym (region-words p b′ e′ r low cs′ (u′ .1) v w h k));
+      stamp = rw (is, is′) (ap (λ (x : State). x .stamp) states);
     }

@@ -1,4 +1,4 @@
--- From an accepted format on the state stays orderly, so a reply depends on the request alone; and what a run leaves is its operations' replay.
+-- A plain run keeps an orderly state orderly, so a reply depends on the request alone; its lengths stay right; and what it leaves is its operations' replay.
 -- Assumes nothing.
 use mathlib.Core.Path.{_≡_, refl, sym, ap, _∙_}
 use mathlib.Core.Logic.{_⊎_, inl, inr}
@@ -31,7 +31,8 @@ use Rattle.rules.proofs.Releases.{release-lengths, release-orderly}
 use Rattle.rules.proofs.Sizes.{sizes}
 use Rattle.rules.proofs.WritePromise.{write-promise}
 use Rattle.starts.proofs.StartPromise.{start-lengths, start-orderly}
-use Rattle.claims.specs.Runs.{AllFit, boardAfter, leaves, noPageTwice, partsOf, traceOf}
+use Rattle.claims.specs.Runs.{AllFit, noPageTwice}
+use Rattle.claims.proofs.PlainRuns.{plainBoard, plainLeaves, plainParts, plainTrace}
 use Rattle.claims.proofs.Once.{clean-once, fit-append}
 use Rattle.claims.proofs.Programs.{erases-fit, format-fits, write-fits}
 use Rattle.claims.proofs.Singles.{AllSingle, Single, all-single, board-same, parts-same, refused-leaves, singlesOf}
@@ -52,24 +53,24 @@ done-orderly p b (release c) s e =
 done-orderly p b (queue l) s e = absurd s
 done-orderly p b start s e = let a = start-admitted p b e in record { fine = a .fine; lengths = start-lengths p b a; tidy = start-orderly p b a }
 
-pub accepted-orderly : (p : Params) (b : Board) (c : Call) → Single c → replyOf p b c ≡ Accepted → OrderlyBoard p (leaves p b c)
+pub accepted-orderly : (p : Params) (b : Board) (c : Call) → Single c → replyOf p b c ≡ Accepted → OrderlyBoard p (plainLeaves p b c)
 accepted-orderly p b c s e = rw (accepted-leaves p b c s e) (done-orderly p b c s e)
 
 -- and a refused one keeps it
-pub orderly-kept : (p : Params) (b : Board) (c : Call) → Single c → OrderlyBoard p b → OrderlyBoard p (leaves p b c)
+pub orderly-kept : (p : Params) (b : Board) (c : Call) → Single c → OrderlyBoard p b → OrderlyBoard p (plainLeaves p b c)
 orderly-kept p b c s h = go (reply-cases (replyOf p b c))
   where
-    go : (replyOf p b c ≡ Accepted) ⊎ (isAccepted (replyOf p b c) ≡ false) → OrderlyBoard p (leaves p b c)
+    go : (replyOf p b c ≡ Accepted) ⊎ (isAccepted (replyOf p b c) ≡ false) → OrderlyBoard p (plainLeaves p b c)
     go (inl e) = accepted-orderly p b c s e
     go (inr e) = rw (refused-leaves p b c e) h
 
-singles-orderly : (p : Params) (b : Board) (cs : List Call) → AllSingle cs → OrderlyBoard p b → OrderlyBoard p (boardAfter p b cs)
-unfolding boardAfter
+singles-orderly : (p : Params) (b : Board) (cs : List Call) → AllSingle cs → OrderlyBoard p b → OrderlyBoard p (plainBoard p b cs)
+unfolding plainBoard
 singles-orderly p b [] s h = h
-singles-orderly p b (c ∷ cs) s h = singles-orderly p (leaves p b c) cs (s .1) (orderly-kept p b c (s .0) h)
+singles-orderly p b (c ∷ cs) s h = singles-orderly p (plainLeaves p b c) cs (s .1) (orderly-kept p b c (s .0) h)
 
 -- so after any run
-pub after-orderly : (p : Params) (b : Board) (run : List Call) → OrderlyBoard p b → OrderlyBoard p (boardAfter p b run)
+pub after-orderly : (p : Params) (b : Board) (run : List Call) → OrderlyBoard p b → OrderlyBoard p (plainBoard p b run)
 after-orderly p b run h = rw (board-same p b run) (singles-orderly p b (singlesOf p b run) (all-single p b run) h)
 
 -- ---- then the reply depends on the request alone, and of a write on its region's last stamp too
@@ -136,17 +137,17 @@ done-wear p b (release c) = refl
 done-wear p b (queue l) = refl
 done-wear p b start = refl
 
-ops-chip : (p : Params) (b : Board) (c : Call) → Single c → (leaves p b c) .chip ≡ replayChip p (b .chip) (opsBy p b c)
+pub ops-chip : (p : Params) (b : Board) (c : Call) → Single c → (plainLeaves p b c) .chip ≡ replayChip p (b .chip) (opsBy p b c)
 ops-chip p b c s = go (reply-cases (replyOf p b c))
   where
-    go : (replyOf p b c ≡ Accepted) ⊎ (isAccepted (replyOf p b c) ≡ false) → (leaves p b c) .chip ≡ replayChip p (b .chip) (opsBy p b c)
+    go : (replyOf p b c ≡ Accepted) ⊎ (isAccepted (replyOf p b c) ≡ false) → (plainLeaves p b c) .chip ≡ replayChip p (b .chip) (opsBy p b c)
     go (inl e) = rw (accepted-leaves p b c s e, accepted-ops p b c s e) (done-chip p b c)
     go (inr e) = rw (refused-leaves p b c e, refused-ops p b c s e) (unfold replayChip in refl)
 
-ops-wear : (p : Params) (b : Board) (c : Call) → Single c → (leaves p b c) .wear ≡ replayWear (b .wear) (opsBy p b c)
+ops-wear : (p : Params) (b : Board) (c : Call) → Single c → (plainLeaves p b c) .wear ≡ replayWear (b .wear) (opsBy p b c)
 ops-wear p b c s = go (reply-cases (replyOf p b c))
   where
-    go : (replyOf p b c ≡ Accepted) ⊎ (isAccepted (replyOf p b c) ≡ false) → (leaves p b c) .wear ≡ replayWear (b .wear) (opsBy p b c)
+    go : (replyOf p b c ≡ Accepted) ⊎ (isAccepted (replyOf p b c) ≡ false) → (plainLeaves p b c) .wear ≡ replayWear (b .wear) (opsBy p b c)
     go (inl e) = rw (accepted-leaves p b c s e, accepted-ops p b c s e) (done-wear p b c)
     go (inr e) = rw (refused-leaves p b c e, refused-ops p b c s e) (unfold replayWear in refl)
 
@@ -170,54 +171,50 @@ ops-clean p b c s = go (reply-cases (replyOf p b c))
 -- ---- a run of single calls
 
 -- its operations fit the chip, are clean, and chip and wear are their replay
-record Replayed (p : Params) (b b′ : Board) (ops : List Op) : Type 0 where
-  chip : b′ .chip ≡ replayChip p (b .chip) ops
-  wear : b′ .wear ≡ replayWear (b .wear) ops
-  erased : clean p (b .chip) ops ≡ true
-  fits : AllFit p ops
+pub record Replayed (p : Params) (b b′ : Board) (ops : List Op) : Type 0 where
+  pub chip : b′ .chip ≡ replayChip p (b .chip) ops
+  pub wear : b′ .wear ≡ replayWear (b .wear) ops
+  pub erased : clean p (b .chip) ops ≡ true
+  pub fits : AllFit p ops
 
-none-made : (p : Params) (b : Board) → Replayed p b b []
+pub none-made : (p : Params) (b : Board) → Replayed p b b []
 unfolding replayChip replayWear clean
 none-made p b = record { chip = refl; wear = refl; erased = refl; fits = tt }
 
-singles-made : (p : Params) (b : Board) (cs : List Call) → AllSingle cs → Replayed p b (boardAfter p b cs) (traceOf p b cs)
-unfolding boardAfter
-singles-made p b [] s = unfold boardAfter traceOf partsOf opsOf in none-made p b
-singles-made p b (c ∷ cs) s = rw (trace-step p b c cs) (more (singles-made p (leaves p b c) cs (s .1)))
+-- one after the other
+pub more-made : (p : Params) (b b′ b″ : Board) (xs ys : List Op) → Replayed p b b′ xs → Replayed p b′ b″ ys → Replayed p b b″ (xs ++ ys)
+more-made p b b′ b″ xs ys s t =
+    record {
+      chip = t .chip ∙ ap (λ (x : List ℕ). replayChip p x ys) (s .chip) ∙ sym (replay-append p (b .chip) xs ys);
+      wear = t .wear ∙ ap (λ (x : List ℕ). replayWear x ys) (s .wear) ∙ sym (wear-append (b .wear) xs ys);
+      erased = clean-append p (b .chip) xs ys (s .erased) (rw (← s .chip) (t .erased));
+      fits = fit-append p xs ys (s .fits) (t .fits);
+    }
+
+one-made : (p : Params) (b : Board) (c : Call) → Single c → Replayed p b (plainLeaves p b c) (opsBy p b c)
+one-made p b c s = record { chip = ops-chip p b c s; wear = ops-wear p b c s; erased = ops-clean p b c s; fits = ops-fit p b c s }
+
+singles-made : (p : Params) (b : Board) (cs : List Call) → AllSingle cs → Replayed p b (plainBoard p b cs) (plainTrace p b cs)
+unfolding plainBoard
+singles-made p b [] s = unfold plainBoard plainTrace plainParts opsOf in none-made p b
+singles-made p b (c ∷ cs) s =
+    rw (trace-step p b c cs)
+    (more-made p b (plainLeaves p b c) _ (opsBy p b c) (plainTrace p (plainLeaves p b c) cs) (one-made p b c (s .0)) (singles-made p (plainLeaves p b c) cs (s .1)))
+
+-- ---- any call
+
+pub run-made : (p : Params) (b : Board) (run : List Call) → Replayed p b (plainBoard p b run) (plainTrace p b run)
+run-made p b run = rw (board-same p b run) (unfold plainTrace in rw (parts-same p b run) (unfold plainTrace in singles-made p b (singlesOf p b run) (all-single p b run)))
+
+-- its lengths stay right
+singles-long : (p : Params) (b : Board) (cs : List Call) → AllSingle cs → lengthsFit p b ≡ true → lengthsFit p (plainBoard p b cs) ≡ true
+unfolding plainBoard
+singles-long p b [] s h = h
+singles-long p b (c ∷ cs) s h = singles-long p (plainLeaves p b c) cs (s .1) (go (reply-cases (replyOf p b c)))
   where
-    more : Replayed p (leaves p b c) (boardAfter p (leaves p b c) cs) (traceOf p (leaves p b c) cs) → Replayed p b (boardAfter p (leaves p b c) cs) (opsBy p b c ++ traceOf p (leaves p b c) cs)
-    more t =
-        record {
-          chip =
-              t .chip ∙ ap (λ (x : List ℕ). replayChip p x (traceOf p (leaves p b c) cs)) (ops-chip p b c (s .0))
-              ∙ sym (replay-append p (b .chip) (opsBy p b c) (traceOf p (leaves p b c) cs));
-          wear =
-              t .wear ∙ ap (λ (x : List ℕ). replayWear x (traceOf p (leaves p b c) cs)) (ops-wear p b c (s .0))
-              ∙ sym (wear-append (b .wear) (opsBy p b c) (traceOf p (leaves p b c) cs));
-          erased = clean-append p (b .chip) (opsBy p b c) (traceOf p (leaves p b c) cs) (ops-clean p b c (s .0)) (rw (← ops-chip p b c (s .0)) (t .erased));
-          fits = fit-append p (opsBy p b c) (traceOf p (leaves p b c) cs) (ops-fit p b c (s .0)) (t .fits);
-        }
+    go : (replyOf p b c ≡ Accepted) ⊎ (isAccepted (replyOf p b c) ≡ false) → lengthsFit p (plainLeaves p b c) ≡ true
+    go (inl e) = (accepted-orderly p b c (s .0) e) .lengths
+    go (inr e) = rw (refused-leaves p b c e) h
 
--- ---- any run
-
-module _ (p : Params) (b : Board) (run : List Call) where
-  made : Replayed p b (boardAfter p b run) (traceOf p b run)
-  made = rw (board-same p b run) (unfold traceOf in rw (parts-same p b run) (unfold traceOf in singles-made p b (singlesOf p b run) (all-single p b run)))
-
-  pub trace-chip : (boardAfter p b run) .chip ≡ replayChip p (b .chip) (traceOf p b run)
-  trace-chip = made .chip
-
-  pub trace-wear : (boardAfter p b run) .wear ≡ replayWear (b .wear) (traceOf p b run)
-  trace-wear = made .wear
-
-  pub trace-clean : clean p (b .chip) (traceOf p b run) ≡ true
-  trace-clean = made .erased
-
-  pub trace-fits : AllFit p (traceOf p b run)
-  trace-fits = made .fits
-
-  pub trace-once : lengthsFit p b ≡ true → noPageTwice (traceOf p b run)
-  trace-once h = clean-once p (b .chip) (traceOf p b run) size (made .fits) (made .erased)
-    where
-      size : length (b .chip) ≡ chipBytes p
-      size = unfold lengthsFit in eqb-true _ _ ((truths _ h) .0)
+pub run-long : (p : Params) (b : Board) (run : List Call) → lengthsFit p b ≡ true → lengthsFit p (plainBoard p b run) ≡ true
+run-long p b run h = rw (board-same p b run) (singles-long p b (singlesOf p b run) (all-single p b run) h)

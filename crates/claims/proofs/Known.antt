@@ -12,16 +12,16 @@ use Rattle.rules.specs.Requests.{Call, Request, format, itemRequests, queue, re
 use Rattle.rules.specs.Replies.{isAccepted, replyOf}
 use Rattle.rules.specs.Calls.{Part, queueWork, workOf}
 use Rattle.rules.proofs.Outcomes.{reply-cases, reply-is}
-use Rattle.claims.specs.Runs.{Known, boardAfter, knownAfter, leaves, learns, learnsAll, partsOf}
-use Rattle.claims.specs.Requests.{writesOf}
-use Rattle.claims.proofs.Singles.{Single, one-board, queue-as-singles, singles, singlesOf}
+use Rattle.claims.specs.Runs.{Known, learns}
+use Rattle.claims.proofs.PlainRuns.{learnsAll, plainBoard, plainKnown, plainLeaves, plainParts, plainWrites}
+use Rattle.claims.proofs.Singles.{Single, one-board, queue-parts, singles, singlesOf}
 use Rattle.claims.proofs.Steps.{its-part, partOf}
 
 -- ---- a call that is no queue
 
 -- what it teaches, by its reply
 unfoldable pub knownBy : Params → Board → Call → Known → Known
-knownBy p b c k = cond (isAccepted (replyOf p b c)) (learns p (leaves p b c) c k) k
+knownBy p b c k = cond (isAccepted (replyOf p b c)) (learns p (plainLeaves p b c) c k) k
 
 -- it has one part
 one-part : (p : Params) (b b′ : Board) (c : Call) (k : Known) → Single c
@@ -29,9 +29,9 @@ one-part : (p : Params) (b b′ : Board) (c : Call) (k : Known) → Single c
 unfolding learnsAll partOf
 one-part p b b′ c k s = rw (its-part p b c s) (ap (λ (r : Reply). cond (isAccepted r) (learns p b′ c k) k) (reply-is p b c))
 
-pub known-step : (p : Params) (b : Board) (c : Call) (cs : List Call) (k : Known) → Single c → knownAfter p b (c ∷ cs) k ≡ knownAfter p (leaves p b c) cs (knownBy p b c k)
-unfolding knownAfter knownBy
-known-step p b c cs k s = ap (knownAfter p (leaves p b c) cs) (one-part p b (leaves p b c) c k s)
+pub known-step : (p : Params) (b : Board) (c : Call) (cs : List Call) (k : Known) → Single c → plainKnown p b (c ∷ cs) k ≡ plainKnown p (plainLeaves p b c) cs (knownBy p b c k)
+unfolding plainKnown knownBy
+known-step p b c cs k s = ap (plainKnown p (plainLeaves p b c) cs) (one-part p b (plainLeaves p b c) c k s)
 
 -- ---- parts and runs one after the other
 
@@ -40,26 +40,26 @@ unfolding learnsAll
 all-append p b′ [] ys k = refl
 all-append p b′ (x ∷ xs) ys k = all-append p b′ xs ys _
 
-known-append : (p : Params) (b : Board) (xs ys : List Call) (k : Known) → knownAfter p b (xs ++ ys) k ≡ knownAfter p (boardAfter p b xs) ys (knownAfter p b xs k)
-unfolding knownAfter boardAfter
+known-append : (p : Params) (b : Board) (xs ys : List Call) (k : Known) → plainKnown p b (xs ++ ys) k ≡ plainKnown p (plainBoard p b xs) ys (plainKnown p b xs k)
+unfolding plainKnown plainBoard
 known-append p b [] ys k = refl
-known-append p b (c ∷ xs) ys k = known-append p (leaves p b c) xs ys _
+known-append p b (c ∷ xs) ys k = known-append p (plainLeaves p b c) xs ys _
 
 -- ---- writes: what they teach does not depend on the board that is left
 
-writes-known : (p : Params) (b b′ : Board) (qs : List Request) (k : Known) → learnsAll p b′ (partsOf p b (map write qs)) k ≡ knownAfter p b (map write qs) k
-unfolding partsOf
-writes-known p b b′ [] k = unfold knownAfter learnsAll in refl
+writes-known : (p : Params) (b b′ : Board) (qs : List Request) (k : Known) → learnsAll p b′ (plainParts p b (map write qs)) k ≡ plainKnown p b (map write qs) k
+unfolding plainParts
+writes-known p b b′ [] k = unfold plainKnown learnsAll in refl
 writes-known p b b′ (q ∷ qs) k =
-    all-append p b′ ((workOf p b (write q)) .parts) (partsOf p (leaves p b (write q)) (map write qs)) k
-    ∙ ap (learnsAll p b′ (partsOf p (leaves p b (write q)) (map write qs))) (one-part p b b′ (write q) k tt)
-    ∙ writes-known p (leaves p b (write q)) b′ qs (cond (isAccepted (replyOf p b (write q))) (learns p b′ (write q) k) k)
+    all-append p b′ ((workOf p b (write q)) .parts) (plainParts p (plainLeaves p b (write q)) (map write qs)) k
+    ∙ ap (learnsAll p b′ (plainParts p (plainLeaves p b (write q)) (map write qs))) (one-part p b b′ (write q) k tt)
+    ∙ writes-known p (plainLeaves p b (write q)) b′ qs (cond (isAccepted (replyOf p b (write q))) (learns p b′ (write q) k) k)
     ∙ sym (known-step p b (write q) (map write qs) k tt ∙ unfold knownBy learns in refl) ∙ refl
 
 -- ---- a call as its single calls
 
-one-known : (p : Params) (b : Board) (c : Call) (k : Known) → learnsAll p (leaves p b c) ((workOf p b c) .parts) k ≡ knownAfter p b (singles p b c) k
-unfolding singles knownAfter
+one-known : (p : Params) (b : Board) (c : Call) (k : Known) → learnsAll p (plainLeaves p b c) ((workOf p b c) .parts) k ≡ plainKnown p b (singles p b c) k
+unfolding singles plainKnown
 one-known p b format k = refl
 one-known p b (read q) k = refl
 one-known p b (write q) k = refl
@@ -68,17 +68,17 @@ one-known p b start k = refl
 one-known p b (queue l) k = go (reply-cases (replyOf p b (queue l)))
   where
     go : (replyOf p b (queue l) ≡ Accepted) ⊎ (isAccepted (replyOf p b (queue l)) ≡ false)
-        → learnsAll p (leaves p b (queue l)) ((workOf p b (queue l)) .parts) k ≡ knownAfter p b (cond (isAccepted (replyOf p b (queue l))) (writesOf p l) []) k
+        → learnsAll p (plainLeaves p b (queue l)) ((workOf p b (queue l)) .parts) k ≡ plainKnown p b (cond (isAccepted (replyOf p b (queue l))) (plainWrites p l) []) k
     go (inl e) =
-        rw ((queue-as-singles p b l e) .parts, e) (unfold isAccepted writesOf in writes-known p b (leaves p b (queue l)) (itemRequests p (l .bytes) (l .items)) k)
+        rw (queue-parts p b l e, e) (unfold isAccepted plainWrites in writes-known p b (plainLeaves p b (queue l)) (itemRequests p (l .bytes) (l .items)) k)
     go (inr e) = unfold workOf queueWork learnsAll in rw e
 
 -- ---- a run as its single calls
 
-pub known-same : (p : Params) (b : Board) (run : List Call) (k : Known) → knownAfter p b run k ≡ knownAfter p b (singlesOf p b run) k
-unfolding singlesOf knownAfter
+pub known-same : (p : Params) (b : Board) (run : List Call) (k : Known) → plainKnown p b run k ≡ plainKnown p b (singlesOf p b run) k
+unfolding singlesOf plainKnown
 known-same p b [] k = refl
 known-same p b (c ∷ cs) k =
-    known-same p (leaves p b c) cs (learnsAll p (leaves p b c) ((workOf p b c) .parts) k)
-    ∙ ap₂ (λ (x : Board) (y : Known). knownAfter p x (singlesOf p (leaves p b c) cs) y) (one-board p b c) (one-known p b c k)
-    ∙ sym (known-append p b (singles p b c) (singlesOf p (leaves p b c) cs) k)
+    known-same p (plainLeaves p b c) cs (learnsAll p (plainLeaves p b c) ((workOf p b c) .parts) k)
+    ∙ ap₂ (λ (x : Board) (y : Known). plainKnown p x (singlesOf p (plainLeaves p b c) cs) y) (one-board p b c) (one-known p b c k)
+    ∙ sym (known-append p b (singles p b c) (singlesOf p (plainLeaves p b c) cs) k)

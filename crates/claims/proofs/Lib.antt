@@ -1,4 +1,5 @@
 pub mod ReplyTable
+pub mod PlainRuns
 pub mod Singles
 pub mod Steps
 pub mod Once
@@ -8,9 +9,13 @@ pub mod Known
 pub mod Memory
 pub mod Freed
 pub mod Stamps
-pub mod Condition1
+pub mod Budgets
+pub mod CutTraces
 pub mod Again
+pub mod Condition1
 pub mod Standing
+pub mod Recovery
+pub mod Beliefs
 pub mod Condition2
 pub mod RegionMachine
 pub mod Condition3

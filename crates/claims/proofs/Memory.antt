@@ -25,13 +25,15 @@ use Rattle.rules.specs.Write.{written}
 use Rattle.rules.specs.Release.{released}
 use Rattle.rules.specs.Replies.{isAccepted, replyOf}
 use Rattle.rules.specs.Calls.{readBytes}
-use Rattle.rules.proofs.Admitted.{Admitted, admitted, read-checks, write-checks}
+use Rattle.rules.proofs.Admitted.{Admitted, Asked, admitted, read-checks, write-checks}
 use Rattle.rules.proofs.FormatPromise.{format-reads}
 use Rattle.rules.proofs.Isolation.{index-inj}
 use Rattle.rules.proofs.Outcomes.{reply-cases}
 use Rattle.rules.proofs.Releases.{release-others, release-reads}
+use Rattle.rules.proofs.Sizes.{Sizes}
 use Rattle.rules.proofs.WritePromise.{Promise, write-promise}
-use Rattle.claims.specs.Runs.{Known, Memory, blank, boardAfter, cleared, given, knownAfter, leaves, learns, sectorAt}
+use Rattle.claims.specs.Runs.{Known, Memory, blank, cleared, given, learns, sectorAt}
+use Rattle.claims.proofs.PlainRuns.{plainBoard, plainKnown, plainLeaves}
 use Rattle.claims.proofs.Known.{known-same, known-step, knownBy}
 use Rattle.claims.proofs.Singles.{AllSingle, Single, all-single, board-same, refused-leaves, singlesOf}
 use Rattle.claims.proofs.Steps.{accepted-leaves, doneBoard}
@@ -56,6 +58,18 @@ module _ (p : Params) (q : Request) (m : Memory) (a : ℕ) where
       go (no h) (yes k) = absurd (out (omega arith) k)
       go (no h) (no k) = rw (le-ltb a (q .lba + q .count) (omega arith)) (both (leb (q .lba) a))
 
+-- the LBAs of another cluster keep what they have
+pub given-else : (p : Params) (q : Request) (m : Memory) → Sizes p → Asked p q → (a : ℕ) → (clusterOf p a ≡ requestCluster p q → ⊥) → given p q m a ≡ m a
+given-else p q m z ask a ne = given-out p q m a apart
+  where
+    start : q .lba / p .alpha * p .alpha + q .lba % p .alpha ≡ q .lba
+    start = div-add-mod' (q .lba) (p .alpha)
+
+    apart : q .lba ≤ a → a < q .lba + q .count → ⊥
+    apart h k =
+        ne (index-inj (p .alpha) (a / p .alpha) (a % p .alpha) (q .lba / p .alpha) (a - q .lba / p .alpha * p .alpha) (mod-lt a (z .sectors)) (omega (arith, start, ask .inside))
+        (div-add-mod' a (p .alpha) ∙ omega (arith, start)))
+
 -- ---- the board's write
 
 module _ (p : Params) (b : Board) (q : Request) (e : replyOf p b (write q) ≡ Accepted) where
@@ -76,9 +90,6 @@ module _ (p : Params) (b : Board) (q : Request) (e : replyOf p b (write q) ≡ A
       start : q .lba / p .alpha * p .alpha + q .lba % p .alpha ≡ q .lba
       start = div-add-mod' (q .lba) (p .alpha)
 
-      inside : q .lba % p .alpha + q .count ≤ p .alpha
-      inside = acc .asked .inside
-
       -- in the request's cluster
       here : a / p .alpha ≡ q .lba / p .alpha → Dec (q .lba ≤ a) → Dec (a < q .lba + q .count) → sector p (written p b q) (q .lba / p .alpha) (a % p .alpha) ≡ given p q (sectorAt p b) a
       here same x y = pick x y
@@ -96,15 +107,9 @@ module _ (p : Params) (b : Board) (q : Request) (e : replyOf p b (write q) ≡ A
           pick (yes h) (no k) = promise .rest (a % p .alpha) (mod-lt a sectors) (λ u v. k (omega (arith, start, at))) ∙ before ∙ sym (given-out p q (sectorAt p b) a (λ u v. k v))
           pick (no h) y = promise .rest (a % p .alpha) (mod-lt a sectors) (λ u v. h (omega (arith, start, at))) ∙ before ∙ sym (given-out p q (sectorAt p b) a (λ u v. h u))
 
-      -- in another
-      apart : (a / p .alpha ≡ q .lba / p .alpha → ⊥) → q .lba ≤ a → a < q .lba + q .count → ⊥
-      apart ne h k =
-          ne (index-inj (p .alpha) (a / p .alpha) (a % p .alpha) (q .lba / p .alpha) (a - q .lba / p .alpha * p .alpha) (mod-lt a sectors) (omega (arith, start, inside))
-          (div-add-mod' a (p .alpha) ∙ omega (arith, start)))
-
       go : Dec (a / p .alpha ≡ q .lba / p .alpha) → sector p (written p b q) (a / p .alpha) (a % p .alpha) ≡ given p q (sectorAt p b) a
       go (yes same) = rw same (here same (decLe (q .lba) a) (decLt a (q .lba + q .count)))
-      go (no ne) = promise .others (a / p .alpha) (div-lt-iff-lt-mul sectors .1 low) ne (a % p .alpha) ∙ sym (given-out p q (sectorAt p b) a (apart ne))
+      go (no ne) = promise .others (a / p .alpha) (div-lt-iff-lt-mul sectors .1 low) ne (a % p .alpha) ∙ sym (given-else p q (sectorAt p b) (acc .sized) (acc .asked) a ne)
 
 -- ---- the board's release
 
@@ -135,7 +140,7 @@ unfolding sectorAt blank
 format-agrees p b e a h = format-reads p b e (clusterOf p a) (sectorOf p a)
 
 -- an accepted call changes both alike; what a start finds is what is then read
-done-agrees : (p : Params) (b : Board) (k : Known) (c : Call) → Single c → replyOf p b c ≡ Accepted → Agrees p b (k .memory)
+pub done-agrees : (p : Params) (b : Board) (k : Known) (c : Call) → Single c → replyOf p b c ≡ Accepted → Agrees p b (k .memory)
     → Agrees p (doneBoard p b c) ((learns p (doneBoard p b c) c k) .memory)
 unfolding learns doneBoard
 done-agrees p b k format s e h a low = format-agrees p b e a low
@@ -146,21 +151,21 @@ done-agrees p b k (queue l) s e h a low = absurd s
 done-agrees p b k start s e h a low = refl
 
 -- so does any call that is no queue
-call-agrees : (p : Params) (b : Board) (k : Known) (c : Call) → Single c → Agrees p b (k .memory) → Agrees p (leaves p b c) ((knownBy p b c k) .memory)
+pub call-agrees : (p : Params) (b : Board) (k : Known) (c : Call) → Single c → Agrees p b (k .memory) → Agrees p (plainLeaves p b c) ((knownBy p b c k) .memory)
 unfolding knownBy
 call-agrees p b k c s h = go (reply-cases (replyOf p b c))
   where
-    go : (replyOf p b c ≡ Accepted) ⊎ (isAccepted (replyOf p b c) ≡ false) → Agrees p (leaves p b c) ((cond (isAccepted (replyOf p b c)) (learns p (leaves p b c) c k) k) .memory)
+    go : (replyOf p b c ≡ Accepted) ⊎ (isAccepted (replyOf p b c) ≡ false) → Agrees p (plainLeaves p b c) ((cond (isAccepted (replyOf p b c)) (learns p (plainLeaves p b c) c k) k) .memory)
     go (inl e) = rw (accepted-leaves p b c s e, e) (unfold isAccepted in done-agrees p b k c s e h)
     go (inr e) = rw (e, refused-leaves p b c e) h
 
 -- a run of such calls, and any run
-run-agrees : (p : Params) (b : Board) (k : Known) (cs : List Call) → AllSingle cs → Agrees p b (k .memory) → Agrees p (boardAfter p b cs) ((knownAfter p b cs k) .memory)
-unfolding boardAfter
-run-agrees p b k [] s h = unfold knownAfter in h
-run-agrees p b k (c ∷ cs) s h = rw (known-step p b c cs k (s .0)) (run-agrees p (leaves p b c) (knownBy p b c k) cs (s .1) (call-agrees p b k c (s .0) h))
+run-agrees : (p : Params) (b : Board) (k : Known) (cs : List Call) → AllSingle cs → Agrees p b (k .memory) → Agrees p (plainBoard p b cs) ((plainKnown p b cs k) .memory)
+unfolding plainBoard
+run-agrees p b k [] s h = unfold plainKnown in h
+run-agrees p b k (c ∷ cs) s h = rw (known-step p b c cs k (s .0)) (run-agrees p (plainLeaves p b c) (knownBy p b c k) cs (s .1) (call-agrees p b k c (s .0) h))
 
-pub after-agrees : (p : Params) (b : Board) (k : Known) (run : List Call) → Agrees p b (k .memory) → Agrees p (boardAfter p b run) ((knownAfter p b run k) .memory)
+pub after-agrees : (p : Params) (b : Board) (k : Known) (run : List Call) → Agrees p b (k .memory) → Agrees p (plainBoard p b run) ((plainKnown p b run k) .memory)
 after-agrees p b k run h = rw (board-same p b run, known-same p b run k) (run-agrees p b k (singlesOf p b run) (all-single p b run) h)
 
 -- ---- the read

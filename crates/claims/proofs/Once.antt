@@ -18,6 +18,7 @@ use Rattle.lists.proofs.Parts.{next, part-part, put-length, put-other, put-same
 use Rattle.lists.proofs.Tests.{and-left, and-right, never, or-neither, so}
 use Rattle.rules.specs.declared.Params.{Params}
 use Rattle.rules.specs.Parameters.{blockBytes, chipBytes, frameBytes, pageBytes, pages}
+use Rattle.rules.specs.Pages.{block}
 use Rattle.rules.specs.Traces.{Op, clean, erase, onChip, pageAt, program, replayChip}
 use Rattle.rules.proofs.TableFacts.{chip-size}
 use Rattle.claims.specs.Runs.{AllFit, Fits, erasesBlock, noPageTwice}
@@ -38,7 +39,7 @@ pub fit-append : (p : Params) (xs ys : List Op) → AllFit p xs → AllFit p ys 
 fit-append p [] ys h k = k
 fit-append p (o ∷ xs) ys h k = (h .0, fit-append p xs ys (h .1) k)
 
-fit-back : (p : Params) (xs ys : List Op) → AllFit p (xs ++ ys) → AllFit p xs × AllFit p ys
+pub fit-back : (p : Params) (xs ys : List Op) → AllFit p (xs ++ ys) → AllFit p xs × AllFit p ys
 fit-back p [] ys h = (tt, h)
 fit-back p (o ∷ xs) ys h = let w = fit-back p xs ys (h .1) in ((h .0, w .0), w .1)
 
@@ -65,7 +66,7 @@ page-fits p chip n q e h k =
 block-fits : (p : Params) (chip : List ℕ) (n : ℕ) → length chip ≡ chipBytes p → n < p .N → n * blockBytes p + blockBytes p ≤ length chip
 block-fits p chip n e h = rw (e, chip-size p) (next (blockBytes p) n (p .N) h)
 
-op-length : (p : Params) (chip : List ℕ) (o : Op) → length chip ≡ chipBytes p → Fits p o → length (onChip p chip o) ≡ chipBytes p
+pub op-length : (p : Params) (chip : List ℕ) (o : Op) → length chip ≡ chipBytes p → Fits p o → length (onChip p chip o) ≡ chipBytes p
 unfolding onChip
 op-length p chip (program n q x) e h = put-length (pageBytes p) (pageAt p n q) x chip (page-fits p chip n q e (h .0) (h .1)) (whole-page p n q x h) ∙ e
 op-length p chip (erase n) e h = put-length (blockBytes p) n (replicate (blockBytes p) 255) chip (block-fits p chip n e h) (length-replicate (blockBytes p) 255) ∙ e
@@ -76,17 +77,33 @@ replay-length p chip [] e h = e
 replay-length p chip (o ∷ os) e h = replay-length p (onChip p chip o) os (op-length p chip o e (h .0)) (h .1)
 
 -- a page lies in its block
-page-of : (p : Params) (chip : List ℕ) (n q : ℕ) → q < pages p → part (pageBytes p) (pageAt p n q) chip ≡ part (pageBytes p) q (part (blockBytes p) n chip)
+pub page-of : (p : Params) (chip : List ℕ) (n q : ℕ) → q < pages p → part (pageBytes p) (pageAt p n q) chip ≡ part (pageBytes p) q (part (blockBytes p) n chip)
 page-of p chip n q h = rw (block-pages p) (sym (part-part (pageBytes p) (pages p) n q chip h))
+
+-- what an operation puts there, and what it leaves elsewhere
+pub program-same : (p : Params) (chip : List ℕ) (m k : ℕ) (x : List ℕ) → length chip ≡ chipBytes p → Fits p (program m k x) → (n q : ℕ) → pageAt p n q ≡ pageAt p m k
+    → part (pageBytes p) (pageAt p n q) (onChip p chip (program m k x)) ≡ x
+unfolding onChip
+program-same p chip m k x e h n q i = rw i (put-same (pageBytes p) (pageAt p m k) x chip (page-fits p chip m k e (h .0) (h .1)) (whole-page p m k x h))
+
+pub program-other : (p : Params) (chip : List ℕ) (m k : ℕ) (x : List ℕ) → length chip ≡ chipBytes p → Fits p (program m k x) → (n q : ℕ) → (pageAt p n q ≡ pageAt p m k → ⊥)
+    → part (pageBytes p) (pageAt p n q) (onChip p chip (program m k x)) ≡ part (pageBytes p) (pageAt p n q) chip
+unfolding onChip
+program-other p chip m k x e h n q i = put-other (pageBytes p) (pageAt p m k) x chip (page-fits p chip m k e (h .0) (h .1)) (whole-page p m k x h) (pageAt p n q) i
+
+pub erased-block : (p : Params) (chip : List ℕ) (m : ℕ) → length chip ≡ chipBytes p → m < p .N → block p (onChip p chip (erase m)) m ≡ replicate (blockBytes p) 255
+unfolding onChip block
+erased-block p chip m e h = put-same (blockBytes p) m (replicate (blockBytes p) 255) chip (block-fits p chip m e h) (length-replicate (blockBytes p) 255)
+
+pub other-block : (p : Params) (chip : List ℕ) (m : ℕ) → length chip ≡ chipBytes p → m < p .N → (n : ℕ) → (n ≡ m → ⊥) → block p (onChip p chip (erase m)) n ≡ block p chip n
+unfolding onChip block
+other-block p chip m e h n ne = put-other (blockBytes p) m (replicate (blockBytes p) 255) chip (block-fits p chip m e h) (length-replicate (blockBytes p) 255) n ne
 
 -- the erase of another block leaves it
 page-kept : (p : Params) (chip : List ℕ) (n q m : ℕ) → length chip ≡ chipBytes p → q < pages p → m < p .N → (n ≡ m → ⊥)
     → part (pageBytes p) (pageAt p n q) (onChip p chip (erase m)) ≡ part (pageBytes p) (pageAt p n q) chip
-unfolding onChip
-page-kept p chip n q m e h k ne =
-    page-of p (putPart (blockBytes p) m (replicate (blockBytes p) 255) chip) n q h
-    ∙ ap (part (pageBytes p) q) (put-other (blockBytes p) m (replicate (blockBytes p) 255) chip (block-fits p chip m e k) (length-replicate (blockBytes p) 255) n ne)
-    ∙ sym (page-of p chip n q h)
+unfolding block
+page-kept p chip n q m e h k ne = page-of p (onChip p chip (erase m)) n q h ∙ ap (part (pageBytes p) q) (other-block p chip m e k n ne) ∙ sym (page-of p chip n q h)
 
 -- ---- a page that is not all ones stays so until its block is erased
 
@@ -101,8 +118,8 @@ module _ (p : Params) (n q : ℕ) (block : n < p .N) (page : q < pages p) where
   one-op chip (program m k x) e h d s = go (ℕ-discrete (pageAt p n q) (pageAt p m k))
     where
       go : Dec (pageAt p n q ≡ pageAt p m k) → allAre 255 (part (pageBytes p) (pageAt p n q) (onChip p chip (program m k x))) ≡ false
-      go (yes i) = unfold onChip in rw (i, put-same (pageBytes p) (pageAt p m k) x chip (page-fits p chip m k e (h .0) (h .1)) (whole-page p m k x h)) (not-blank p m k x h)
-      go (no i) = unfold onChip in rw (put-other (pageBytes p) (pageAt p m k) x chip (page-fits p chip m k e (h .0) (h .1)) (whole-page p m k x h) (pageAt p n q) i) d
+      go (yes i) = rw (program-same p chip m k x e h n q i) (not-blank p m k x h)
+      go (no i) = rw (program-other p chip m k x e h n q i) d
   one-op chip (erase m) e h d s = rw (page-kept p chip n q m e page h (λ i. eqb-false m n ((or-neither (eqb m n) s) .0) (sym i))) d
 
   stays : (os : List Op) (chip : List ℕ) → length chip ≡ chipBytes p → AllFit p os → allAre 255 (part (pageBytes p) (pageAt p n q) chip) ≡ false

@@ -27,7 +27,8 @@ use Rattle.rules.proofs.Outcomes.{call-refused, read-accepted, release-accepted
 use Rattle.rules.proofs.Releases.{released-else, released-view}
 use Rattle.rules.proofs.TableFacts.{Lengths, lengths-in}
 use Rattle.rules.proofs.WritePromise.{write-promise}
-use Rattle.claims.specs.Runs.{Told, asked, boardAfter, leaves, partsOf, partsTo, requestsTo, resets, toRegion, told, toldTo, undisturbed}
+use Rattle.claims.specs.Runs.{Told, asked, partsTo, requestsTo, resets, toRegion, told, toldTo}
+use Rattle.claims.proofs.PlainRuns.{plainBoard, plainLeaves, plainParts, plainUndisturbed}
 use Rattle.claims.proofs.Kept.{clusterReply, orderly-kept, orderly-read, orderly-release, orderly-write, requestReply, writeReply}
 use Rattle.claims.proofs.Singles.{AllSingle, Single, refused-leaves}
 use Rattle.claims.proofs.Stamps.{other-stamp, released-stamp, written-stamp}
@@ -130,7 +131,7 @@ module _ (p : Params) (b : Board) (ordered : OrderlyBoard p b) where
       go (inl e) = rw e (unfold isAccepted in rw (← is) (written-told q (reply ∙ e)))
       go (inr e) = rw e (refused-told (write q) (writeReply p (stampAt (b .stamps) r) q) e reply)
 
-  write-own : (r : ℕ) (q : Request) → r < p .mu → requestRegion p q ≡ r → stateOf p (leaves p b (write q)) r ≡ stateBy p (stateOf p b r) (write q)
+  write-own : (r : ℕ) (q : Request) → r < p .mu → requestRegion p q ≡ r → stateOf p (plainLeaves p b (write q)) r ≡ stateBy p (stateOf p b r) (write q)
   unfolding stateBy stampAt nextStamp
   write-own r q low is = go (reply-cases (writeReply p (stampAt (b .stamps) r) q))
     where
@@ -138,16 +139,16 @@ module _ (p : Params) (b : Board) (ordered : OrderlyBoard p b) where
       reply = rw (← is) (orderly-write p b q ordered)
 
       go : (writeReply p (stampAt (b .stamps) r) q ≡ Accepted) ⊎ (isAccepted (writeReply p (stampAt (b .stamps) r) q) ≡ false)
-          → stateOf p (leaves p b (write q)) r ≡ stateBy p (stateOf p b r) (write q)
+          → stateOf p (plainLeaves p b (write q)) r ≡ stateBy p (stateOf p b r) (write q)
       go (inl e) =
           rw (e, write-leaves p b q (reply ∙ e))
           (unfold isAccepted in ap₂ state (rw (← is) ((write-promise p b q (reply ∙ e)) .own)) (rw (← is) (written-stamp p b q (rw is (rw (lengths .stampsLength) low)))))
       go (inr e) = rw (e, refused-leaves p b (write q) (rw reply e))
 
-  write-else : (r : ℕ) (q : Request) → r < p .mu → (requestRegion p q ≡ r → ⊥) → stateOf p (leaves p b (write q)) r ≡ stateOf p b r
+  write-else : (r : ℕ) (q : Request) → r < p .mu → (requestRegion p q ≡ r → ⊥) → stateOf p (plainLeaves p b (write q)) r ≡ stateOf p b r
   write-else r q low ne = go (reply-cases (replyOf p b (write q)))
     where
-      go : (replyOf p b (write q) ≡ Accepted) ⊎ (isAccepted (replyOf p b (write q)) ≡ false) → stateOf p (leaves p b (write q)) r ≡ stateOf p b r
+      go : (replyOf p b (write q) ≡ Accepted) ⊎ (isAccepted (replyOf p b (write q)) ≡ false) → stateOf p (plainLeaves p b (write q)) r ≡ stateOf p b r
       go (inl e) =
           rw (write-leaves p b q e)
           (ap₂ state ((write-promise p b q e) .isolated r low (λ i. ne (sym i))) (other-stamp p b q r ne))
@@ -164,24 +165,24 @@ module _ (p : Params) (b : Board) (ordered : OrderlyBoard p b) where
       go (inl e) = rw (e, release-accepted p b c (reply ∙ e)) (unfold isAccepted toldBy told answerOf programsIn erasesIn tells in refl)
       go (inr e) = refused-told (release c) (clusterReply p c) e reply
 
-  release-own : (r c : ℕ) → stateOf p (leaves p b (release c)) r ≡ stateBy p (stateOf p b r) (release c)
+  release-own : (r c : ℕ) → stateOf p (plainLeaves p b (release c)) r ≡ stateBy p (stateOf p b r) (release c)
   unfolding stateBy
   release-own r c = go (reply-cases (clusterReply p c))
     where
       reply : replyOf p b (release c) ≡ clusterReply p c
       reply = orderly-release p b c ordered
 
-      go : (clusterReply p c ≡ Accepted) ⊎ (isAccepted (clusterReply p c) ≡ false) → stateOf p (leaves p b (release c)) r ≡ stateBy p (stateOf p b r) (release c)
+      go : (clusterReply p c ≡ Accepted) ⊎ (isAccepted (clusterReply p c) ≡ false) → stateOf p (plainLeaves p b (release c)) r ≡ stateBy p (stateOf p b r) (release c)
       go (inl e) = rw (e, release-leaves p b c (reply ∙ e)) (unfold isAccepted in ap₂ state (released-view p b c r) (released-stamp p b c r))
       go (inr e) = rw (e, refused-leaves p b (release c) (rw reply e))
 
-  release-else : (r c : ℕ) → (regionOf p c ≡ r → ⊥) → stateOf p (leaves p b (release c)) r ≡ stateOf p b r
+  release-else : (r c : ℕ) → (regionOf p c ≡ r → ⊥) → stateOf p (plainLeaves p b (release c)) r ≡ stateOf p b r
   release-else r c ne = go (reply-cases (clusterReply p c))
     where
       reply : replyOf p b (release c) ≡ clusterReply p c
       reply = orderly-release p b c ordered
 
-      go : (clusterReply p c ≡ Accepted) ⊎ (isAccepted (clusterReply p c) ≡ false) → stateOf p (leaves p b (release c)) r ≡ stateOf p b r
+      go : (clusterReply p c ≡ Accepted) ⊎ (isAccepted (clusterReply p c) ≡ false) → stateOf p (plainLeaves p b (release c)) r ≡ stateOf p b r
       go (inl e) = rw (release-leaves p b c (reply ∙ e)) (ap₂ state (released-else p b c r ne) (released-stamp p b c r))
       go (inr e) = rw (refused-leaves p b (release c) (rw reply e))
 
@@ -224,8 +225,8 @@ one-more {A = A} f p r x xs = go (toRegion p r (x .asks))
 
 -- one call: to the region it is a step of the machine, to another it changes nothing here
 record Turn (p : Params) (b : Board) (r : ℕ) (c : Call) : Type 0 where
-  own : toRegion p r c ≡ true → (stateOf p (leaves p b c) r ≡ stateBy p (stateOf p b r) c) × (toldBy (outcomeOf p b c) ≡ answerBy p (stateOf p b r) c)
-  else : toRegion p r c ≡ false → stateOf p (leaves p b c) r ≡ stateOf p b r
+  own : toRegion p r c ≡ true → (stateOf p (plainLeaves p b c) r ≡ stateBy p (stateOf p b r) c) × (toldBy (outcomeOf p b c) ≡ answerBy p (stateOf p b r) c)
+  else : toRegion p r c ≡ false → stateOf p (plainLeaves p b c) r ≡ stateOf p b r
 
 turn : (p : Params) (b : Board) (r : ℕ) → r < p .mu → OrderlyBoard p b → (c : Call) → Single c → resets c ≡ false → Turn p b r c
 unfolding toRegion resets
@@ -241,30 +242,30 @@ turn p b r low h start s n = absurd (false≢true (sym n))
 
 -- what a run of single calls without a format or a start leaves a region and tells it
 pub record Gives (p : Params) (b : Board) (r : ℕ) (cs : List Call) : Type 0 where
-  pub left : stateOf p (boardAfter p b cs) r ≡ stateRun p (stateOf p b r) (requestsTo p r (partsOf p b cs))
-  pub answers : toldTo p r (partsOf p b cs) ≡ stateAnswers p (stateOf p b r) (requestsTo p r (partsOf p b cs))
+  pub left : stateOf p (plainBoard p b cs) r ≡ stateRun p (stateOf p b r) (requestsTo p r (plainParts p b cs))
+  pub answers : toldTo p r (plainParts p b cs) ≡ stateAnswers p (stateOf p b r) (requestsTo p r (plainParts p b cs))
 
-pub run-gives : (p : Params) (r : ℕ) → r < p .mu → (b : Board) (cs : List Call) → AllSingle cs → OrderlyBoard p b → undisturbed cs ≡ true → Gives p b r cs
-unfolding boardAfter undisturbed
-run-gives p r low b [] s h n = unfold boardAfter partsOf partsTo requestsTo toldTo stateRun stateAnswers in record { left = refl; answers = refl }
+pub run-gives : (p : Params) (r : ℕ) → r < p .mu → (b : Board) (cs : List Call) → AllSingle cs → OrderlyBoard p b → plainUndisturbed cs ≡ true → Gives p b r cs
+unfolding plainBoard plainUndisturbed
+run-gives p r low b [] s h n = unfold plainBoard plainParts partsTo requestsTo toldTo stateRun stateAnswers in record { left = refl; answers = refl }
 run-gives p r low b (c ∷ cs) s h n =
     go (so (toRegion p r c)) (turn p b r low h c (s .0) (not-true _ (and-left (not (resets c)) _ n)))
-    (run-gives p r low (leaves p b c) cs (s .1) (orderly-kept p b c (s .0) h) (and-right (not (resets c)) n))
+    (run-gives p r low (plainLeaves p b c) cs (s .1) (orderly-kept p b c (s .0) h) (and-right (not (resets c)) n))
   where
-    requests : requestsTo p r (partsOf p b (c ∷ cs)) ≡ cond (toRegion p r c) (asked c ∷ requestsTo p r (partsOf p (leaves p b c) cs)) (requestsTo p r (partsOf p (leaves p b c) cs))
-    requests = ap (requestsTo p r) (parts-step p b c cs (s .0)) ∙ unfold partOf requestsTo in one-more (λ (x : Part). asked (x .asks)) p r (partOf p b c) (partsOf p (leaves p b c) cs)
+    requests : requestsTo p r (plainParts p b (c ∷ cs)) ≡ cond (toRegion p r c) (asked c ∷ requestsTo p r (plainParts p (plainLeaves p b c) cs)) (requestsTo p r (plainParts p (plainLeaves p b c) cs))
+    requests = ap (requestsTo p r) (parts-step p b c cs (s .0)) ∙ unfold partOf requestsTo in one-more (λ (x : Part). asked (x .asks)) p r (partOf p b c) (plainParts p (plainLeaves p b c) cs)
 
-    answered : toldTo p r (partsOf p b (c ∷ cs)) ≡ cond (toRegion p r c) (toldBy (outcomeOf p b c) ∷ toldTo p r (partsOf p (leaves p b c) cs)) (toldTo p r (partsOf p (leaves p b c) cs))
-    answered = ap (toldTo p r) (parts-step p b c cs (s .0)) ∙ unfold partOf toldBy toldTo in one-more (λ (x : Part). told (x .answer) (x .bytes)) p r (partOf p b c) (partsOf p (leaves p b c) cs)
+    answered : toldTo p r (plainParts p b (c ∷ cs)) ≡ cond (toRegion p r c) (toldBy (outcomeOf p b c) ∷ toldTo p r (plainParts p (plainLeaves p b c) cs)) (toldTo p r (plainParts p (plainLeaves p b c) cs))
+    answered = ap (toldTo p r) (parts-step p b c cs (s .0)) ∙ unfold partOf toldBy toldTo in one-more (λ (x : Part). told (x .answer) (x .bytes)) p r (partOf p b c) (plainParts p (plainLeaves p b c) cs)
 
-    go : (toRegion p r c ≡ true) ⊎ (toRegion p r c ≡ false) → Turn p b r c → Gives p (leaves p b c) r cs → Gives p b r (c ∷ cs)
+    go : (toRegion p r c ≡ true) ⊎ (toRegion p r c ≡ false) → Turn p b r c → Gives p (plainLeaves p b c) r cs → Gives p b r (c ∷ cs)
     go (inl e) t below =
         record {
-          left = unfold boardAfter in (below .left ∙ rw (requests, e) (unfold stateRun in rw ((t .own e) .0, ← asked-state p (stateOf p b r) c)));
+          left = unfold plainBoard in (below .left ∙ rw (requests, e) (unfold stateRun in rw ((t .own e) .0, ← asked-state p (stateOf p b r) c)));
           answers = rw (answered, requests, e) (unfold stateAnswers in rw (below .answers, (t .own e) .1, (t .own e) .0, ← asked-state p (stateOf p b r) c, ← asked-answer p (stateOf p b r) c));
         }
     go (inr e) t below =
         record {
-          left = unfold boardAfter in (below .left ∙ rw (requests, e, t .else e));
+          left = unfold plainBoard in (below .left ∙ rw (requests, e, t .else e));
           answers = rw (answered, requests, e) (below .answers ∙ rw (t .else e));
         }

@@ -19,7 +19,7 @@ use Rattle.rules.specs.Start.{startOps, started}
 use Rattle.rules.specs.Replies.{isAccepted, replyOf}
 use Rattle.rules.specs.Calls.{Part, Work, does, opsOf, outcomeOf, readBytes, refuses, single, workOf, writeWork}
 use Rattle.rules.proofs.Outcomes.{reply-cases, work-accepted, work-refused}
-use Rattle.claims.specs.Runs.{leaves, partsOf, traceOf}
+use Rattle.claims.proofs.PlainRuns.{ops-append, plainLeaves, plainParts, plainTrace}
 use Rattle.claims.proofs.Singles.{Single, refused-leaves}
 
 -- ---- a work of one part
@@ -87,18 +87,13 @@ its-part p b c s = go (reply-cases (replyOf p b c))
 
 -- ---- the parts and the trace of a run, a call more
 
-pub parts-step : (p : Params) (b : Board) (c : Call) (cs : List Call) → Single c → partsOf p b (c ∷ cs) ≡ partOf p b c ∷ partsOf p (leaves p b c) cs
-unfolding partsOf
+pub parts-step : (p : Params) (b : Board) (c : Call) (cs : List Call) → Single c → plainParts p b (c ∷ cs) ≡ partOf p b c ∷ plainParts p (plainLeaves p b c) cs
+unfolding plainParts
 parts-step p b c cs s = rw (its-part p b c s)
 
-ops-append : (xs ys : List Part) → opsOf (xs ++ ys) ≡ opsOf xs ++ opsOf ys
-unfolding opsOf
-ops-append [] ys = refl
-ops-append (x ∷ xs) ys = rw (ops-append xs ys) (sym (append-assoc (x .ops) (opsOf xs) (opsOf ys)))
-
-pub trace-step : (p : Params) (b : Board) (c : Call) (cs : List Call) → traceOf p b (c ∷ cs) ≡ opsBy p b c ++ traceOf p (leaves p b c) cs
-unfolding traceOf partsOf opsBy
-trace-step p b c cs = ops-append ((workOf p b c) .parts) (partsOf p (leaves p b c) cs)
+pub trace-step : (p : Params) (b : Board) (c : Call) (cs : List Call) → plainTrace p b (c ∷ cs) ≡ opsBy p b c ++ plainTrace p (plainLeaves p b c) cs
+unfolding plainTrace plainParts opsBy
+trace-step p b c cs = ops-append ((workOf p b c) .parts) (plainParts p (plainLeaves p b c) cs)
 
 -- ---- what a call leaves and does, by its reply
 
@@ -110,30 +105,34 @@ pub refused-ops : (p : Params) (b : Board) (c : Call) → Single c → isAccepte
 unfolding opsBy single refuses opsOf
 refused-ops p b c s e = rw (is-done p b c s, work-refused p b c (doneOps p b c) (doneLooks p b c) (doneBytes p b c) (doneBoard p b c) e)
 
-pub accepted-leaves : (p : Params) (b : Board) (c : Call) → Single c → replyOf p b c ≡ Accepted → leaves p b c ≡ doneBoard p b c
-unfolding leaves outcomeOf single
+pub done-bytes : (p : Params) (b : Board) (c : Call) → Single c → replyOf p b c ≡ Accepted → ((workOf p b c) .bytes ≡ doneBytes p b c) × ((workOf p b c) .answers ≡ [])
+unfolding single
+done-bytes p b c s e = rw (is-done p b c s, work-accepted p b c (doneOps p b c) (doneLooks p b c) (doneBytes p b c) (doneBoard p b c) e) (refl, refl)
+
+pub accepted-leaves : (p : Params) (b : Board) (c : Call) → Single c → replyOf p b c ≡ Accepted → plainLeaves p b c ≡ doneBoard p b c
+unfolding plainLeaves outcomeOf single
 accepted-leaves p b c s e = ap (λ (w : Work). w .left) (is-done p b c s ∙ work-accepted p b c (doneOps p b c) (doneLooks p b c) (doneBytes p b c) (doneBoard p b c) e)
 
-pub format-leaves : (p : Params) (b : Board) → replyOf p b format ≡ Accepted → leaves p b format ≡ formatted p b
+pub format-leaves : (p : Params) (b : Board) → replyOf p b format ≡ Accepted → plainLeaves p b format ≡ formatted p b
 unfolding doneBoard
 format-leaves p b e = accepted-leaves p b format tt e
 
-pub read-leaves : (p : Params) (b : Board) (q : Request) → leaves p b (read q) ≡ b
+pub read-leaves : (p : Params) (b : Board) (q : Request) → plainLeaves p b (read q) ≡ b
 unfolding doneBoard
 read-leaves p b q = go (reply-cases (replyOf p b (read q)))
   where
-    go : (replyOf p b (read q) ≡ Accepted) ⊎ (isAccepted (replyOf p b (read q)) ≡ false) → leaves p b (read q) ≡ b
+    go : (replyOf p b (read q) ≡ Accepted) ⊎ (isAccepted (replyOf p b (read q)) ≡ false) → plainLeaves p b (read q) ≡ b
     go (inl e) = accepted-leaves p b (read q) tt e
     go (inr e) = refused-leaves p b (read q) e
 
-pub write-leaves : (p : Params) (b : Board) (q : Request) → replyOf p b (write q) ≡ Accepted → leaves p b (write q) ≡ written p b q
+pub write-leaves : (p : Params) (b : Board) (q : Request) → replyOf p b (write q) ≡ Accepted → plainLeaves p b (write q) ≡ written p b q
 unfolding doneBoard
 write-leaves p b q e = accepted-leaves p b (write q) tt e
 
-pub release-leaves : (p : Params) (b : Board) (c : ℕ) → replyOf p b (release c) ≡ Accepted → leaves p b (release c) ≡ released p b c
+pub release-leaves : (p : Params) (b : Board) (c : ℕ) → replyOf p b (release c) ≡ Accepted → plainLeaves p b (release c) ≡ released p b c
 unfolding doneBoard
 release-leaves p b c e = accepted-leaves p b (release c) tt e
 
-pub start-leaves : (p : Params) (b : Board) → replyOf p b start ≡ Accepted → leaves p b start ≡ started p b
+pub start-leaves : (p : Params) (b : Board) → replyOf p b start ≡ Accepted → plainLeaves p b start ≡ started p b
 unfolding doneBoard
 start-leaves p b e = accepted-leaves p b start tt e

@@ -1,12 +1,12 @@
 -- The tender's conditions 1 to 3 as statements, with what document 02's landed requests make of them: for all parameters and boards, over every call that is
--- delivered, and over every run of calls. proofs/ has the theorems.
+-- delivered, with a budget or without, and over every run of calls. proofs/ has the theorems.
 -- Assumes nothing.
 use Prim.Native.Nat.{ℕ, _+_, _*_, _≤_, _<_}
 use mathlib.Core.Path.{_≡_}
-use mathlib.Core.Logic.{_↔_}
-use mathlib.Core.Bool.{Bool, true, false, not, _&&_, cond}
+use mathlib.Core.Logic.{_↔_, _⊎_}
+use mathlib.Core.Bool.{Bool, true, false, not, _&&_, _||_, cond}
 use mathlib.Core.List.{List, [], _∷_, _++_}
-use lib.ListN.{length, drop}
+use lib.ListN.{length, drop, replicate, take}
 use lib.Dec.{eqb}
 use Rattle.lists.specs.Below.{countBelow, joinBelow}
 use Rattle.rules.specs.declared.Params.{Params}
@@ -15,7 +15,7 @@ use Rattle.rules.specs.declared.Reply.the-variants.{Accepted}
 use Rattle.rules.specs.Parameters.{frames, pages}
 use Rattle.rules.specs.Numbers.{clusterOf, regionOf, sectorOf}
 use Rattle.rules.specs.Pages.{block, held}
-use Rattle.rules.specs.Tables.{Board, none, ctAt, btEntry, bstAt, markIndex, wordAt, stampAt}
+use Rattle.rules.specs.Tables.{Board, none, ctAt, btEntry, bstAt, markIndex, marksLength, wordAt, stampAt}
 use Rattle.rules.specs.Regions.{looksAt, view}
 use Rattle.rules.specs.Traces.{replayChip, replayWear, clean}
 use Rattle.rules.specs.Requests.{Request, requestCluster, requestRegion, Queue, Call, format, read, write, release, queue, start, lent, lentAnswers}
@@ -23,10 +23,11 @@ use Rattle.rules.specs.Format.{bad, goodBlocks}
 use Rattle.rules.specs.Start.{leftOver}
 use Rattle.rules.specs.Write.{Plan, continues, opens, reclaims, planOf, planErases, planFrame, planBlock, copies}
 use Rattle.rules.specs.Replies.{OrderlyBoard, Row, replyOf, rowsOf}
-use Rattle.rules.specs.Calls.{Outcome, outcomeOf}
+use Rattle.rules.specs.Calls.{Outcome, Part, answersIn, opsOf, outcomeOf, over, workOf}
+use Rattle.rules.specs.Cuts.{Step, plain, limited, cutPart, finished, hasBudget, stepOutcome}
 use Rattle.starts.specs.Again.{SameButWear}
 use Rattle.starts.specs.Latest.{latest}
-use Rattle.claims.specs.Runs.{AllFit, Known, Memory, boardAfter, cleared, given, knownAfter, leaves, noPageTwice, partsOf, requestsTo, sectorAt, toldTo, traceOf, undisturbed}
+use Rattle.claims.specs.Runs.{AllFit, Belief, Known, Memory, beliefAfter, boardAfter, cleared, given, leaves, lost, noPageTwice, nothing, partsOf, requestsTo, sectorAt, stands, toldTo, traceOf, uncut, undisturbed}
 
 -- ---- condition 1: every call, on every content
 
@@ -133,8 +134,39 @@ pub record Starts (p : Params) (b : Board) (o : Outcome) : Type 0 where
   pub again : outcomeOf p (o .board) start ≡ record { answer = record { reply = Accepted; programs = 0; erases = 0; looks = 0 }; bytes = []; answers = []; board = o .board }
   pub wear : (b″ : Board) → b″ .chip ≡ b .chip → replyOf p b″ start ≡ Accepted → SameButWear (o .board) ((outcomeOf p b″ start) .board)
 
+-- T-07, which parts of a call are finished once k operations are made: the first ones, which make fewer than k, and with the one that is cut, if one is, there are k
+pub record Finishes (k : ℕ) (parts : List Part) : Type 0 where
+  pub first : (rest : List Part) × (parts ≡ finished k parts ++ (cutPart k parts ++ rest))
+  pub fewer : 0 < k → length (opsOf (finished k parts)) < k
+  pub enough : k ≤ length (opsOf (finished k parts ++ cutPart k parts))
+
+-- T-07, a call of these parts that is cut by a budget of k: "with the chip as it then stands, wear as counted so far and the other tables all ones; its answers then
+-- count for nothing": reply 0 and counts 0. Of a queue's answers those of the finished items stand, and every other is as lent
+pub record Cuts (p : Params) (b : Board) (c : Call) (k : ℕ) (parts : List Part) (o : Outcome) : Type 0 where
+  pub reply : o .answer .reply ≡ Accepted
+  pub counts : Idle (o .answer)
+  pub bytes : o .bytes ≡ lent c
+  pub answers : o .answers ≡ over (answersIn (finished k parts)) (lentAnswers c)
+  pub finishes : Finishes k parts
+  pub chip : o .board .chip ≡ replayChip p (b .chip) (take k (opsOf parts))
+  pub wear : o .board .wear ≡ replayWear (b .wear) (take k (opsOf parts))
+  pub ct : o .board .ct ≡ replicate (p .C) 65535
+  pub bt : o .board .bt ≡ replicate (p .mu * p .gamma) 65535
+  pub fst : o .board .fst ≡ replicate (p .mu) 65535
+  pub bst : o .board .bst ≡ replicate (p .N) 255
+  pub marks : o .board .marks ≡ replicate (marksLength p) 18446744073709551615
+  pub stamps : o .board .stamps ≡ replicate (p .mu) 4294967295
+
+-- T-07, a call of these parts whose outcome is o, and o′ with a budget of k. Refused it changes nothing. "format, write, queue and start also come with a budget", a read and a
+-- release do not. "A plain call equals one whose budget is never spent". "Once past its refusals such a call stops when that many are made", at its very last one too
+pub record WithBudget (p : Params) (b : Board) (c : Call) (k : ℕ) (parts : List Part) (o o′ : Outcome) : Type 0 where
+  pub refused : (o .answer .reply ≡ Accepted → ⊥) → Unchanged b c o′
+  pub without : hasBudget c ≡ false → o′ ≡ o
+  pub unspent : length (opsOf parts) < k → o′ ≡ o
+  pub spent : hasBudget c ≡ true → o .answer .reply ≡ Accepted → k ≤ length (opsOf parts) → Cuts p b c k parts o′
+
 -- a call on any content: its reply is the table's; refused it changes nothing; "Every accepted call on an orderly state leaves one", and so does every accepted
--- call but a queue, whose items are refused one by one, on any; and what each call does
+-- call but a queue, whose items are refused one by one, on any; what each call does; and what becomes of it with a budget
 pub record OfCall (p : Params) (b : Board) (c : Call) (o : Outcome) : Type 0 where
   pub reply : ByTable Accepted (rowsOf p b c) (o .answer .reply)
   pub refused : (o .answer .reply ≡ Accepted → ⊥) → Unchanged b c o
@@ -146,33 +178,60 @@ pub record OfCall (p : Params) (b : Board) (c : Call) (o : Outcome) : Type 0 whe
   pub frees : (n : ℕ) → c ≡ release n → o .answer .reply ≡ Accepted → Frees p b n o
   pub serves : (l : Queue) → c ≡ queue l → Serves l o
   pub starts : c ≡ start → o .answer .reply ≡ Accepted → Starts p b o
+  pub budget : (k : ℕ) → WithBudget p b c k ((workOf p b c) .parts) o (stepOutcome p b (limited k c))
 
 abbrev pub Condition1 : Type 0
 Condition1 = (p : Params) (b : Board) (c : Call) → OfCall p b c (outcomeOf p b c)
 
--- ---- condition 2: every run "from an accepted format on", over any content
+-- ---- condition 2: every run "from an accepted format on", over any content, through any cuts
 
 -- what an LBA was last: "A released cluster with whole frames left comes back with the latest, which is also its old content"
 unfoldable pub old : Params → Board → Known → Memory
 old p b k a = cond (k .released (clusterOf p a)) (latest p (b .chip) (clusterOf p a) (sectorOf p a)) (k .memory a)
 
--- T-07, a start on the board that a run has left: it is accepted and erases nothing, no chip byte changes, and "Every accepted write then reads back"
+-- T-07, a start on a board whose tables stand: it is accepted and erases nothing, no chip byte changes, and "Every accepted write then reads back"
 pub record Restarts (p : Params) (b : Board) (k : Known) (o : Outcome) : Type 0 where
   pub accepted : o .answer .reply ≡ Accepted
   pub counts : Idle (o .answer)
   pub chip : o .board .chip ≡ b .chip
   pub reads : (a : ℕ) → a < p .C * p .alpha → sectorAt p (o .board) a ≡ old p b k a
 
--- a run from board b on, which leaves board b′
-pub record OfRun (p : Params) (b : Board) (run : List Call) (b′ : Board) : Type 0 where
-  -- the state stays orderly, so that by the table a call is refused for its request alone
-  pub order : InOrder p b′
-  -- "an accepted read returns for each sector the bytes last accepted for it since the last accepted format, and all ones if there are none",
-  -- with T-03 "since the format or the last release", and with T-07 what a start found; whatever the host knew before the first format
-  pub reads : (k : Known) (q : Request) → replyOf p b′ (read q) ≡ Accepted
-      → (outcomeOf p b′ (read q)) .bytes ≡ joinBelow (q .count) (λ i. (knownAfter p b run k) .memory (q .lba + i))
-  -- a start may come at any time
-  pub starts : (k : Known) → Restarts p b′ (knownAfter p b run k) (outcomeOf p b′ start)
+-- where the tables stand: the state is orderly, so that by the table a call is refused for its request alone; "an accepted read returns for each sector the bytes last accepted
+-- for it since the last accepted format, and all ones if there are none", with T-03 "since the format or the last release", and with T-07 what a start found; and a start may
+-- come at any time
+pub record Intact (p : Params) (b : Board) (k : Known) : Type 0 where
+  pub order : InOrder p b
+  pub reads : (q : Request) → replyOf p b (read q) ≡ Accepted → (outcomeOf p b (read q)) .bytes ≡ joinBelow (q .count) (λ i. k .memory (q .lba + i))
+  pub starts : Restarts p b k (outcomeOf p b start)
+
+-- cluster c is that of one of these writes; every LBA of the board's in cluster c reads as in m
+unfoldable pub among : Params → List Request → ℕ → Bool
+among p [] c = false
+among p (q ∷ qs) c = eqb (requestCluster p q) c || among p qs c
+
+abbrev pub ReadsAs : Params → Board → ℕ → Memory → Type 0
+ReadsAs p b c m = (a : ℕ) → a < p .C * p .alpha → clusterOf p a ≡ c → sectorAt p b a ≡ m a
+
+-- T-07, a start on a board b whose tables a cut took: it is accepted, erases one block at most and leaves order. "Every accepted write then reads back, as does each item that a
+-- cut queue had finished unrefused; the write cut short reads wholly old or wholly new": new is what it gave, over what the host last knew of its cluster
+pub record Recovered (p : Params) (b : Board) (k : Known) (short : List Request) (o : Outcome) : Type 0 where
+  pub accepted : o .answer .reply ≡ Accepted
+  pub once : o .answer .erases ≤ 1
+  pub order : InOrder p (o .board)
+  pub kept : (c : ℕ) → among p short c ≡ false → ReadsAs p (o .board) c (old p b k)
+  pub whole : (q : Request) → short ≡ q ∷ [] → ReadsAs p (o .board) (requestCluster p q) (old p b k) ⊎ ReadsAs p (o .board) (requestCluster p q) (given p q (k .memory))
+
+-- what holds, by what the host knows; after a cut format nothing is promised until a format is accepted
+abbrev pub Holds : Params → Board → Belief → Type 0
+Holds p b nothing = Unit {0}
+Holds p b (stands k) = Intact p b k
+Holds p b (lost k short) = Recovered p b k short (outcomeOf p b start)
+
+-- a run from board b on, which leaves board b′, whatever the host believed before it
+pub record OfRun (p : Params) (b : Board) (run : List Step) (b′ : Board) : Type 0 where
+  pub now : (x : Belief) → Holds p b′ (beliefAfter p b run x)
+  -- without a cut the tables stand
+  pub intact : uncut p b run ≡ true → (x : Belief) → (k : Known) × (beliefAfter p b run x ≡ stands k)
   -- the chip and the wear are what the run's operations make of them
   pub chip : b′ .chip ≡ replayChip p (b .chip) (traceOf p b run)
   pub wear : b′ .wear ≡ replayWear (b .wear) (traceOf p b run)
@@ -186,31 +245,38 @@ pub record OfRun (p : Params) (b : Board) (run : List Call) (b′ : Board) : Typ
   pub sameBad : (n : ℕ) → n < p .N → bad p (b′ .chip) n ≡ bad p (b .chip) n
 
 abbrev pub Condition2 : Type 0
-Condition2 = (p : Params) (b : Board) → replyOf p b format ≡ Accepted → (cs : List Call) → OfRun p b (format ∷ cs) (boardAfter p b (format ∷ cs))
+Condition2 = (p : Params) (b : Board) → replyOf p b format ≡ Accepted → (ss : List Step) → OfRun p b (plain format ∷ ss) (boardAfter p b (plain format ∷ ss))
+
+-- what a start finds after a cut, as condition 2 has it
+abbrev pub ReadBackAfterCut : Type 0
+ReadBackAfterCut =
+    (p : Params) (b : Board) → replyOf p b format ≡ Accepted → (ss : List Step) (x : Belief) (k : Known) (short : List Request)
+    → beliefAfter p b (plain format ∷ ss) x ≡ lost k short
+    → Recovered p (boardAfter p b (plain format ∷ ss)) k short (outcomeOf p (boardAfter p b (plain format ∷ ss)) start)
 
 -- ---- condition 3: two runs
 
 -- two runs, from b on and from b′ on, give region r the same answers, counts and data, and leave it the same CT and FST entries, page contents,
 -- words of marks and last stamp
-pub record SameRegion (p : Params) (r : ℕ) (b b′ : Board) (run run′ : List Call) : Type 0 where
+pub record SameRegion (p : Params) (r : ℕ) (b b′ : Board) (run run′ : List Step) : Type 0 where
   pub answers : toldTo p r (partsOf p b run) ≡ toldTo p r (partsOf p b′ run′)
   pub views : view p (boardAfter p b run) r ≡ view p (boardAfter p b′ run′) r
   pub words : (v w : ℕ) → v < p .gamma → w < 4
       → wordAt ((boardAfter p b run) .marks) (markIndex p r v w) ≡ wordAt ((boardAfter p b′ run′) .marks) (markIndex p r v w)
   pub stamp : stampAt ((boardAfter p b run) .stamps) r ≡ stampAt ((boardAfter p b′ run′) .stamps) r
 
--- for "two boards .. each formatted with reply 0, not formatted again", and not started: "If the requests to one region are the same and in the same order", up to what
--- the bytes lent to a read hold; T-01: "over
--- the items of calls that answer 0; an item is its LBA, its count and its bytes, or that they do not lie there"
+-- for "two boards .. each formatted with reply 0, not formatted again", and T-07: it "ends at a board's first cut or start and holds again from the next format": "If the
+-- requests to one region are the same and in the same order", up to what the bytes lent to a read hold; T-01: "over the items of calls that answer 0; an item is its LBA, its
+-- count and its bytes, or that they do not lie there"
 abbrev pub Condition3 : Type 0
 Condition3 =
-    (p : Params) (b b′ : Board) → replyOf p b format ≡ Accepted → replyOf p b′ format ≡ Accepted
-    → (cs cs′ : List Call) → undisturbed cs ≡ true → undisturbed cs′ ≡ true → (r : ℕ) → r < p .mu
-    → requestsTo p r (partsOf p (leaves p b format) cs) ≡ requestsTo p r (partsOf p (leaves p b′ format) cs′)
-    → SameRegion p r b b′ (format ∷ cs) (format ∷ cs′)
+    (p : Params) (b b′ : Board) → replyOf p b format ≡ Accepted → replyOf p b′ format ≡ Accepted → (ss ss′ : List Step)
+    → undisturbed p (leaves p b (plain format)) ss ≡ true → undisturbed p (leaves p b′ (plain format)) ss′ ≡ true → (r : ℕ) → r < p .mu
+    → requestsTo p r (partsOf p (leaves p b (plain format)) ss) ≡ requestsTo p r (partsOf p (leaves p b′ (plain format)) ss′)
+    → SameRegion p r b b′ (plain format ∷ ss) (plain format ∷ ss′)
 
 -- ---- one outcome
 
--- "any two outcomes allowed by its claim are equal": every call's claim is that its outcome is `outcomeOf`
+-- "any two outcomes allowed by its claim are equal": every call's claim is that its outcome is `stepOutcome`, with a budget or without
 abbrev pub Once : Type 0
-Once = (p : Params) (b : Board) (c : Call) (o o′ : Outcome) → o ≡ outcomeOf p b c → o′ ≡ outcomeOf p b c → o ≡ o′
+Once = (p : Params) (b : Board) (s : Step) (o o′ : Outcome) → o ≡ stepOutcome p b s → o′ ≡ stepOutcome p b s → o ≡ o′

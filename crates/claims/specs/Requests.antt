@@ -10,14 +10,15 @@ use Rattle.rules.specs.declared.Item.{Item}
 use Rattle.rules.specs.Parameters.{allowed}
 use Rattle.rules.specs.Tables.{Board}
 use Rattle.rules.specs.Orderly.{orderly}
-use Rattle.rules.specs.Requests.{Call, Queue, itemRequest, itemRequests, lies, queue, write}
+use Rattle.rules.specs.Requests.{Queue, itemRequest, itemRequests, lies, queue, write}
 use Rattle.rules.specs.Replies.{accessRows, badCount, firstRow, replyOf, wrongData}
 use Rattle.rules.specs.Calls.{Part, answerOf, workOf}
+use Rattle.rules.specs.Cuts.{Step, plain}
 use Rattle.claims.specs.Runs.{boardAfter, partsOf}
 
 -- "single writes in list order", each with its own check of the state
-unfoldable pub writesOf : Params → Queue → List Call
-writesOf p l = map write (itemRequests p (l .bytes) (l .items))
+unfoldable pub writesOf : Params → Queue → List Step
+writesOf p l = map plain (map write (itemRequests p (l .bytes) (l .items)))
 
 -- "The chip, tables and answers equal those of single writes in list order; a refused item changes nothing and the next goes on"
 pub record AsSingles (p : Params) (b : Board) (l : Queue) : Type 0 where

@@ -1,11 +1,11 @@
--- Runs: lists of calls with the same parameters, each on the board that the one before left; what their requests get, what they do to the chip, and
--- what a host knows that has only its requests, their replies and what a start finds.
+-- Runs: lists of calls with the same parameters, with budgets or without, each on the board that the one before left; what their requests get, what they do to the
+-- chip, and what a host knows that has only its requests, their replies and what a start finds.
 -- Assumes nothing.
 use Prim.Native.Nat.{ℕ, _+_, _-_, _%_, _<_}
 use mathlib.Core.Path.{_≡_}
 use mathlib.Core.Bool.{Bool, true, false, not, _&&_, _||_, cond}
 use mathlib.Core.List.{List, [], _∷_, _++_, map}
-use lib.ListN.{length, drop, replicate}
+use lib.ListN.{length, drop, replicate, take}
 use lib.Dec.{leb, ltb, eqb}
 use Rattle.lists.specs.Below.{updated}
 use Rattle.lists.specs.Parts.{part}
@@ -18,18 +18,24 @@ use Rattle.rules.specs.Regions.{sector}
 use Rattle.rules.specs.Traces.{Op, program, erase}
 use Rattle.rules.specs.Requests.{Request, requestOf, requestCluster, requestRegion, Call, format, read, write, release, queue, start}
 use Rattle.rules.specs.Replies.{isAccepted}
-use Rattle.rules.specs.Calls.{Part, opsOf, outcomeOf, workOf}
+use Rattle.rules.specs.Calls.{Part, opsOf, workOf}
+use Rattle.rules.specs.Cuts.{Step, plain, limited, callOf, cutPart, finished, isCut, stepOutcome}
 use Rattle.rules.specs.Words.{SpareListed}
 
 -- ---- a run
 
--- the board that a call leaves, and the board after a run
-unfoldable pub leaves : Params → Board → Call → Board
-leaves p b c = (outcomeOf p b c) .board
+-- the board that a call leaves, cut or not, and the board after a run
+unfoldable pub leaves : Params → Board → Step → Board
+leaves p b s = (stepOutcome p b s) .board
 
-unfoldable pub boardAfter : Params → Board → List Call → Board
+unfoldable pub boardAfter : Params → Board → List Step → Board
 boardAfter p b [] = b
-boardAfter p b (c ∷ cs) = boardAfter p (leaves p b c) cs
+boardAfter p b (s ∷ ss) = boardAfter p (leaves p b s) ss
+
+-- no call of it is cut
+unfoldable pub uncut : Params → Board → List Step → Bool
+uncut p b [] = true
+uncut p b (s ∷ ss) = not (isCut p b s) && uncut p (leaves p b s) ss
 
 -- "not formatted again"; T-07: condition 3 "ends at a board's first cut or start"
 unfoldable pub resets : Call → Bool
@@ -40,16 +46,21 @@ resets (release c) = false
 resets (queue l) = false
 resets start = true
 
-unfoldable pub undisturbed : List Call → Bool
-undisturbed [] = true
-undisturbed (c ∷ cs) = not (resets c) && undisturbed cs
+unfoldable pub undisturbed : Params → Board → List Step → Bool
+undisturbed p b [] = true
+undisturbed p b (s ∷ ss) = not (isCut p b s) && (not (resets (callOf s)) && undisturbed p (leaves p b s) ss)
 
 -- ---- what its requests get
 
--- the parts of its calls, in order: T-01, "the items of calls that answer 0" are among them
-unfoldable pub partsOf : Params → Board → List Call → List Part
+-- the parts that a call finishes: all, or those before its cut
+unfoldable pub partsBy : Params → Board → Step → List Part
+partsBy p b (plain c) = (workOf p b c) .parts
+partsBy p b (limited k c) = cond (isCut p b (limited k c)) (finished k ((workOf p b c) .parts)) ((workOf p b c) .parts)
+
+-- those of a run, in order: T-01, "the items of calls that answer 0" are among them
+unfoldable pub partsOf : Params → Board → List Step → List Part
 partsOf p b [] = []
-partsOf p b (c ∷ cs) = (workOf p b c) .parts ++ partsOf p (leaves p b c) cs
+partsOf p b (s ∷ ss) = partsBy p b s ++ partsOf p (leaves p b s) ss
 
 -- a read or a write counts to the region of its LBA, a release to that of its cluster, also where it is refused
 unfoldable pub toRegion : Params → ℕ → Call → Bool
@@ -90,8 +101,14 @@ toldTo p r xs = map (λ (x : Part). told (x .answer) (x .bytes)) (partsTo p r xs
 
 -- ---- what it does to the chip
 
-unfoldable pub traceOf : Params → Board → List Call → List Op
-traceOf p b run = opsOf (partsOf p b run)
+-- the operations that a call makes: all, or as many as its budget
+unfoldable pub madeBy : Params → Board → Step → List Op
+madeBy p b (plain c) = opsOf ((workOf p b c) .parts)
+madeBy p b (limited k c) = cond (isCut p b (limited k c)) (take k (opsOf ((workOf p b c) .parts))) (opsOf ((workOf p b c) .parts))
+
+unfoldable pub traceOf : Params → Board → List Step → List Op
+traceOf p b [] = []
+traceOf p b (s ∷ ss) = madeBy p b s ++ traceOf p (leaves p b s) ss
 
 -- an erase of block n is among them
 unfoldable pub erasesBlock : ℕ → List Op → Bool
@@ -153,10 +170,59 @@ learns p b′ (release c) k = known (cleared p c (k .memory)) (updated (k .relea
 learns p b′ (queue l) k = k
 learns p b′ start k = known (sectorAt p b′) (λ c. false)
 
-unfoldable pub learnsAll : Params → Board → List Part → Known → Known
-learnsAll p b′ [] k = k
-learnsAll p b′ (x ∷ xs) k = learnsAll p b′ xs (cond (isAccepted (x .answer .reply)) (learns p b′ (x .asks) k) k)
+-- where it stands with the tables. `stands`: they are there. `lost`: a cut took them, and perhaps cut a write short. `nothing`: a format was cut, and "after a cut format a
+-- format" is due
+pub data Belief : Type 0 where
+  nothing : Belief
+  stands : Known → Belief
+  lost : Known → List Request → Belief
 
-unfoldable pub knownAfter : Params → Board → List Call → Known → Known
-knownAfter p b [] k = k
-knownAfter p b (c ∷ cs) k = knownAfter p (leaves p b c) cs (learnsAll p (leaves p b c) ((workOf p b c) .parts) k)
+unfoldable pub isFormat : Call → Bool
+isFormat format = true
+isFormat (read q) = false
+isFormat (write q) = false
+isFormat (release c) = false
+isFormat (queue l) = false
+isFormat start = false
+
+-- what an accepted request makes of that. "The next call after a cut is a start, after a cut format a format": until then nothing is learnt
+unfoldable pub hears : Params → Board → Call → Belief → Belief
+hears p b′ c nothing = cond (isFormat c) (stands (known (blank p) (λ d. false))) nothing
+hears p b′ c (stands k) = stands (learns p b′ c k)
+hears p b′ c (lost k short) = cond (resets c) (stands (learns p b′ c k)) (lost k short)
+
+-- and the parts of a call, each if it is accepted
+unfoldable pub hearsAll : Params → Board → List Part → Belief → Belief
+hearsAll p b′ [] x = x
+hearsAll p b′ (y ∷ ys) x = hearsAll p b′ ys (cond (isAccepted (y .answer .reply)) (hears p b′ (y .asks) x) x)
+
+-- what a cut makes of it, where these writes are cut short; what is lost stays so, and a write cut short before it too
+unfoldable pub losing : List Request → Belief → Belief
+losing short nothing = nothing
+losing short (stands k) = lost k short
+losing short (lost k short′) = lost k short′
+
+-- by the request that is cut: none but a format, a write or a start is. "its answers then count for nothing"
+unfoldable pub doubts : Call → Belief → Belief
+doubts format x = nothing
+doubts (read q) x = x
+doubts (write q) x = losing (q ∷ []) x
+doubts (release c) x = x
+doubts (queue l) x = x
+doubts start x = losing [] x
+
+-- by the part that is cut, if one is: an item that is refused, or none, is no write cut short
+unfoldable pub doubtsIn : List Part → Belief → Belief
+doubtsIn [] x = losing [] x
+doubtsIn (y ∷ ys) x = cond (isAccepted (y .answer .reply)) (doubts (y .asks) x) (losing [] x)
+
+-- a call: what it finished counts, and then its cut, if it is cut
+unfoldable pub beliefBy : Params → Board → Step → Belief → Belief
+beliefBy p b (plain c) x = hearsAll p (leaves p b (plain c)) (partsBy p b (plain c)) x
+beliefBy p b (limited k c) x =
+    let y = hearsAll p (leaves p b (limited k c)) (partsBy p b (limited k c)) x in
+    cond (isCut p b (limited k c)) (doubtsIn (cutPart k ((workOf p b c) .parts)) y) y
+
+unfoldable pub beliefAfter : Params → Board → List Step → Belief → Belief
+beliefAfter p b [] x = x
+beliefAfter p b (s ∷ ss) x = beliefAfter p (leaves p b s) ss (beliefBy p b s x)

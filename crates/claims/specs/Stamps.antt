@@ -1,4 +1,4 @@
--- T-07: what the stamps of a region's whole frames say (crate starts, specs/Timely.antt), after every run from an accepted format on. proofs/StampsOverRuns.antt has the
+-- T-07: what the stamps of a region's whole frames say (crate starts, specs/Timely.antt), after every run from an accepted format on. proofs/CutRuns.antt has the
 -- theorem.
 -- Assumes nothing.
 use Prim.Native.Nat.{ℕ, _<_}
@@ -8,11 +8,14 @@ use Rattle.rules.specs.declared.Params.{Params}
 use Rattle.rules.specs.declared.Reply.the-variants.{Accepted}
 use Rattle.rules.specs.Tables.{Board}
 use Rattle.rules.specs.Regions.{view}
-use Rattle.rules.specs.Requests.{Call, format}
+use Rattle.rules.specs.Requests.{format}
 use Rattle.rules.specs.Replies.{replyOf}
+use Rattle.rules.specs.Cuts.{Step, plain}
 use Rattle.starts.specs.Timely.{Timely}
-use Rattle.claims.specs.Runs.{boardAfter}
+use Rattle.claims.specs.Runs.{Belief, Known, beliefAfter, boardAfter, stands}
 
--- they say so in every region after any run of calls from an accepted format on
+-- they say so in every region after any run from an accepted format on, wherever the tables stand
 abbrev pub StampsOverRuns : Type 0
-StampsOverRuns = (p : Params) (b : Board) → replyOf p b format ≡ Accepted → (cs : List Call) → (r : ℕ) → r < p .mu → Timely p (view p (boardAfter p b (format ∷ cs)) r)
+StampsOverRuns =
+    (p : Params) (b : Board) → replyOf p b format ≡ Accepted → (ss : List Step) (x : Belief) (k : Known) → beliefAfter p b (plain format ∷ ss) x ≡ stands k
+    → (r : ℕ) → r < p .mu → Timely p (view p (boardAfter p b (plain format ∷ ss)) r)

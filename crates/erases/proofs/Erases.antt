@@ -16,12 +16,14 @@ use Rattle.rules.specs.Regions.{view}
 use Rattle.rules.specs.Requests.{Call, Request, format, queue, read, release, requestRegion, start, write}
 use Rattle.rules.specs.Replies.{isAccepted, replyOf}
 use Rattle.rules.specs.Calls.{Part, outcomeOf}
+use Rattle.rules.specs.Cuts.{callOf}
 use Rattle.rules.proofs.Admitted.{format-admitted}
 use Rattle.rules.proofs.Outcomes.{reply-cases, reply-is}
 use Rattle.rules.proofs.Sizes.{sizes}
 use Rattle.rules.proofs.WritePromise.{write-promise}
 use Rattle.starts.specs.Stands.{Stands}
-use Rattle.claims.specs.Runs.{Known, leaves, partsOf, partsTo, toRegion}
+use Rattle.claims.specs.Runs.{Known, partsTo, toRegion}
+use Rattle.claims.proofs.PlainRuns.{format-parts, plainLeaves, plainParts}
 use Rattle.claims.proofs.Condition1.{condition-1}
 use Rattle.claims.proofs.Known.{knownBy}
 use Rattle.claims.proofs.Singles.{AllSingle, Single, all-single, parts-same, refused-leaves, singlesOf}
@@ -66,14 +68,14 @@ module _ (p : Params) (r : ℕ) (low : r < p .mu) (b : Board) (es : List ℕ) wh
   Then c = cond (isWrite c && (toRegion p r c && isAccepted ((outcomeOf p b c) .answer .reply))) ((outcomeOf p b c) .answer .erases ∷ es) es
 
   abbrev After : Call → Type 0
-  After c = Spaced (spareShare p r) (room p (view p (leaves p b c) r)) es
+  After c = Spaced (spareShare p r) (room p (view p (plainLeaves p b c) r)) es
 
   abbrev Before : List ℕ → Type 0
   Before = Spaced (spareShare p r) (room p (view p b r))
 
   -- where it takes no room, and is no accepted write to the region
-  aside : (c : Call) → room p (view p b r) ≤ room p (view p (leaves p b c) r) → After c → Before es
-  aside c h s = less-room (spareShare p r) (room p (view p b r)) (room p (view p (leaves p b c) r)) es h s
+  aside : (c : Call) → room p (view p b r) ≤ room p (view p (plainLeaves p b c) r) → After c → Before es
+  aside c h s = less-room (spareShare p r) (room p (view p b r)) (room p (view p (plainLeaves p b c) r)) es h s
 
   refused-aside : (c : Call) → isAccepted (replyOf p b c) ≡ false → After c → Before es
   refused-aside c e s = aside c (rw (refused-leaves p b c e) (omega arith)) s
@@ -94,7 +96,7 @@ module _ (p : Params) (r : ℕ) (low : r < p .mu) (b : Board) (es : List ℕ) wh
 
   -- an accepted write reports what its plan says, and leaves the room that its plan leaves
   own-write : (q : Request) → requestRegion p q ≡ r → replyOf p b (write q) ≡ Accepted
-      → Turn (spareShare p r) (room p (view p b r)) ((outcomeOf p b (write q)) .answer .erases) (room p (view p (leaves p b (write q)) r))
+      → Turn (spareShare p r) (room p (view p b r)) ((outcomeOf p b (write q)) .answer .erases) (room p (view p (plainLeaves p b (write q)) r))
   own-write q is e =
       let w = (condition-1 p b (write q)) .writes q refl (reply-is p b (write q) ∙ e) in
       rw (w .erases, write-leaves p b q e, ← is) (write-turn p b q e)
@@ -104,7 +106,7 @@ module _ (p : Params) (r : ℕ) (low : r < p .mu) (b : Board) (es : List ℕ) wh
   write-call q s = go (ℕ-discrete (requestRegion p q) r) (reply-cases (replyOf p b (write q)))
     where
       go : Dec (requestRegion p q ≡ r) → (replyOf p b (write q) ≡ Accepted) ⊎ (isAccepted (replyOf p b (write q)) ≡ false) → Before (Then (write q))
-      go (yes is) (inl e) = rw (eq-eqb (requestRegion p q) r is, reply-is p b (write q), e) (unfold isAccepted in (room p (view p (leaves p b (write q)) r), own-write q is e, s))
+      go (yes is) (inl e) = rw (eq-eqb (requestRegion p q) r is, reply-is p b (write q), e) (unfold isAccepted in (room p (view p (plainLeaves p b (write q)) r), own-write q is e, s))
       go (yes is) (inr e) = rw (eq-eqb (requestRegion p q) r is, reply-is p b (write q), e) (refused-aside (write q) e s)
       go (no ne) (inl e) =
           rw (ne-eqb (requestRegion p q) r ne)
@@ -130,23 +132,27 @@ module _ (p : Params) (r : ℕ) (low : r < p .mu) (b : Board) (es : List ℕ) wh
 -- ---- a run
 
 run-spaced : (p : Params) (r : ℕ) → r < p .mu → (b : Board) (k : Known) (cs : List Call) → AllSingle cs → Standing p b k
-    → Spaced (spareShare p r) (room p (view p b r)) (erasesBy p r (partsOf p b cs))
+    → Spaced (spareShare p r) (room p (view p b r)) (erasesBy p r (plainParts p b cs))
 unfolding partOf
-run-spaced p r low b k [] s h = unfold erasesBy partsOf partsTo acceptedWrites in tt
+run-spaced p r low b k [] s h = unfold erasesBy plainParts partsTo acceptedWrites in tt
 run-spaced p r low b k (c ∷ cs) s h =
-    let es = erasesBy p r (partsOf p (leaves p b c) cs) in
-    rw (parts-step p b c cs (s .0), one-more p r (partOf p b c) (partsOf p (leaves p b c) cs))
-    (one-call p r low b es c (s .0) (h .stands) (run-spaced p r low (leaves p b c) (knownBy p b c k) cs (s .1) (call-standing p b k c (s .0) h)))
+    let es = erasesBy p r (plainParts p (plainLeaves p b c) cs) in
+    rw (parts-step p b c cs (s .0), one-more p r (partOf p b c) (plainParts p (plainLeaves p b c) cs))
+    (one-call p r low b es c (s .0) (h .stands) (run-spaced p r low (plainLeaves p b c) (knownBy p b c k) cs (s .1) (call-standing p b k c (s .0) h)))
 
 -- the first format is no write
-past-format : (p : Params) (b : Board) (cs : List Call) (r : ℕ) → erasesBy p r (partsOf p b (format ∷ cs)) ≡ erasesBy p r (partsOf p (leaves p b format) cs)
-past-format p b cs r = rw (parts-step p b format cs tt, one-more p r (partOf p b format) (partsOf p (leaves p b format) cs)) (unfold partOf isWrite in refl)
+past-format : (p : Params) (b : Board) (cs : List Call) (r : ℕ) → erasesBy p r (plainParts p b (format ∷ cs)) ≡ erasesBy p r (plainParts p (plainLeaves p b format) cs)
+past-format p b cs r = rw (parts-step p b format cs tt, one-more p r (partOf p b format) (plainParts p (plainLeaves p b format) cs)) (unfold partOf isWrite in refl)
 
+-- no call of it is cut, so it is a plain run
 pub erases-per-region : ErasesPerRegion
-erases-per-region p b e cs r low earlier row later is =
-    few-erases (spareShare p r) (room p (view p (leaves p b format) r)) earlier row later (share-some p (sizes p ((format-admitted p b e) .fine)) r)
-    (rw (← is, past-format p b cs r, parts-same p (leaves p b format) cs)
-    (run-spaced p r low (leaves p b format) (knownBy p b format k) (singlesOf p (leaves p b format) cs) (all-single p (leaves p b format) cs) (first-standing p b k e)))
+erases-per-region p b e ss u r low earlier row later is =
+    few-erases (spareShare p r) (room p (view p (plainLeaves p b format) r)) earlier row later (share-some p (sizes p ((format-admitted p b e) .fine)) r)
+    (rw (← is, format-parts p b ss u, past-format p b cs r, parts-same p (plainLeaves p b format) cs)
+    (run-spaced p r low (plainLeaves p b format) (knownBy p b format k) (singlesOf p (plainLeaves p b format) cs) (all-single p (plainLeaves p b format) cs) (first-standing p b k e)))
   where
     k : Known
     k = record { memory = λ a. []; released = λ c. false }
+
+    cs : List Call
+    cs = map callOf ss

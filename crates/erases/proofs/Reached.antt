@@ -11,7 +11,8 @@ use Rattle.rules.specs.Requests.{format}
 use Rattle.rules.specs.Replies.{replyOf}
 use Rattle.rules.specs.BoardT.{boardT, paramsT}
 use Rattle.rules.proofs.Names.{all-rules}
-use Rattle.claims.specs.Runs.{leaves, partsOf, partsTo, toRegion}
+use Rattle.rules.specs.Cuts.{stepOutcome}
+use Rattle.claims.specs.Runs.{leaves, partsBy, partsOf, partsTo, toRegion}
 use Rattle.erases.specs.Erases.{acceptedWrites, clustersIn, erasesBy, isWrite, roundedUp, spareShare, total}
 use Rattle.erases.specs.Reached.{BoundReached, FiguresT, blankSmall, figures, mixed, mixedErases, puts, small}
 
@@ -20,11 +21,11 @@ unfolding figures clustersIn spareShare roundedUp all-rules boardT paramsT
 figures-T = record { first = refl; second = refl }
 
 first-test : sameList (mixedErases 0) (replicate 6 0 ++ (1 ∷ 0 ∷ 1 ∷ [])) ≡ true
-unfolding all-rules mixedErases mixed puts blankSmall small erasesBy acceptedWrites isWrite partsOf partsTo toRegion leaves
+unfolding all-rules mixedErases mixed puts blankSmall small erasesBy acceptedWrites isWrite partsOf partsBy partsTo toRegion leaves stepOutcome
 first-test = refl
 
 second-test : sameList (mixedErases 1) (replicate 6 0 ++ (1 ∷ 0 ∷ 0 ∷ 1 ∷ [])) ≡ true
-unfolding all-rules mixedErases mixed puts blankSmall small erasesBy acceptedWrites isWrite partsOf partsTo toRegion leaves
+unfolding all-rules mixedErases mixed puts blankSmall small erasesBy acceptedWrites isWrite partsOf partsBy partsTo toRegion leaves stepOutcome
 second-test = refl
 
 accepts : replyOf small blankSmall format ≡ Accepted

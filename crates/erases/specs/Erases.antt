@@ -15,7 +15,8 @@ use Rattle.rules.specs.Tables.{Board}
 use Rattle.rules.specs.Requests.{Call, format, read, write, release, queue, start}
 use Rattle.rules.specs.Replies.{isAccepted, replyOf}
 use Rattle.rules.specs.Calls.{Part}
-use Rattle.claims.specs.Runs.{partsOf, partsTo}
+use Rattle.rules.specs.Cuts.{Step, plain}
+use Rattle.claims.specs.Runs.{leaves, partsOf, partsTo, uncut}
 
 -- ---- L and G
 
@@ -61,6 +62,6 @@ total (n ∷ ns) = n + total ns
 -- list of them, whatever else is called before, between and after them, other formats and starts too
 abbrev pub ErasesPerRegion : Type 0
 ErasesPerRegion =
-    (p : Params) (b : Board) → replyOf p b format ≡ Accepted → (cs : List Call) (r : ℕ) → r < p .mu
-    → (earlier row later : List ℕ) → erasesBy p r (partsOf p b (format ∷ cs)) ≡ earlier ++ (row ++ later)
+    (p : Params) (b : Board) → replyOf p b format ≡ Accepted → (ss : List Step) → uncut p (leaves p b (plain format)) ss ≡ true → (r : ℕ) → r < p .mu
+    → (earlier row later : List ℕ) → erasesBy p r (partsOf p b (plain format ∷ ss)) ≡ earlier ++ (row ++ later)
     → total row ≤ roundedUp (length row) (spareShare p r)

@@ -8,8 +8,9 @@ use lib.ListN.{length, replicate}
 use Rattle.rules.specs.declared.Params.{Params}
 use Rattle.rules.specs.declared.Reply.the-variants.{Accepted}
 use Rattle.rules.specs.Tables.{Board}
-use Rattle.rules.specs.Requests.{Call, format, requestOf, write}
+use Rattle.rules.specs.Requests.{format, requestOf, write}
 use Rattle.rules.specs.Replies.{replyOf}
+use Rattle.rules.specs.Cuts.{Step, plain}
 use Rattle.rules.specs.BoardT.{boardT}
 use Rattle.claims.specs.Runs.{partsOf}
 use Rattle.erases.specs.Erases.{clustersIn, erasesBy, roundedUp, spareShare, total}
@@ -41,17 +42,17 @@ blankSmall =
       stamps = replicate 2 0;
     }
 
-unfoldable pub puts : ℕ → Call
-puts c = write (requestOf c 1 (replicate 16 c))
+unfoldable pub puts : ℕ → Step
+puts c = plain (write (requestOf c 1 (replicate 16 c)))
 
 -- writes to both regions by turns: region 0's fill a block with cluster 0 and one with cluster 2, and go on with 0
-unfoldable pub mixed : List Call
+unfoldable pub mixed : List Step
 mixed =
     puts 0 ∷ puts 1 ∷ puts 0 ∷ puts 1 ∷ puts 0 ∷ puts 1 ∷ puts 2 ∷ puts 1 ∷ puts 2 ∷ puts 1 ∷ puts 2 ∷ puts 1 ∷ puts 0 ∷ puts 1 ∷ puts 0 ∷ puts 1 ∷ puts 0 ∷ puts 1 ∷ puts 1 ∷ []
 
 -- what the writes to region r report
 unfoldable pub mixedErases : ℕ → List ℕ
-mixedErases r = erasesBy small r (partsOf small blankSmall (format ∷ mixed))
+mixedErases r = erasesBy small r (partsOf small blankSmall (plain format ∷ mixed))
 
 -- L, G, and erases exactly G writes apart: G + 1 writes in a row with 2 erases, which is what the figure allows
 pub record Reached (r l g : ℕ) (earlier row : List ℕ) : Type 0 where

@@ -1,0 +1,114 @@
+-- What a start finds on a chip that shows what the host knows: each LBA as it was last. After a write that was cut short the chip shows the board before it or the board after it, so the write reads
+-- wholly old or wholly new.
+-- Assumes nothing.
+use mathlib.Core.Path.{_≡_, refl, sym, ap, _∙_}
+use mathlib.Core.Logic.{_⊎_, inl, inr}
+use Prim.Native.Nat.{ℕ, _*_, _<_}
+use native.Mathlib.Nat.{div-lt-iff-lt-mul}
+use native.Mathlib.Decide.{ℕ-discrete}
+use mathlib.Core.Bool.{true, false}
+use mathlib.Core.List.{List, [], _∷_}
+use borrow.Author.Tests.{eqb-false}
+use Rattle.lists.proofs.Joins.{updated-other, updated-same}
+use Rattle.lists.proofs.Tests.{or-neither, so}
+use Rattle.rules.specs.declared.Params.{Params}
+use Rattle.rules.specs.Parameters.{allowed}
+use Rattle.rules.specs.Numbers.{clusterOf, sectorOf}
+use Rattle.rules.specs.Tables.{Board}
+use Rattle.rules.specs.Requests.{Request, requestCluster, start, write}
+use Rattle.rules.specs.Replies.{OrderlyBoard, lengthsFit}
+use Rattle.rules.specs.Start.{started}
+use Rattle.rules.specs.Calls.{answerOf, outcomeOf}
+use Rattle.rules.proofs.Admitted.{Asked}
+use Rattle.rules.proofs.Outcomes.{start-accepted}
+use Rattle.rules.proofs.Sizes.{sizes}
+use Rattle.starts.specs.Recovers.{Recovers}
+use Rattle.starts.specs.Stands.{Stands}
+use Rattle.starts.proofs.Recovers.{old-recovers}
+use Rattle.starts.proofs.Steady.{ReadsOld}
+use Rattle.claims.specs.Runs.{Known, given, learns, sectorAt}
+use Rattle.claims.specs.Conditions.{Recovered, among, old}
+use Rattle.claims.proofs.Condition1.{in-order}
+use Rattle.claims.proofs.Memory.{Agrees, given-else}
+use Rattle.claims.proofs.Standing.{Left}
+use Rattle.claims.proofs.Starting.{admitted-start}
+
+-- the chip shows a board that reads as the host knows, or as it would know if the write cut short had been accepted
+pub data Lost (p : Params) (k : Known) (short : List Request) (chip : List ℕ) : Type 0 where
+  as-old : (b : Board) → ReadsOld p b chip → Agrees p b (k .memory) → Left p b k → Lost p k short chip
+  as-new : (b : Board) (q : Request) → short ≡ q ∷ [] → Asked p q → ReadsOld p b chip
+      → Agrees p b ((learns p b (write q) k) .memory) → Left p b (learns p b (write q) k) → Lost p k short chip
+
+pub stands-orderly : (p : Params) (b : Board) → Stands p b → OrderlyBoard p b
+stands-orderly p b st = record { fine = st .fine; lengths = st .lengths; tidy = st .order }
+
+-- ---- a start on board b₀, whose chip shows b
+
+module _ (p : Params) (fine : allowed p ≡ true) (b₀ : Board) (lengths : lengthsFit p b₀ ≡ true) where
+  -- a released cluster is the latest frame left; any other reads as on b
+  pub found : (b : Board) (k : Known) → ReadsOld p b (b₀ .chip) → Agrees p b (k .memory) → Left p b k → (a : ℕ) → a < p .C * p .alpha → sectorAt p (started p b₀) a ≡ old p b₀ k a
+  unfolding old
+  found b k shows reads left a low = go (so (k .released (clusterOf p a)))
+    where
+      back : Recovers p b₀ b
+      back = old-recovers p fine b₀ b lengths shows
+
+      cluster : clusterOf p a < p .C
+      cluster = div-lt-iff-lt-mul ((sizes p fine) .sectors) .1 low
+
+      go : (k .released (clusterOf p a) ≡ true) ⊎ (k .released (clusterOf p a) ≡ false) → sectorAt p (started p b₀) a ≡ old p b₀ k a
+      go (inl r) = rw r (unfold sectorAt in back .returns (clusterOf p a) cluster (sectorOf p a))
+      go (inr r) = rw r (same ∙ reads a low)
+        where
+          same : sectorAt p (started p b₀) a ≡ sectorAt p b a
+          same = unfold sectorAt in back .reads (clusterOf p a) cluster (left (clusterOf p a) cluster r) (sectorOf p a)
+
+  -- what a write that was accepted makes of it: its cluster as given, every other as before
+  old-else : (b : Board) (k : Known) (q : Request) → Asked p q → (a : ℕ) → (clusterOf p a ≡ requestCluster p q → ⊥) → old p b₀ (learns p b (write q) k) a ≡ old p b₀ k a
+  unfolding old learns
+  old-else b k q ask a ne = rw (updated-other (k .released) (requestCluster p q) false (clusterOf p a) ne, given-else p q (k .memory) (sizes p fine) ask a ne)
+
+  old-here : (b : Board) (k : Known) (q : Request) (a : ℕ) → clusterOf p a ≡ requestCluster p q → old p b₀ (learns p b (write q) k) a ≡ given p q (k .memory) a
+  unfolding old learns
+  old-here b k q a is = rw (is, updated-same (k .released) (requestCluster p q) false)
+
+  -- which board it is
+  back : (k : Known) (short : List Request) → Lost p k short (b₀ .chip) → (b : Board) × Recovers p b₀ b
+  back k short (as-old b shows reads left) = (b, old-recovers p fine b₀ b lengths shows)
+  back k short (as-new b q is ask shows reads left) = (b, old-recovers p fine b₀ b lengths shows)
+
+  pub lost-start : (k : Known) (short : List Request) → Lost p k short (b₀ .chip) → Stands p (started p b₀) × Left p (started p b₀) (learns p (started p b₀) start k)
+  unfolding learns
+  lost-start k short l = let w = (back k short l) .1 in (w .stands, λ c h x. w .clear c h)
+
+  kept : (k : Known) (short : List Request) → Lost p k short (b₀ .chip) → (c : ℕ) → among p short c ≡ false
+      → (a : ℕ) → a < p .C * p .alpha → clusterOf p a ≡ c → sectorAt p (started p b₀) a ≡ old p b₀ k a
+  kept k short (as-old b shows reads left) c out a low is = found b k shows reads left a low
+  kept k short (as-new b q e ask shows reads left) c out a low is = found b (learns p b (write q) k) shows reads left a low ∙ old-else b k q ask a (λ i. apart (sym i ∙ is))
+    where
+      none : among p (q ∷ []) c ≡ false
+      none = rw (← e) out
+
+      apart : requestCluster p q ≡ c → ⊥
+      apart = unfold among in eqb-false _ _ ((or-neither _ none) .0)
+
+  whole : (k : Known) (short : List Request) → Lost p k short (b₀ .chip) → (q : Request) → short ≡ q ∷ []
+      → ((a : ℕ) → a < p .C * p .alpha → clusterOf p a ≡ requestCluster p q → sectorAt p (started p b₀) a ≡ old p b₀ k a)
+      ⊎ ((a : ℕ) → a < p .C * p .alpha → clusterOf p a ≡ requestCluster p q → sectorAt p (started p b₀) a ≡ given p q (k .memory) a)
+  whole k short (as-old b shows reads left) q e = inl (λ a low is. found b k shows reads left a low)
+  whole k short (as-new b q′ e′ ask shows reads left) q e =
+      let same : q′ ≡ q = cc in
+      inr (λ a low is. found b (learns p b (write q′) k) shows reads left a low ∙ rw same (old-here b k q a is))
+
+  pub recovered : (k : Known) (short : List Request) → Lost p k short (b₀ .chip) → Recovered p b₀ k short (outcomeOf p b₀ start)
+  unfolding answerOf
+  recovered k short l =
+      let w = (back k short l) .1 in
+      rw (start-accepted p b₀ (admitted-start p b₀ (w .admitted)))
+      (record {
+        accepted = refl;
+        once = w .once;
+        order = in-order p (started p b₀) (stands-orderly p (started p b₀) (w .stands));
+        kept = kept k short l;
+        whole = whole k short l;
+      })
