@@ -20,3 +20,4 @@ pub mod Words
 pub mod Machine
 pub mod BoardT
 pub mod StartT
+pub mod CutT
