@@ -1,27 +1,26 @@
 -- A call with a budget: it is the plain call where it is not cut, and where it is, the chip stands as its first operations leave it, and the tables are gone.
 -- Assumes nothing.
-use mathlib.Core.Path.{_≡_, refl, sym, ap, _∙_}
+use mathlib.Core.Path.{_≡_, refl, ap, _∙_}
 use mathlib.Core.Logic.{_⊎_, inl, inr}
 use Prim.Native.Nat.{ℕ, _+_, _-_, _≤_, _<_}
 use native.Mathlib.Omega.{arith}
-use mathlib.Core.Bool.{Bool, true, false, _&&_, cond}
+use mathlib.Core.Bool.{Bool, true, false, cond}
 use mathlib.Core.List.{List, [], _∷_, _++_, append-nil}
-use lib.Dec.{leb, ltb}
+use lib.Dec.{ltb}
 use lib.ListN.{length, length-append}
 use borrow.Author.Tests.{le-leb, leb-true, lt-leb, ltb-false, ltb-true}
-use Rattle.lists.proofs.Tests.{and-intro, and-left, and-no, and-right, never, so}
+use Rattle.lists.proofs.Tests.{and-intro, and-left, and-no, and-right, never}
 use Rattle.rules.specs.declared.Params.{Params}
-use Rattle.rules.specs.declared.Reply.{Reply}
 use Rattle.rules.specs.declared.Reply.the-variants.{Accepted}
 use Rattle.rules.specs.Tables.{Board}
 use Rattle.rules.specs.Traces.{erasesIn, programsIn}
 use Rattle.rules.specs.Requests.{Call, format, itemRequests, lent, lentAnswers, queue, read, release, start, write}
 use Rattle.rules.specs.Replies.{isAccepted, replyOf}
-use Rattle.rules.specs.Calls.{Outcome, Part, Work, answerOf, opsOf, outcomeOf, workOf}
+use Rattle.rules.specs.Calls.{Part, answerOf, opsOf, outcomeOf, workOf}
 use Rattle.rules.specs.Cuts.{callOf, cutBoard, cutOutcome, cutPart, finished, hasBudget, isCut, limited, stepOutcome}
-use Rattle.rules.proofs.Outcomes.{all-bytes, all-lent, call-refused, is-refused, queue-accepted, reply-cases, reply-is}
+use Rattle.rules.proofs.Outcomes.{all-bytes, all-lent, queue-accepted, reply-cases, reply-is}
 use Rattle.claims.specs.Conditions.{Cuts, Finishes}
-use Rattle.claims.proofs.PlainRuns.{ops-append, uncut-outcome}
+use Rattle.claims.proofs.PlainRuns.{uncut-outcome}
 use Rattle.claims.proofs.Steps.{done-bytes, doneBytes}
 
 -- ---- which parts are finished

@@ -1,10 +1,10 @@
 -- Condition 2: where the tables stand reads return what was last accepted, and a start is accepted and loses nothing; after a cut a start finds what was accepted; chip and wear are the trace's
 -- replay, the trace is clean, and no page is programmed twice; a format is accepted again, and finds the same blocks bad.
 -- Assumes nothing.
-use mathlib.Core.Path.{_≡_, refl, sym, ap, _∙_}
-use Prim.Native.Nat.{ℕ, _+_}
+use mathlib.Core.Path.{_≡_, refl, ap, _∙_}
+use Prim.Native.Nat.{_+_}
 use mathlib.Core.Bool.{true}
-use mathlib.Core.List.{List, [], _∷_}
+use mathlib.Core.List.{_∷_}
 use Rattle.lists.specs.Below.{joinBelow}
 use Rattle.rules.specs.declared.Params.{Params}
 use Rattle.rules.specs.declared.Reply.the-variants.{Accepted}
@@ -14,17 +14,18 @@ use Rattle.rules.specs.Traces.{erasesIn, programsIn}
 use Rattle.rules.specs.Requests.{Request, format, read, start}
 use Rattle.rules.specs.Replies.{lengthsFit, replyOf}
 use Rattle.rules.specs.Calls.{Outcome, answerOf, outcomeOf}
-use Rattle.rules.specs.Cuts.{Step, plain}
+use Rattle.rules.specs.Cuts.{plain}
 use Rattle.rules.proofs.Admitted.{format-admitted}
 use Rattle.rules.proofs.Outcomes.{read-accepted, start-accepted}
 use Rattle.starts.proofs.Keeps.{start-keeps}
 use Rattle.starts.proofs.Steady.{untouched}
-use Rattle.claims.specs.Runs.{Belief, Known, Memory, beliefAfter, boardAfter, lost, nothing, stands, uncut}
-use Rattle.claims.specs.Conditions.{Condition2, Holds, Intact, ReadBackAfterCut, Recovered, Restarts}
+use Rattle.claims.specs.Runs.{Belief, Known, Memory, beliefAfter, boardAfter, lost, nothing, stands}
+use Rattle.claims.specs.Conditions.{Condition2, Holds, Intact, ReadBackAfterCut, Restarts}
 use Rattle.claims.specs.Stamps.{StampsOverRuns}
 use Rattle.claims.proofs.Again.{format-again, run-bad}
-use Rattle.claims.proofs.Beliefs.{Believed, format-known, format-stands}
+use Rattle.claims.proofs.Beliefs.{Believed}
 use Rattle.claims.proofs.Condition1.{in-order}
+use Rattle.claims.proofs.CutCalls.{format-known, format-stands}
 use Rattle.claims.proofs.CutTraces.{trace-long, trace-made, trace-once}
 use Rattle.claims.proofs.Memory.{Agrees, read-agrees}
 use Rattle.claims.proofs.Recovery.{found, recovered, stands-orderly}
@@ -58,7 +59,7 @@ module _ (p : Params) (b : Board) (k : Known) (h : Standing p b k) (reads : Agre
 holds : (p : Params) → allowed p ≡ true → (b : Board) → lengthsFit p b ≡ true → (x : Belief) → Believed p b x → Holds p b x
 holds p fine b long nothing h = tt
 holds p fine b long (stands k) h = intact p b k (h .0) (h .1)
-holds p fine b long (lost k short) h = recovered p fine b long k short (h .1)
+holds p fine b long (lost k short) h = recovered p fine b long k short (h .0) (h .1)
 
 -- ---- the condition
 

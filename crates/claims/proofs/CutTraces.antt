@@ -1,12 +1,12 @@
 -- What a run makes of chip and wear, through any cuts: they are the replay of its operations, which fit the chip and are clean, so that no page is programmed twice. A call that is
 -- cut makes the first of its operations; its lengths stay right, but its tables are not orderly.
 -- Assumes nothing.
-use mathlib.Core.Path.{_≡_, refl, sym, ap, _∙_}
+use mathlib.Core.Path.{_≡_, refl, ap, _∙_}
 use mathlib.Core.Logic.{_⊎_, inl, inr}
 use Prim.Native.Nat.{ℕ, zero, suc, _*_, _<_}
 use native.Mathlib.Omega.{arith}
 use mathlib.Core.Bool.{true, false, not}
-use mathlib.Core.List.{List, [], _∷_, _++_, append-nil}
+use mathlib.Core.List.{List, [], _∷_, append-nil}
 use lib.ListN.{length, getD-replicate, length-replicate, take}
 use lib.Dec.{eqb}
 use borrow.Author.Tests.{eq-eqb, eqb-true}
@@ -19,7 +19,7 @@ use Rattle.rules.specs.Traces.{Op}
 use Rattle.rules.specs.Requests.{Call}
 use Rattle.rules.specs.Replies.{lengthsFit}
 use Rattle.rules.specs.Calls.{Outcome, opsOf, workOf}
-use Rattle.rules.specs.Cuts.{Step, callOf, cutBoard, cutOutcome, isCut, limited, plain, stepOutcome}
+use Rattle.rules.specs.Cuts.{Step, callOf, cutBoard, cutOutcome, isCut, limited, plain}
 use Rattle.rules.proofs.TableFacts.{tables-in}
 use Rattle.rules.proofs.Writes.{wear-length}
 use Rattle.starts.proofs.Prefixes.{clean-take}

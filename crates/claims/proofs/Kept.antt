@@ -5,14 +5,10 @@ use mathlib.Core.Logic.{_⊎_, inl, inr}
 use Prim.Native.Nat.{ℕ}
 use mathlib.Core.Bool.{true, false, not}
 use mathlib.Core.List.{List, [], _∷_, _++_}
-use borrow.Author.Tests.{eqb-true}
 use lib.Dec.{leb}
-use lib.ListN.{length}
-use Rattle.lists.proofs.Tests.{truths}
 use Rattle.rules.specs.declared.Params.{Params}
 use Rattle.rules.specs.declared.Reply.{Reply}
 use Rattle.rules.specs.declared.Reply.the-variants.{Accepted, BadAddress, NoStampLeft}
-use Rattle.rules.specs.Parameters.{chipBytes}
 use Rattle.rules.specs.Tables.{Board, stampAt}
 use Rattle.rules.specs.Traces.{Op, clean, eraseWhere, replayChip, replayWear}
 use Rattle.rules.specs.Requests.{Call, Request, format, queue, read, release, requestRegion, start, write}
@@ -31,9 +27,9 @@ use Rattle.rules.proofs.Releases.{release-lengths, release-orderly}
 use Rattle.rules.proofs.Sizes.{sizes}
 use Rattle.rules.proofs.WritePromise.{write-promise}
 use Rattle.starts.proofs.StartPromise.{start-lengths, start-orderly}
-use Rattle.claims.specs.Runs.{AllFit, noPageTwice}
+use Rattle.claims.specs.Runs.{AllFit}
 use Rattle.claims.proofs.PlainRuns.{plainBoard, plainLeaves, plainParts, plainTrace}
-use Rattle.claims.proofs.Once.{clean-once, fit-append}
+use Rattle.claims.proofs.Once.{fit-append}
 use Rattle.claims.proofs.Programs.{erases-fit, format-fits, write-fits}
 use Rattle.claims.proofs.Singles.{AllSingle, Single, all-single, board-same, parts-same, refused-leaves, singlesOf}
 use Rattle.starts.proofs.Accepted.{start-admitted}

@@ -16,6 +16,7 @@ pub mod Condition1
 pub mod Standing
 pub mod Recovery
 pub mod Beliefs
+pub mod CutCalls
 pub mod Condition2
 pub mod RegionMachine
 pub mod Condition3

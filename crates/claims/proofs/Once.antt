@@ -12,7 +12,7 @@ use lib.Dec.{eqb}
 use borrow.Author.Tests.{eqb-false}
 use lib.ListN.{length, drop, replicate, length-replicate}
 use Rattle.lists.specs.Below.{joinBelow}
-use Rattle.lists.specs.Parts.{allAre, part, putPart}
+use Rattle.lists.specs.Parts.{allAre, part}
 use Rattle.lists.proofs.Joins.{allAre-at, allAre-drop}
 use Rattle.lists.proofs.Parts.{next, part-part, put-length, put-other, put-same}
 use Rattle.lists.proofs.Tests.{and-left, and-right, never, or-neither, so}

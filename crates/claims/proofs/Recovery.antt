@@ -1,11 +1,10 @@
 -- What a start finds on a chip that shows what the host knows: each LBA as it was last. After a write that was cut short the chip shows the board before it or the board after it, so the write reads
 -- wholly old or wholly new.
 -- Assumes nothing.
-use mathlib.Core.Path.{_≡_, refl, sym, ap, _∙_}
+use mathlib.Core.Path.{_≡_, refl, sym, _∙_}
 use mathlib.Core.Logic.{_⊎_, inl, inr}
 use Prim.Native.Nat.{ℕ, _*_, _<_}
 use native.Mathlib.Nat.{div-lt-iff-lt-mul}
-use native.Mathlib.Decide.{ℕ-discrete}
 use mathlib.Core.Bool.{true, false}
 use mathlib.Core.List.{List, [], _∷_}
 use borrow.Author.Tests.{eqb-false}
@@ -15,6 +14,7 @@ use Rattle.rules.specs.declared.Params.{Params}
 use Rattle.rules.specs.Parameters.{allowed}
 use Rattle.rules.specs.Numbers.{clusterOf, sectorOf}
 use Rattle.rules.specs.Tables.{Board}
+use Rattle.rules.specs.Orderly.{orderly}
 use Rattle.rules.specs.Requests.{Request, requestCluster, start, write}
 use Rattle.rules.specs.Replies.{OrderlyBoard, lengthsFit}
 use Rattle.rules.specs.Start.{started}
@@ -100,12 +100,13 @@ module _ (p : Params) (fine : allowed p ≡ true) (b₀ : Board) (lengths : leng
       let same : q′ ≡ q = cc in
       inr (λ a low is. found b (learns p b (write q′) k) shows reads left a low ∙ rw same (old-here b k q a is))
 
-  pub recovered : (k : Known) (short : List Request) → Lost p k short (b₀ .chip) → Recovered p b₀ k short (outcomeOf p b₀ start)
+  pub recovered : (k : Known) (short : List Request) → orderly p b₀ ≡ false → Lost p k short (b₀ .chip) → Recovered p b₀ k short (outcomeOf p b₀ start)
   unfolding answerOf
-  recovered k short l =
+  recovered k short off l =
       let w = (back k short l) .1 in
       rw (start-accepted p b₀ (admitted-start p b₀ (w .admitted)))
       (record {
+        gone = off;
         accepted = refl;
         once = w .once;
         order = in-order p (started p b₀) (stands-orderly p (started p b₀) (w .stands));

@@ -1,7 +1,7 @@
 -- Through any plain calls, starts among them, a board stands (crate starts): it is orderly, its stamps tell which frame is the latest, and what is reserved is bad; and a
 -- cluster that the host has not released has a CT entry, or no whole frame left. Call by call, each law of crate starts.
 -- Assumes nothing.
-use mathlib.Core.Path.{_≡_, refl, sym, _∙_}
+use mathlib.Core.Path.{_≡_, refl}
 use mathlib.Core.Logic.{_⊎_, inl, inr}
 use Prim.Native.Nat.{ℕ, _<_}
 use native.Mathlib.Decide.{ℕ-discrete}

@@ -1,5 +1,5 @@
--- T-07: what the stamps of a region's whole frames say (crate starts, specs/Timely.antt), after every run from an accepted format on. proofs/CutRuns.antt has the
--- theorem.
+-- T-07: what the stamps of a region's whole frames say (crate starts, specs/Timely.antt), after every run from an accepted format on. proofs/Condition2.antt has
+-- the theorem.
 -- Assumes nothing.
 use Prim.Native.Nat.{ℕ, _<_}
 use mathlib.Core.Path.{_≡_}
