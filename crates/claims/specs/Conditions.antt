@@ -213,8 +213,9 @@ among p (q ∷ qs) c = eqb (requestCluster p q) c || among p qs c
 abbrev pub ReadsAs : Params → Board → ℕ → Memory → Type 0
 ReadsAs p b c m = (a : ℕ) → a < p .C * p .alpha → clusterOf p a ≡ c → sectorAt p b a ≡ m a
 
--- T-07, a board b whose tables a cut took: it is not orderly, so that by the table every read, write and release is refused. A start is accepted, erases one block at most and leaves order. "Every accepted write then reads back, as does each item that a
--- cut queue had finished unrefused; the write cut short reads wholly old or wholly new": new is what it gave, over what the host last knew of its cluster
+-- T-07, a board b whose tables a cut took: it is not orderly, so that by the table every read, write and release is refused. A start is accepted, erases one block at most and
+-- leaves order. "Every accepted write then reads back, as does each item that a cut queue had finished unrefused; the write cut short reads wholly old or wholly new": new is what it
+-- gave, over what the host last knew of its cluster, which is all ones if that was released
 pub record Recovered (p : Params) (b : Board) (k : Known) (short : List Request) (o : Outcome) : Type 0 where
   pub gone : orderly p b ≡ false
   pub accepted : o .answer .reply ≡ Accepted

@@ -59,7 +59,7 @@ total (n ∷ ns) = n + total ns
 -- ---- the figure
 
 -- "From a format on, without cuts, any k accepted writes to the region in a row bring at most k/G erases, rounded up": any writes that stand in a row in the
--- list of them, whatever else is called before, between and after them, other formats and starts too
+-- list of them, whatever else is called before, between and after them, other formats and starts too, with budgets that are never spent or without
 abbrev pub ErasesPerRegion : Type 0
 ErasesPerRegion =
     (p : Params) (b : Board) → replyOf p b format ≡ Accepted → (ss : List Step) → uncut p (leaves p b (plain format)) ss ≡ true → (r : ℕ) → r < p .mu
