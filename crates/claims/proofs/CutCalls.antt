@@ -41,7 +41,7 @@ use Rattle.claims.proofs.Known.{knownBy}
 use Rattle.claims.proofs.Memory.{Agrees, call-agrees, done-agrees}
 use Rattle.claims.proofs.PlainRuns.{learnsAll, plainLeaves, plainParts, plainWrites, first-uncut, uncut-by, uncut-leaves}
 use Rattle.claims.proofs.Queues.{on-disorder}
-use Rattle.claims.proofs.Recovery.{Lost, as-new, as-old}
+use Rattle.claims.proofs.Recovery.{Lost, as-new, as-old, lost-cut}
 use Rattle.claims.proofs.Singles.{Single, queue-parts}
 use Rattle.claims.proofs.Standing.{Standing, call-standing, done-standing}
 use Rattle.claims.proofs.Steps.{accepted-leaves, accepted-ops, doneBoard, doneOps, its-part, opsBy, partOf, parts-step, refused-ops}
@@ -174,11 +174,7 @@ module _ (p : Params) (fine : allowed p ≡ true) (b b′ : Board) (lengths : le
   unfolding doubts losing
   start-doubted nothing h = tt
   start-doubted (stands k) h = as-old b (start-cut p fine b b lengths (untouched p b (h .0 .stands)) n) (h .1) (h .0 .left)
-  start-doubted (lost k short) h = again (h .1)
-    where
-      again : Lost p k short (b .chip) → Lost p k short (replayChip p (b .chip) (take n (startOps p (b .chip))))
-      again (as-old b₁ shows reads left) = as-old b₁ (start-cut p fine b b₁ lengths shows n) reads left
-      again (as-new b₁ q is ask shows reads left) = as-new b₁ q is ask (start-cut p fine b b₁ lengths shows n) reads left
+  start-doubted (lost k short) h = lost-cut p fine b lengths k short (h .1) n
 
   cut-start : (x : Belief) → replyOf p b start ≡ Accepted → n ≤ length (opsOf ((workOf p b start) .parts)) → Believed p b x → Cut start x
   cut-start x e few h = rw (one-cut p b b′ start x n tt e few, start-ops e) (start-doubted x h)

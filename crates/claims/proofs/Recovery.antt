@@ -1,12 +1,15 @@
 -- What a start finds on a chip that shows what the host knows: each LBA as it was last. After a write that was cut short the chip shows the board before it or the board after it, so the write reads
 -- wholly old or wholly new.
 -- Assumes nothing.
-use mathlib.Core.Path.{_≡_, refl, sym, _∙_}
+use mathlib.Core.Path.{_≡_, refl, sym, ap, _∙_}
 use mathlib.Core.Logic.{_⊎_, inl, inr}
-use Prim.Native.Nat.{ℕ, _*_, _<_}
+use Prim.Native.Nat.{ℕ, zero, suc, _*_, _<_}
 use native.Mathlib.Nat.{div-lt-iff-lt-mul}
+use native.Mathlib.Omega.{arith}
 use mathlib.Core.Bool.{true, false}
 use mathlib.Core.List.{List, [], _∷_}
+use lib.ListN.{length, take}
+use lib.Seq.{take-all}
 use borrow.Author.Tests.{eqb-false}
 use Rattle.lists.proofs.Joins.{updated-other, updated-same}
 use Rattle.lists.proofs.Tests.{or-neither, so}
@@ -17,21 +20,29 @@ use Rattle.rules.specs.Tables.{Board}
 use Rattle.rules.specs.Orderly.{orderly}
 use Rattle.rules.specs.Requests.{Request, requestCluster, start, write}
 use Rattle.rules.specs.Replies.{OrderlyBoard, lengthsFit}
-use Rattle.rules.specs.Start.{started}
-use Rattle.rules.specs.Calls.{answerOf, outcomeOf}
+use Rattle.rules.specs.Start.{leftOver, startOps, started}
+use Rattle.rules.specs.Traces.{Op, erasesIn, replayChip, replayWear}
+use Rattle.rules.specs.Calls.{Outcome, answerOf, outcomeOf}
+use Rattle.rules.specs.Cuts.{cutBoard, isCut, limited}
 use Rattle.rules.proofs.Admitted.{Asked}
+use Rattle.rules.proofs.Erases.{erases-counted, erases-long, where-below}
 use Rattle.rules.proofs.Outcomes.{start-accepted}
 use Rattle.rules.proofs.Sizes.{sizes}
+use Rattle.starts.specs.Admitted.{StartAdmitted}
 use Rattle.starts.specs.Recovers.{Recovers}
 use Rattle.starts.specs.Stands.{Stands}
-use Rattle.starts.proofs.Recovers.{old-recovers}
+use Rattle.starts.proofs.Again.{again-same}
+use Rattle.starts.proofs.Recovers.{old-recovers, start-cut}
 use Rattle.starts.proofs.Steady.{ReadsOld}
-use Rattle.claims.specs.Runs.{Known, given, learns, sectorAt}
+use Rattle.claims.specs.Runs.{Known, given, learns, leaves, sectorAt}
 use Rattle.claims.specs.Conditions.{Recovered, among, old}
+use Rattle.claims.proofs.Budgets.{cut-is}
 use Rattle.claims.proofs.Condition1.{in-order}
+use Rattle.claims.proofs.CutTraces.{cut-leaves, step-long}
 use Rattle.claims.proofs.Memory.{Agrees, given-else}
 use Rattle.claims.proofs.Standing.{Left}
 use Rattle.claims.proofs.Starting.{admitted-start}
+use Rattle.claims.proofs.Steps.{accepted-ops, doneOps, opsBy}
 
 -- the chip shows a board that reads as the host knows, or as it would know if the write cut short had been accepted
 pub data Lost (p : Params) (k : Known) (short : List Request) (chip : List ℕ) : Type 0 where
@@ -41,6 +52,20 @@ pub data Lost (p : Params) (k : Known) (short : List Request) (chip : List ℕ) 
 
 pub stands-orderly : (p : Params) (b : Board) → Stands p b → OrderlyBoard p b
 stands-orderly p b st = record { fine = st .fine; lengths = st .lengths; tidy = st .order }
+
+-- a start on such a chip is not refused
+lost-admitted : (p : Params) → allowed p ≡ true → (b₀ : Board) → lengthsFit p b₀ ≡ true → (k : Known) (short : List Request) → Lost p k short (b₀ .chip) → StartAdmitted p b₀
+lost-admitted p fine b₀ lengths k short (as-old b shows reads left) = (old-recovers p fine b₀ b lengths shows) .admitted
+lost-admitted p fine b₀ lengths k short (as-new b q is ask shows reads left) = (old-recovers p fine b₀ b lengths shows) .admitted
+
+-- what it leaves is made of the chip and the wear alone; its operations are erases
+same-started : (p : Params) (b b′ : Board) → b .chip ≡ b′ .chip → b .wear ≡ b′ .wear → started p b ≡ started p b′
+unfolding started
+same-started p b b′ chip wear = rw (chip, wear)
+
+start-long : (p : Params) (chip : List ℕ) → length (startOps p chip) ≡ erasesIn (startOps p chip)
+unfolding startOps
+start-long p chip = rw (where-below p (leftOver p chip)) (erases-long (leftOver p chip) (p .N) ∙ sym ((erases-counted (leftOver p chip) (p .N)) .1))
 
 -- ---- a start on board b₀, whose chip shows b
 
@@ -81,6 +106,39 @@ module _ (p : Params) (fine : allowed p ≡ true) (b₀ : Board) (lengths : leng
   unfolding learns
   lost-start k short l = let w = (back k short l) .1 in (w .stands, λ c h x. w .clear c h)
 
+  -- ---- a start that is cut, which has one operation at most
+
+  pub lost-cut : (k : Known) (short : List Request) → Lost p k short (b₀ .chip) → (n : ℕ) → Lost p k short (replayChip p (b₀ .chip) (take n (startOps p (b₀ .chip))))
+  lost-cut k short (as-old b shows reads left) n = as-old b (start-cut p fine b₀ b lengths shows n) reads left
+  lost-cut k short (as-new b q is ask shows reads left) n = as-new b q is ask (start-cut p fine b₀ b lengths shows n) reads left
+
+  -- the next one has the same chip and wear before it, or those that this one would have left
+  cut-same : (k : Known) (short : List Request) → Lost p k short (b₀ .chip) → (n : ℕ) → started p (cutBoard p b₀ (take n (startOps p (b₀ .chip)))) ≡ started p b₀
+  unfolding cutBoard replayChip replayWear
+  cut-same k short l zero = same-started p (cutBoard p b₀ []) b₀ refl refl
+  cut-same k short l (suc n) =
+      rw (take-all (suc n) (startOps p (b₀ .chip)) (omega (arith, start-long p (b₀ .chip), ((back k short l) .1) .once)))
+      (all-made ∙ again-same p b₀ (((back k short l) .1) .admitted))
+    where
+      all-made : started p (cutBoard p b₀ (startOps p (b₀ .chip))) ≡ started p (started p b₀)
+      all-made = same-started p (cutBoard p b₀ (startOps p (b₀ .chip))) (started p b₀) (unfold started in refl) (unfold started in refl)
+
+  cut-again : (k : Known) (short : List Request) → Lost p k short (b₀ .chip) → (n : ℕ) → isCut p b₀ (limited n start) ≡ true
+      → (outcomeOf p (leaves p b₀ (limited n start)) start) .board ≡ started p b₀
+  cut-again k short l n e = again-board ∙ rw left (cut-same k short l n)
+    where
+      left : leaves p b₀ (limited n start) ≡ cutBoard p b₀ (take n (startOps p (b₀ .chip)))
+      left = cut-leaves p b₀ n start e ∙ ap (λ (os : List Op). cutBoard p b₀ (take n os)) (unfold opsBy doneOps in accepted-ops p b₀ start tt ((cut-is p b₀ n start e) .1))
+
+      lost-there : Lost p k short ((leaves p b₀ (limited n start)) .chip)
+      lost-there = rw left (unfold cutBoard in lost-cut k short l n)
+
+      again-board : (outcomeOf p (leaves p b₀ (limited n start)) start) .board ≡ started p (leaves p b₀ (limited n start))
+      again-board =
+          ap (λ (o : Outcome). o .board)
+          (start-accepted p (leaves p b₀ (limited n start))
+          (admitted-start p (leaves p b₀ (limited n start)) (lost-admitted p fine (leaves p b₀ (limited n start)) (step-long p b₀ (limited n start) lengths) k short lost-there)))
+
   kept : (k : Known) (short : List Request) → Lost p k short (b₀ .chip) → (c : ℕ) → among p short c ≡ false
       → (a : ℕ) → a < p .C * p .alpha → clusterOf p a ≡ c → sectorAt p (started p b₀) a ≡ old p b₀ k a
   kept k short (as-old b shows reads left) c out a low is = found b k shows reads left a low
@@ -112,4 +170,5 @@ module _ (p : Params) (fine : allowed p ≡ true) (b₀ : Board) (lengths : leng
         order = in-order p (started p b₀) (stands-orderly p (started p b₀) (w .stands));
         kept = kept k short l;
         whole = whole k short l;
+        again = cut-again k short l;
       })

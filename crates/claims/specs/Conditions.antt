@@ -25,7 +25,7 @@ use Rattle.rules.specs.Start.{leftOver}
 use Rattle.rules.specs.Write.{Plan, continues, opens, reclaims, planOf, planErases, planFrame, planBlock, copies}
 use Rattle.rules.specs.Replies.{OrderlyBoard, Row, replyOf, rowsOf}
 use Rattle.rules.specs.Calls.{Outcome, Part, answersIn, opsOf, outcomeOf, over, workOf}
-use Rattle.rules.specs.Cuts.{Step, plain, limited, cutPart, finished, hasBudget, stepOutcome}
+use Rattle.rules.specs.Cuts.{Step, plain, limited, cutPart, finished, hasBudget, isCut, stepOutcome}
 use Rattle.starts.specs.Again.{SameButWear}
 use Rattle.starts.specs.Latest.{latest}
 use Rattle.claims.specs.Runs.{AllFit, Belief, Known, Memory, beliefAfter, boardAfter, cleared, given, leaves, lost, noPageTwice, nothing, partsOf, requestsTo, sectorAt, stands, toldTo, traceOf, uncut, undisturbed}
@@ -215,7 +215,7 @@ ReadsAs p b c m = (a : ℕ) → a < p .C * p .alpha → clusterOf p a ≡ c → 
 
 -- T-07, a board b whose tables a cut took: it is not orderly, so that by the table every read, write and release is refused. A start is accepted, erases one block at most and
 -- leaves order. "Every accepted write then reads back, as does each item that a cut queue had finished unrefused; the write cut short reads wholly old or wholly new": new is what it
--- gave, over what the host last knew of its cluster, which is all ones if that was released
+-- gave, over what the host last knew of its cluster, which is all ones if that was released. A start that is cut, and made again, leaves the same
 pub record Recovered (p : Params) (b : Board) (k : Known) (short : List Request) (o : Outcome) : Type 0 where
   pub gone : orderly p b ≡ false
   pub accepted : o .answer .reply ≡ Accepted
@@ -223,6 +223,7 @@ pub record Recovered (p : Params) (b : Board) (k : Known) (short : List Request)
   pub order : InOrder p (o .board)
   pub kept : (c : ℕ) → among p short c ≡ false → ReadsAs p (o .board) c (old p b k)
   pub whole : (q : Request) → short ≡ q ∷ [] → ReadsAs p (o .board) (requestCluster p q) (old p b k) ⊎ ReadsAs p (o .board) (requestCluster p q) (given p q (k .memory))
+  pub again : (n : ℕ) → isCut p b (limited n start) ≡ true → (outcomeOf p (leaves p b (limited n start)) start) .board ≡ o .board
 
 -- what holds, by what the host knows; after a cut format nothing is promised until a format is accepted
 abbrev pub Holds : Params → Board → Belief → Type 0
