@@ -28,7 +28,6 @@ use Rattle.rules.proofs.Admitted.{Asked}
 use Rattle.rules.proofs.Erases.{erases-counted, erases-long, where-below}
 use Rattle.rules.proofs.Outcomes.{start-accepted}
 use Rattle.rules.proofs.Sizes.{sizes}
-use Rattle.starts.specs.Admitted.{StartAdmitted}
 use Rattle.starts.specs.Recovers.{Recovers}
 use Rattle.starts.specs.Stands.{Stands}
 use Rattle.starts.proofs.Again.{again-same}
@@ -53,12 +52,12 @@ pub data Lost (p : Params) (k : Known) (short : List Request) (chip : List ℕ) 
 pub stands-orderly : (p : Params) (b : Board) → Stands p b → OrderlyBoard p b
 stands-orderly p b st = record { fine = st .fine; lengths = st .lengths; tidy = st .order }
 
--- a start on such a chip is not refused
-lost-admitted : (p : Params) → allowed p ≡ true → (b₀ : Board) → lengthsFit p b₀ ≡ true → (k : Known) (short : List Request) → Lost p k short (b₀ .chip) → StartAdmitted p b₀
-lost-admitted p fine b₀ lengths k short (as-old b shows reads left) = (old-recovers p fine b₀ b lengths shows) .admitted
-lost-admitted p fine b₀ lengths k short (as-new b q is ask shows reads left) = (old-recovers p fine b₀ b lengths shows) .admitted
+-- so a start on it gives that board back
+back : (p : Params) → allowed p ≡ true → (b₀ : Board) → lengthsFit p b₀ ≡ true → (k : Known) (short : List Request) → Lost p k short (b₀ .chip) → (b : Board) × Recovers p b₀ b
+back p fine b₀ lengths k short (as-old b shows reads left) = (b, old-recovers p fine b₀ b lengths shows)
+back p fine b₀ lengths k short (as-new b q is ask shows reads left) = (b, old-recovers p fine b₀ b lengths shows)
 
--- what it leaves is made of the chip and the wear alone; its operations are erases
+-- what a start leaves is made of the chip and the wear alone; its operations are erases
 same-started : (p : Params) (b b′ : Board) → b .chip ≡ b′ .chip → b .wear ≡ b′ .wear → started p b ≡ started p b′
 unfolding started
 same-started p b b′ chip wear = rw (chip, wear)
@@ -75,18 +74,18 @@ module _ (p : Params) (fine : allowed p ≡ true) (b₀ : Board) (lengths : leng
   unfolding old
   found b k shows reads left a low = go (so (k .released (clusterOf p a)))
     where
-      back : Recovers p b₀ b
-      back = old-recovers p fine b₀ b lengths shows
+      recovers : Recovers p b₀ b
+      recovers = old-recovers p fine b₀ b lengths shows
 
       cluster : clusterOf p a < p .C
       cluster = div-lt-iff-lt-mul ((sizes p fine) .sectors) .1 low
 
       go : (k .released (clusterOf p a) ≡ true) ⊎ (k .released (clusterOf p a) ≡ false) → sectorAt p (started p b₀) a ≡ old p b₀ k a
-      go (inl r) = rw r (unfold sectorAt in back .returns (clusterOf p a) cluster (sectorOf p a))
+      go (inl r) = rw r (unfold sectorAt in recovers .returns (clusterOf p a) cluster (sectorOf p a))
       go (inr r) = rw r (same ∙ reads a low)
         where
           same : sectorAt p (started p b₀) a ≡ sectorAt p b a
-          same = unfold sectorAt in back .reads (clusterOf p a) cluster (left (clusterOf p a) cluster r) (sectorOf p a)
+          same = unfold sectorAt in recovers .reads (clusterOf p a) cluster (left (clusterOf p a) cluster r) (sectorOf p a)
 
   -- what a write that was accepted makes of it: its cluster as given, every other as before
   old-else : (b : Board) (k : Known) (q : Request) → Asked p q → (a : ℕ) → (clusterOf p a ≡ requestCluster p q → ⊥) → old p b₀ (learns p b (write q) k) a ≡ old p b₀ k a
@@ -97,14 +96,9 @@ module _ (p : Params) (fine : allowed p ≡ true) (b₀ : Board) (lengths : leng
   unfolding old learns
   old-here b k q a is = rw (is, updated-same (k .released) (requestCluster p q) false)
 
-  -- which board it is
-  back : (k : Known) (short : List Request) → Lost p k short (b₀ .chip) → (b : Board) × Recovers p b₀ b
-  back k short (as-old b shows reads left) = (b, old-recovers p fine b₀ b lengths shows)
-  back k short (as-new b q is ask shows reads left) = (b, old-recovers p fine b₀ b lengths shows)
-
   pub lost-start : (k : Known) (short : List Request) → Lost p k short (b₀ .chip) → Stands p (started p b₀) × Left p (started p b₀) (learns p (started p b₀) start k)
   unfolding learns
-  lost-start k short l = let w = (back k short l) .1 in (w .stands, λ c h x. w .clear c h)
+  lost-start k short l = let w = (back p fine b₀ lengths k short l) .1 in (w .stands, λ c h x. w .clear c h)
 
   -- ---- a start that is cut, which has one operation at most
 
@@ -117,8 +111,8 @@ module _ (p : Params) (fine : allowed p ≡ true) (b₀ : Board) (lengths : leng
   unfolding cutBoard replayChip replayWear
   cut-same k short l zero = same-started p (cutBoard p b₀ []) b₀ refl refl
   cut-same k short l (suc n) =
-      rw (take-all (suc n) (startOps p (b₀ .chip)) (omega (arith, start-long p (b₀ .chip), ((back k short l) .1) .once)))
-      (all-made ∙ again-same p b₀ (((back k short l) .1) .admitted))
+      rw (take-all (suc n) (startOps p (b₀ .chip)) (omega (arith, start-long p (b₀ .chip), ((back p fine b₀ lengths k short l) .1) .once)))
+      (all-made ∙ again-same p b₀ (((back p fine b₀ lengths k short l) .1) .admitted))
     where
       all-made : started p (cutBoard p b₀ (startOps p (b₀ .chip))) ≡ started p (started p b₀)
       all-made = same-started p (cutBoard p b₀ (startOps p (b₀ .chip))) (started p b₀) (unfold started in refl) (unfold started in refl)
@@ -137,7 +131,7 @@ module _ (p : Params) (fine : allowed p ≡ true) (b₀ : Board) (lengths : leng
       again-board =
           ap (λ (o : Outcome). o .board)
           (start-accepted p (leaves p b₀ (limited n start))
-          (admitted-start p (leaves p b₀ (limited n start)) (lost-admitted p fine (leaves p b₀ (limited n start)) (step-long p b₀ (limited n start) lengths) k short lost-there)))
+          (admitted-start p (leaves p b₀ (limited n start)) (((back p fine (leaves p b₀ (limited n start)) (step-long p b₀ (limited n start) lengths) k short lost-there) .1) .admitted)))
 
   kept : (k : Known) (short : List Request) → Lost p k short (b₀ .chip) → (c : ℕ) → among p short c ≡ false
       → (a : ℕ) → a < p .C * p .alpha → clusterOf p a ≡ c → sectorAt p (started p b₀) a ≡ old p b₀ k a
@@ -161,7 +155,7 @@ module _ (p : Params) (fine : allowed p ≡ true) (b₀ : Board) (lengths : leng
   pub recovered : (k : Known) (short : List Request) → orderly p b₀ ≡ false → Lost p k short (b₀ .chip) → Recovered p b₀ k short (outcomeOf p b₀ start)
   unfolding answerOf
   recovered k short off l =
-      let w = (back k short l) .1 in
+      let w = (back p fine b₀ lengths k short l) .1 in
       rw (start-accepted p b₀ (admitted-start p b₀ (w .admitted)))
       (record {
         gone = off;
