@@ -30,7 +30,7 @@ use Rattle.claims.proofs.CutTraces.{trace-long, trace-made, trace-once}
 use Rattle.claims.proofs.Memory.{Agrees, read-agrees}
 use Rattle.claims.proofs.Recovery.{found, recovered, stands-orderly}
 use Rattle.claims.proofs.Standing.{Standing}
-use Rattle.claims.proofs.Starting.{admitted-start}
+use Rattle.starts.proofs.Accepted.{admitted-start}
 
 -- ---- where the tables stand
 

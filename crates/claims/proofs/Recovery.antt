@@ -40,7 +40,7 @@ use Rattle.claims.proofs.Condition1.{in-order}
 use Rattle.claims.proofs.CutTraces.{cut-leaves, step-long}
 use Rattle.claims.proofs.Memory.{Agrees, given-else}
 use Rattle.claims.proofs.Standing.{Left}
-use Rattle.claims.proofs.Starting.{admitted-start}
+use Rattle.starts.proofs.Accepted.{admitted-start}
 use Rattle.claims.proofs.Steps.{accepted-ops, doneOps, opsBy}
 
 -- the chip shows a board that reads as the host knows, or as it would know if the write cut short had been accepted

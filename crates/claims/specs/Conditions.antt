@@ -1,5 +1,5 @@
--- The tender's conditions 1 to 3 as statements, with what document 02's landed requests make of them: for all parameters and boards, over every call that is
--- delivered, with a budget or without, and over every run of calls. proofs/ has the theorems.
+-- The tender's conditions 1 to 3 as statements, with what document 02's landed requests make of them: for all parameters and boards, over every call,
+-- with a budget or without, and over every run of calls. proofs/ has the theorems.
 -- Assumes nothing.
 use Prim.Native.Nat.{ℕ, _+_, _*_, _≤_, _<_}
 use mathlib.Core.Path.{_≡_}
