@@ -381,20 +381,34 @@ static const uint8_t *page_at(size_t page)
     return bytes_of(&product, CHIP) + page * cnftl_page_bytes(&par);
 }
 
+/* Whether a page has a maker's mark. */
+static bool has_mark(size_t page)
+{
+    return (page_at(page + 1) - CNFTL_SPARE_BYTES)[5] != 255;
+}
+
+/* Whether a block is bad, by its first two pages. */
+static bool bad_block(size_t block)
+{
+    size_t pages = cnftl_pages_per_block(&par);
+
+    return has_mark(block * pages) || (pages > 1 && has_mark(block * pages + 1));
+}
+
 /* The first page of the latest whole frame of a cluster that is left on the
-   chip of a board that was changed by calls alone, or NULL. */
+   good blocks of a board that was changed by calls alone, or NULL. */
 static const uint8_t *latest_frame(uint32_t cluster)
 {
-    size_t pages = par.n * cnftl_pages_per_block(&par);
+    size_t pages = cnftl_pages_per_block(&par);
     size_t page = cnftl_page_bytes(&par);
     const uint8_t *latest = NULL;
     uint32_t most = 0;
 
-    for (size_t i = 0; i < pages; i += par.alpha) {
+    for (size_t i = 0; i < par.n * pages; i += par.alpha) {
         const uint8_t *last = page_at(i + par.alpha) - CNFTL_SPARE_BYTES;
         uint32_t number, stamp;
 
-        if (last[6] != 0 || last[5] != 255)
+        if (last[6] != 0 || bad_block(i / pages))
             continue;
         memcpy(&number, last, sizeof number);
         memcpy(&stamp, last + 7, sizeof stamp);
