@@ -1,5 +1,5 @@
 #!/usr/bin/env bash
-# The picture of the house is that of crates.txt; each crate stands behind all that it uses; and the README's table has each crate once.
+# The picture of the house is that of crates.txt, and that of the cuts of what the rules compute; each crate stands behind all that it uses; and the README's table has each crate once.
 set -u
 cd "$(dirname "$0")/.."
 passed=0 failed=0
@@ -29,6 +29,7 @@ in_table() {
 }
 
 check "docs/house.svg is not that of crates.txt: run tools/house" tools/house --check
+check "docs/cuts.svg is not that of crates/rules/specs/CutT.antt: run tools/cuts" tools/cuts --check
 check "crates.txt: a crate uses one that comes later" rising
 check "README.md, The house: not the crates of crates.txt in their order" in_table
 echo "$passed passed, $failed failed"
