@@ -56,13 +56,3 @@ write-cut p b st q e k h = go (replayChip p (b .chip) (take k (writeOps p b q)))
     go : (chip : List ℕ) → CutForm p b q chip → ReadsOld p b chip ⊎ ReadsOld p (written p b q) chip
     go chip (before old) = inl old
     go chip (is-whole i) = inr (rw i (untouched p (written p b q) ((written-stands p b st q e) .0)))
-
--- so a start after it finds the write wholly old or wholly new
-pub write-cut-recovers : (p : Params) (b : Board) → Stands p b → (q : Request) → replyOf p b (write q) ≡ Accepted → (k : ℕ) → k ≤ length (writeOps p b q)
-    → (b₀ : Board) → lengthsFit p b₀ ≡ true → b₀ .chip ≡ replayChip p (b .chip) (take k (writeOps p b q)) → Recovers p b₀ b ⊎ Recovers p b₀ (written p b q)
-write-cut-recovers p b st q e k h b₀ lengths is = go (write-cut p b st q e k h)
-  where
-    go : ReadsOld p b (replayChip p (b .chip) (take k (writeOps p b q))) ⊎ ReadsOld p (written p b q) (replayChip p (b .chip) (take k (writeOps p b q)))
-        → Recovers p b₀ b ⊎ Recovers p b₀ (written p b q)
-    go (inl old) = inl (old-recovers p (st .fine) b₀ b lengths (rw is old))
-    go (inr old) = inr (old-recovers p (st .fine) b₀ (written p b q) lengths (rw is old))
