@@ -12,8 +12,8 @@ use lib.ListN.{length, take, drop, replicate, length-append, length-take, length
 use borrow.Author.Tests.{leb-true, ltb-true}
 use Rattle.chip_pages.specs.Asked.{Blank, CopyAsked}
 use Rattle.loops.proofs.Lent.{width}
-use Rattle.chip_frames.specs.Frame.{PageAsked, HostAsked, hostPage, pageSector, hostFrame, sectorsOf}
-use Rattle.chip_frames.proofs.Run.{run, run-length, run-all, run-next, run-other, run-more, page-fits, part-replicate}
+use Rattle.chip_frames.specs.Frame.{PageAsked, HostAsked, firstPages, hostPage, pageSector, hostFrame, sectorsOf}
+use Rattle.chip_frames.proofs.Run.{run-length, run-all, run-next, run-other, run-more, page-fits, part-replicate}
 use Rattle.lists.specs.Below.{joinBelow}
 use Rattle.lists.proofs.Tests.{and-left, and-right, so}
 use Rattle.lists.specs.Parts.{part, putPart}
@@ -101,7 +101,7 @@ module _ (chip : List ℕ) (s n to : ℕ) (kept : Bool) (old off count : ℕ) (b
   page-is j h = join-part (s + 16) n _ page-whole j h
 
   abbrev pub written : ℕ → List ℕ
-  written k = run (s + 16) n to sheet chip k
+  written k = firstPages (s + 16) n to sheet chip k
 
   pub written-length : (k : ℕ) → k ≤ n → length (written k) ≡ length chip
   written-length k h = run-length (s + 16) n to sheet chip (f .fits) frame-whole k h

@@ -10,7 +10,7 @@ use native.Mathlib.Nat.{suc-mul, zero-mul, le-mul-of-pos-right}
 use lib.ListN.{length, take, drop, replicate, length-replicate, replicate-append-replicate}
 use lib.Seq.{take-all, take-at, drop-at, paste, paste-zero}
 use Rattle.chip_pages.specs.Asked.{Blank, CopyAsked}
-use Rattle.chip_frames.specs.Frame.{FrameAsked, PageAsked, HostAsked, hostPage, pageSector, hostFrame, sectorsOf}
+use Rattle.chip_frames.specs.Frame.{FrameAsked, firstPages}
 use Rattle.lists.specs.Parts.{part, putPart}
 use Rattle.lists.proofs.Parts.{next, part-part, part-length, put-length, put-other}
 use Rattle.rules.proofs.Isolation.{index-inj}
@@ -27,11 +27,6 @@ part-replicate w k m v h =
       take-at (replicate w v) _ w (length-replicate {A = ℕ} w v),
     )
 
--- the first k of the n pages of x put at frame `to`
-unfoldable pub run : ℕ → ℕ → ℕ → List ℕ → List ℕ → ℕ → List ℕ
-run w n to x chip zero = chip
-run w n to x chip (suc k) = putPart w (to * n + k) (part w k x) (run w n to x chip k)
-
 module _ (w n to : ℕ) (x chip : List ℕ) (fits : to * (n * w) + n * w ≤ length chip) (whole : length x ≡ n * w) where
   address : (k : ℕ) → (to * n + k) * w ≡ to * (n * w) + k * w
   address k = omega arith
@@ -42,42 +37,42 @@ module _ (w n to : ℕ) (x chip : List ℕ) (fits : to * (n * w) + n * w ≤ len
   page-whole : (k : ℕ) → k < n → length (part w k x) ≡ w
   page-whole k h = part-length w k x (omega (arith, next w k n h))
 
-  pub run-length : (k : ℕ) → k ≤ n → length (run w n to x chip k) ≡ length chip
-  unfolding run
+  pub run-length : (k : ℕ) → k ≤ n → length (firstPages w n to x chip k) ≡ length chip
+  unfolding firstPages
   run-length zero h = refl
-  run-length (suc k) h = put-length w (to * n + k) (part w k x) (run w n to x chip k) (rw (run-length k (omega arith)) (page-fits k h)) (page-whole k h) ∙ run-length k (omega arith)
+  run-length (suc k) h = put-length w (to * n + k) (part w k x) (firstPages w n to x chip k) (rw (run-length k (omega arith)) (page-fits k h)) (page-whole k h) ∙ run-length k (omega arith)
 
   -- a page that none of them is
-  pub run-else : (q : ℕ) (k : ℕ) → k ≤ n → ((j : ℕ) → j < k → q ≡ to * n + j → ⊥) → part w q (run w n to x chip k) ≡ part w q chip
-  unfolding run
+  pub run-else : (q : ℕ) (k : ℕ) → k ≤ n → ((j : ℕ) → j < k → q ≡ to * n + j → ⊥) → part w q (firstPages w n to x chip k) ≡ part w q chip
+  unfolding firstPages
   run-else q zero h ne = refl
   run-else q (suc k) h ne =
-      put-other w (to * n + k) (part w k x) (run w n to x chip k) (rw (run-length k (omega arith)) (page-fits k h)) (page-whole k h) q (ne k (omega arith))
+      put-other w (to * n + k) (part w k x) (firstPages w n to x chip k) (rw (run-length k (omega arith)) (page-fits k h)) (page-whole k h) q (ne k (omega arith))
       ∙ run-else q k (omega arith) (λ j m. ne j (omega arith))
 
-  pub run-is : (k : ℕ) → k ≤ n → run w n to x chip k ≡ paste chip (to * (n * w)) x (k * w)
-  unfolding run putPart part
+  pub run-is : (k : ℕ) → k ≤ n → firstPages w n to x chip k ≡ paste chip (to * (n * w)) x (k * w)
+  unfolding firstPages putPart part
   run-is zero h = rw zero-mul (paste-zero chip (to * (n * w)) x)
   run-is (suc k) h =
       let i : k * w + w ≤ n * w = next w k n h in
       rw (run-is k (omega arith), address k, suc-mul k w) (paste-more chip x (to * (n * w)) (k * w) w (omega arith) (omega arith))
 
   -- all of them
-  pub run-all : run w n to x chip n ≡ putPart (n * w) to x chip
+  pub run-all : firstPages w n to x chip n ≡ putPart (n * w) to x chip
   unfolding putPart
   run-all = run-is n (omega arith) ∙ rw (take-all (n * w) x (omega arith))
 
   -- the page before its program, and a page of another frame
-  pub run-next : (k : ℕ) → k < n → part w (to * n + k) (run w n to x chip k) ≡ part w k (part (n * w) to chip)
+  pub run-next : (k : ℕ) → k < n → part w (to * n + k) (firstPages w n to x chip k) ≡ part w k (part (n * w) to chip)
   run-next k h = run-else (to * n + k) k (omega arith) (λ j m e. omega arith) ∙ sym (part-part w n to k chip h)
 
-  pub run-other : (from k j : ℕ) → k ≤ n → j < n → (from ≡ to → ⊥) → part w (from * n + j) (run w n to x chip k) ≡ part w j (part (n * w) from chip)
+  pub run-other : (from k j : ℕ) → k ≤ n → j < n → (from ≡ to → ⊥) → part w (from * n + j) (firstPages w n to x chip k) ≡ part w j (part (n * w) from chip)
   run-other from k j h m ne =
       run-else (from * n + j) k h (λ i a e. ne (index-inj n from j to i m (omega arith) e)) ∙ sym (part-part w n from j chip m)
 
   -- a turn
-  pub run-more : (l : List ℕ) (k : ℕ) (y : List ℕ) → l ≡ run w n to x chip k → y ≡ part w k x → putPart w (to * n + k) y l ≡ run w n to x chip (k + 1)
-  unfolding run
+  pub run-more : (l : List ℕ) (k : ℕ) (y : List ℕ) → l ≡ firstPages w n to x chip k → y ≡ part w k x → putPart w (to * n + k) y l ≡ firstPages w n to x chip (k + 1)
+  unfolding firstPages
   run-more l k y e f = rw (add-one, e, f)
 
 -- ---- a frame copied page by page
@@ -93,7 +88,7 @@ module _ (w n from to : ℕ) (chip : List ℕ) (f : FrameAsked chip w n from to)
   low-page a k h m = omega (arith, le-mul-of-pos-right (a * n + k) (f .some), next w k n m)
 
   abbrev pub copied : ℕ → List ℕ
-  copied k = run w n to (part (n * w) from chip) chip k
+  copied k = firstPages w n to (part (n * w) from chip) chip k
 
   pub copied-length : (k : ℕ) → k ≤ n → length (copied k) ≡ length chip
   copied-length k h = run-length w n to (part (n * w) from chip) chip (f .fits) frame-whole k h

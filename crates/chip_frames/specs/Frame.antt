@@ -3,7 +3,7 @@
 use mathlib.Core.Path.{_≡_}
 use mathlib.Core.Bool.{Bool, true, false, _&&_, cond}
 use mathlib.Core.List.{List, [], _∷_, _++_}
-use Prim.Native.Nat.{ℕ, _+_, _-_, _*_, _≤_, _<_}
+use Prim.Native.Nat.{ℕ, zero, suc, _+_, _-_, _*_, _≤_, _<_}
 use lib.ListN.{length, take, replicate}
 use lib.Dec.{leb, ltb}
 use Rattle.lists.specs.Below.{joinBelow}
@@ -19,6 +19,11 @@ pub record FrameAsked (chip : List ℕ) (w n from to : ℕ) : Type 0 where
   pub source : from * (n * w) + n * w ≤ length chip
   pub apart : from ≡ to → ⊥
   pub clean : part (n * w) to chip ≡ replicate (n * w) 255
+
+-- the first k of the n pages of x, of width w, put at frame `to` one after the other
+unfoldable pub firstPages : ℕ → ℕ → ℕ → List ℕ → List ℕ → ℕ → List ℕ
+firstPages w n to x chip zero = chip
+firstPages w n to x chip (suc k) = putPart w (to * n + k) (part w k x) (firstPages w n to x chip k)
 
 -- a sector of the cluster as it was: that of page `old`, or 255 throughout
 unfoldable pub pageSector : ℕ → Bool → ℕ → List ℕ → List ℕ

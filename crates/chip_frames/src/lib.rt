@@ -5,7 +5,7 @@ ghost use mathlib.Core.List.{List, _++_};
 ghost use Prim.Native.Nat.{ℕ, _+_, _*_, _<_, _≤_};
 ghost use lib.ListN.{length, take, drop, replicate};
 ghost use Rattle.rules.specs.Parameters.{allowed, frames};
-ghost use Rattle.chip_frames.specs.Frame.{FrameAsked, PageAsked, HostAsked, hostPage, pageSector, hostFrame, sectorsOf};
+ghost use Rattle.chip_frames.specs.Frame.{FrameAsked, PageAsked, HostAsked, firstPages, hostPage, pageSector, hostFrame, sectorsOf};
 ghost use Rattle.lists.specs.Parts.{part, putPart};
 use rules::Label;
 use rules::PBlock;
@@ -22,15 +22,16 @@ pub fn frame_at(p: Params, n: PBlock, f: usize) -> usize
     n.0 * m + f
 }
 
-// Frame `to` is programmed with the pages of frame `from`, one after the other.
-pub fn copy_frame(chip: &mut [u8], w: usize, n: usize, from: usize, to: usize)
+// Frame `to` is programmed with the first m of the n pages of frame `from`, one after the other: all of them, or fewer at a cut.
+pub fn copy_pages(chip: &mut [u8], w: usize, n: usize, from: usize, to: usize, m: usize)
     requires { ⌜ FrameAsked (now chip) w n from to ⌝ }
-    ensures { λ _. ⌜ now (chip .exit) ≡ putPart (n * w) to (part (n * w) from (now (chip .entry))) (now (chip .entry)) ⌝ }
+    requires { ⌜ m ≤ n ⌝ }
+    ensures { λ _. ⌜ now (chip .exit) ≡ firstPages w n to (part (n * w) from (now (chip .entry))) (now (chip .entry)) m ⌝ }
 {
     let x = from * n;
     let y = to * n;
     let mut k: usize = 0;
-    while k < n {
+    while k < m {
         chip_pages::copy_at(chip, w, x + k, y + k);
         k += 1;
     }
@@ -68,8 +69,9 @@ fn host_page(
     chip_pages::program_blank_at(chip, q, s, of, (j % 256) as u8);
 }
 
-// Frame `to` is programmed with a cluster: the given sectors from `off` on, and for the others those of frame `old`, 255 where there is none.
-pub fn host_frame(
+// Frame `to` is programmed with the first m of the n pages of a cluster: the given sectors from `off` on, and for the others those of frame `old`, 255 where
+// there is none.
+pub fn host_pages(
     chip: &mut [u8],
     s: usize,
     n: usize,
@@ -80,15 +82,17 @@ pub fn host_frame(
     count: usize,
     bytes: &[u8],
     of: Label,
+    m: usize,
 )
     requires { ⌜ HostAsked (now chip) s n to kept old off count (now bytes) ⌝ }
-    ensures { λ _. ⌜ now (chip .exit) ≡ putPart (n * (s + 16)) to (hostFrame s n off count (now (bytes .entry)) (sectorsOf s n kept old (now (chip .entry)))
-        (of .cluster .0) (of .stamp) (of .vblock)) (now (chip .entry)) ⌝ }
+    requires { ⌜ m ≤ n ⌝ }
+    ensures { λ _. ⌜ now (chip .exit) ≡ firstPages (s + 16) n to (hostFrame s n off count (now (bytes .entry)) (sectorsOf s n kept old (now (chip .entry)))
+        (of .cluster .0) (of .stamp) (of .vblock)) (now (chip .entry)) m ⌝ }
 {
     let x = old * n;
     let y = to * n;
     let mut k: usize = 0;
-    while k < n {
+    while k < m {
         host_page(chip, s, y + k, kept, x + k, k, off, count, bytes, of);
         k += 1;
     }

@@ -12,7 +12,8 @@ use lib.Dec.{eqb}
 use borrow.Author.Tests.{eq-eqb, ne-eqb, lt-ltb}
 use lib.ListN.{length, take, set, replicate}
 use Rattle.lists.proofs.Joins.{join-cong}
-use Rattle.chip_frames.specs.Frame.{HostAsked, hostPage, hostFrame, sectorsOf}
+use Rattle.chip_frames.specs.Frame.{HostAsked, firstPages, hostPage, hostFrame, sectorsOf}
+use Rattle.chip_frames.proofs.Host.{all-done}
 use Rattle.read_work.specs.Lookup.{blockFor, lastFor, frameFor, Lookup, Stands}
 use Rattle.read_work.proofs.Views.{lookup-of}
 use Rattle.write_cluster.specs.Clusters.{Standing, ClusterPut}
@@ -248,12 +249,12 @@ module _ (p : Params) (b : Board) (q : Request) (v f : ℕ) (t : Standing p b q 
         host-requires = (host-asked kept fr found to off to-is eo)
 
         pub cluster-put : (chip₁ ct₁ fst₁ stamps₁ : List ℕ) (sg t₁ : ℕ)
-            → chip₁ ≡ putPart (p .alpha * (p .s + 16)) to (hostFrame (p .s) (p .alpha) off (q .count) (q .bytes) (sectorsOf (p .s) (p .alpha) kept fr (b .chip)) c′ t₁ v) (b .chip)
+            → chip₁ ≡ firstPages (p .s + 16) (p .alpha) to (hostFrame (p .s) (p .alpha) off (q .count) (q .bytes) (sectorsOf (p .s) (p .alpha) kept fr (b .chip)) c′ t₁ v) (b .chip) (p .alpha)
             → sg ≡ segmentOf p v f → ct₁ ≡ set (b .ct) c′ sg → fst₁ ≡ set (b .fst) r′ sg → t₁ ≡ stampAt (b .stamps) r′ + 1 → stamps₁ ≡ set (b .stamps) r′ (stampAt (b .stamps) r′ + 1)
             → ClusterPut p b q v f chip₁ ct₁ fst₁ stamps₁
         cluster-put chip₁ ct₁ fst₁ stamps₁ sg t₁ e s x y k w =
             record {
-              chip = unfold frameBytes pageBytes nextStamp in (e ∙ rw (ec, frame-is kept fr found off t₁ v eo, to-is, k, region-is));
+              chip = unfold frameBytes pageBytes nextStamp in (e ∙ all-done _ _ _ _ _ _ _ _ _ host-requires _ _ _ ∙ rw (ec, frame-is kept fr found off t₁ v eo, to-is, k, region-is));
               ct = x ∙ rw (ec, s);
               fst = y ∙ rw (region-is, s);
               stamps = w ∙ unfold nextStamp in rw region-is;

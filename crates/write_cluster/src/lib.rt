@@ -40,7 +40,7 @@ pub fn put_cluster(
         stamp: chip_tables::take_stamp(stamps, r),
         vblock: v.0 as u8,
     };
-    chip_frames::host_frame(
+    chip_frames::host_pages(
         chip,
         p.s,
         p.alpha,
@@ -51,6 +51,7 @@ pub fn put_cluster(
         count,
         bytes,
         of,
+        p.alpha,
     );
     let sg = rules::segment_of(p, v, f);
     chip_tables::set_ct(ct, c, sg);

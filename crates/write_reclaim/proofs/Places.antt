@@ -17,7 +17,8 @@ use Rattle.rules.proofs.Sizes.{Sizes, sizes}
 use Rattle.rules.proofs.Frames.{seg-low}
 use Rattle.rules.proofs.TableFacts.{chip-size}
 use Rattle.rules.proofs.Isolation.{index-inj}
-use Rattle.chip_frames.specs.Frame.{FrameAsked}
+use Rattle.chip_frames.specs.Frame.{FrameAsked, firstPages}
+use Rattle.chip_frames.proofs.Run.{copy-all}
 use Rattle.write_reclaim.specs.Moves.{Whole, OnChip, MoveAsked, Moved, MovedIf}
 
 pub chip-length : (p : Params) (chip : List ℕ) → Whole p chip → length chip ≡ chipBytes p
@@ -73,10 +74,10 @@ module _ (p : Params) (chip ct : List ℕ) (o n v f k : ℕ) (a : MoveAsked p ch
         }
 
     pub moved : (c sg : ℕ) (chip₁ ct₁ : List ℕ) → c ≡ held p (frame p (block p chip o) f) → sg ≡ segmentOf p v k
-        → chip₁ ≡ putPart (p .alpha * (p .s + 16)) to (part (p .alpha * (p .s + 16)) from chip) chip → ct₁ ≡ set ct c sg → Moved p chip ct o n v f k chip₁ ct₁
+        → chip₁ ≡ firstPages (p .s + 16) (p .alpha) to (part (p .alpha * (p .s + 16)) from chip) chip (p .alpha) → ct₁ ≡ set ct c sg → Moved p chip ct o n v f k chip₁ ct₁
     moved c sg chip₁ ct₁ ec es x y =
         record {
-          chipIs = x ∙ unfold frameBytes pageBytes in (rw (et, ef) (ap (λ (l : List ℕ). putPart (frameBytes p) (n * frames p + k) l chip) (frame-is p chip o f (a .from))));
+          chipIs = x ∙ copy-all _ _ _ _ _ copy-asked ∙ unfold frameBytes pageBytes in (rw (et, ef) (ap (λ (l : List ℕ). putPart (frameBytes p) (n * frames p + k) l chip) (frame-is p chip o f (a .from))));
           ctIs = y ∙ rw (ec, es);
         }
 

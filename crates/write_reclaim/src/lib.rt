@@ -37,7 +37,7 @@ fn move_frame(
     let c = cluster_at(p, chip, o, f);
     let from = chip_frames::frame_at(p, o, f);
     let to = chip_frames::frame_at(p, n, k);
-    chip_frames::copy_frame(chip, p.s + rules::SPARE_BYTES, p.alpha, from, to);
+    chip_frames::copy_pages(chip, p.s + rules::SPARE_BYTES, p.alpha, from, to, p.alpha);
     chip_tables::set_ct(ct, c, rules::segment_of(p, v, k));
 }
 

@@ -1,5 +1,6 @@
 -- `write_cluster::put_cluster`: the new frame is programmed from the old one where it now stands.
 -- Assumes nothing.
+use native.Mathlib.Omega.{arith}
 use borrow.Author.Needs.{needs}
 use Rattle.rules.proofs.Sizes.{sizes}
 use Rattle.write_cluster.proofs.Put.{region-at, vblock-low, ct-in, fst-in, stamps-in, stamp-left, vblock-few, frame-few, segment-few, number-asked, host-requires, cluster-put}
@@ -53,14 +54,16 @@ sector-of-requires c κs =
     let start = c .before .before .before .before .before .before .before .before .before .before .before .before .before .before .before .before in
     (sizes _ (start .pre .0 .fine)) .sectors
 
-host-frame-requires : tie.Need-host-frame-requires
-host-frame-requires c κs =
+host-pages-requires : tie.Need-host-pages-requires
+host-pages-requires c κs =
     let at-bt-at = c .before .before .before .before .before .before .before .before in
     let at-region-of = at-bt-at .before in
     let at-cluster-of = at-region-of .before in
-    let start = at-cluster-of .before .before .before .before .before .before .before in
-    host-requires _ _ _ _ _ (start .pre .0) _ _ (at-cluster-of .cluster-of .ensures) (at-region-of .region-of .ensures) _ (at-bt-at .bt-at .ensures .0) _ _
-    (c .before .before .before .before .before .before .before .frame-at .ensures) (c .sector-of .ensures) _ _ (start .pre .1)
+    let start = at-cluster-of .before .before .before .before .before .before .before in (
+      host-requires _ _ _ _ _ (start .pre .0) _ _ (at-cluster-of .cluster-of .ensures) (at-region-of .region-of .ensures) _ (at-bt-at .bt-at .ensures .0) _ _
+          (c .before .before .before .before .before .before .before .frame-at .ensures) (c .sector-of .ensures) _ _ (start .pre .1),
+      omega arith,
+    )
 
 segment-of-requires : tie.Need-segment-of-requires
 segment-of-requires c κs =
@@ -112,8 +115,8 @@ returns : tie.Need-returns
 returns c =
     let at-set-ct = c .before .before .before .before .before .before in
     let at-segment-of = at-set-ct .before .before in
-    let at-host-frame = at-segment-of .before .before .before in
-    let at-sector-of = at-host-frame .before in
+    let at-host-pages = at-segment-of .before .before .before in
+    let at-sector-of = at-host-pages .before in
     let at-frame-at = at-sector-of .before .before .before .before .before .before .before in
     let at-bt-at = at-frame-at .before in
     let at-region-of = at-bt-at .before in
@@ -121,9 +124,9 @@ returns c =
     let start = at-cluster-of .before .before .before .before .before .before .before in
     let at-take-stamp = c .before .before .before .before .before .before .before .before .before .before .before .before .before .before .before .before .before in
     cluster-put _ _ _ _ _ (start .pre .0) _ _ (at-cluster-of .cluster-of .ensures) (at-region-of .region-of .ensures) _ (at-bt-at .bt-at .ensures .0) _ _
-    (at-frame-at .frame-at .ensures) (at-sector-of .sector-of .ensures) _ _ (start .pre .1) _ _ _ _ _ _ (at-host-frame .host-frame .ensures)
+    (at-frame-at .frame-at .ensures) (at-sector-of .sector-of .ensures) _ _ (start .pre .1) _ _ _ _ _ _ (at-host-pages .host-pages .ensures)
     (at-segment-of .segment-of .ensures) (at-set-ct .set-ct .ensures) (c .before .before .set-fst .ensures) (at-take-stamp .take-stamp .ensures .0) (at-take-stamp .take-stamp .ensures .1)
 
 pub put-cluster-spec : {M : Type 1} → statement M
 put-cluster-spec =
-    tie.close (tie.spec cluster-of-requires region-of-requires bt-at-requires frame-at-requires take-stamp-requires cast-t22 sector-of-requires host-frame-requires segment-of-requires set-ct-requires set-fst-requires same-length same-length-2 same-length-3 same-length-4 returns)
+    tie.close (tie.spec cluster-of-requires region-of-requires bt-at-requires frame-at-requires take-stamp-requires cast-t22 sector-of-requires host-pages-requires segment-of-requires set-ct-requires set-fst-requires same-length same-length-2 same-length-3 same-length-4 returns)

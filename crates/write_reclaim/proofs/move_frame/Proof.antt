@@ -16,16 +16,16 @@ frame-at-requires c κs = search needs
 frame-at-requires-2 : tie.Need-frame-at-requires-2
 frame-at-requires-2 c κs = search needs
 
-add-copy-frame : tie.Need-add-copy-frame
-add-copy-frame c =
+add-copy-pages : tie.Need-add-copy-pages
+add-copy-pages c =
     let start = c .before .before .before .before .before .before .before .before in
     omega (arith, page-small _ _ _ _ _ _ _ _ (start .pre))
 
-copy-frame-requires : tie.Need-copy-frame-requires
-copy-frame-requires c κs =
+copy-pages-requires : tie.Need-copy-pages-requires
+copy-pages-requires c κs =
     let at-frame-at = c .before .before .before in
     let start = at-frame-at .before .before .before .before .before in
-    copy-asked _ _ _ _ _ _ _ _ (start .pre) _ _ (at-frame-at .frame-at .ensures) (c .before .before .frame-at2 .ensures)
+    (copy-asked _ _ _ _ _ _ _ _ (start .pre) _ _ (at-frame-at .frame-at .ensures) (c .before .before .frame-at2 .ensures), omega arith)
 
 segment-of-requires : tie.Need-segment-of-requires
 segment-of-requires c κs =
@@ -49,13 +49,13 @@ same-length-2 c = search needs
 returns : tie.Need-returns
 returns c =
     let at-segment-of = c .before .before .before in
-    let at-copy-frame = at-segment-of .before .before .before .before in
-    let at-frame-at2 = at-copy-frame .before .before .before in
+    let at-copy-pages = at-segment-of .before .before .before .before in
+    let at-frame-at2 = at-copy-pages .before .before .before in
     let at-frame-at = at-frame-at2 .before in
     let at-cluster-at = at-frame-at .before in
     let start = at-cluster-at .before .before .before .before in
     moved _ _ _ _ _ _ _ _ (start .pre) _ _ (at-frame-at .frame-at .ensures) (at-frame-at2 .frame-at2 .ensures) _ _ _ _ (at-cluster-at .cluster-at .ensures)
-    (at-segment-of .segment-of .ensures) (at-copy-frame .copy-frame .ensures) (c .before .before .set-ct .ensures)
+    (at-segment-of .segment-of .ensures) (at-copy-pages .copy-pages .ensures) (c .before .before .set-ct .ensures)
 
 pub move-frame-spec : {M : Type 1} → statement M
 move-frame-spec =
@@ -64,8 +64,8 @@ move-frame-spec =
     cluster-at-requires
     frame-at-requires
     frame-at-requires-2
-    add-copy-frame
-    copy-frame-requires
+    add-copy-pages
+    copy-pages-requires
     segment-of-requires
     set-ct-requires
     same-length
