@@ -24,20 +24,20 @@ use Rattle.queue_turns.specs.Served.{itemOutcome, servedFrom}
 
 module _ {A : Type 0} where
   -- the front up to a place that is set is the one before it, with what it is set to
-  take-set : (l : List A) (i : ℕ) (a : A) → i < length l → take (suc i) (set l i a) ≡ take i l ++ (a ∷ [])
+  pub take-set : (l : List A) (i : ℕ) (a : A) → i < length l → take (suc i) (set l i a) ≡ take i l ++ (a ∷ [])
   take-set [] i a h = absurd (omega arith)
   take-set (x ∷ l) zero a h = refl
   take-set (x ∷ l) (suc i) a h = ap (λ (r : List A). x ∷ r) (take-set l i a (omega arith))
 
   -- and what stands after it stays
-  drop-set : (l : List A) (i j : ℕ) (a : A) → i < j → drop j (set l i a) ≡ drop j l
+  pub drop-set : (l : List A) (i j : ℕ) (a : A) → i < j → drop j (set l i a) ≡ drop j l
   drop-set l i zero a h = absurd (omega arith)
   drop-set [] i (suc j) a h = refl
   drop-set (x ∷ l) zero (suc j) a h = refl
   drop-set (x ∷ l) (suc i) (suc j) a h = drop-set l i j a (omega arith)
 
   -- one more of the first, over a list that has it
-  over-at : (l : List A) (i : ℕ) (a : A) (more : List A) → i < length l → a ∷ over more (drop (suc i) l) ≡ over (a ∷ more) (drop i l)
+  pub over-at : (l : List A) (i : ℕ) (a : A) (more : List A) → i < length l → a ∷ over more (drop (suc i) l) ≡ over (a ∷ more) (drop i l)
   unfolding over
   over-at [] i a more h = absurd (omega arith)
   over-at (x ∷ l) zero a more h = refl
@@ -52,14 +52,14 @@ module _ {A : Type 0} where
 
 module _ {ℓ} {A : Type ℓ} where
   -- what is left of them from the i-th on
-  drop-take : (l : List A) (n i : ℕ) (a : A) → i < n → drop i l ≡ a ∷ drop (suc i) l → drop i (take n l) ≡ a ∷ drop (suc i) (take n l)
+  pub drop-take : (l : List A) (n i : ℕ) (a : A) → i < n → drop i l ≡ a ∷ drop (suc i) l → drop i (take n l) ≡ a ∷ drop (suc i) (take n l)
   drop-take l zero i a h e = absurd (omega arith)
   drop-take [] (suc n) zero a h e = e
   drop-take (z ∷ l) (suc n) zero a h e = cc
   drop-take [] (suc n) (suc i) a h e = e
   drop-take (z ∷ l) (suc n) (suc i) a h e = drop-take l n i a (omega arith) e
 
-  take-short : (l : List A) (n : ℕ) → length (take n l) ≤ n
+  pub take-short : (l : List A) (n : ℕ) → length (take n l) ≤ n
   take-short l zero = omega arith
   take-short [] (suc n) = omega arith
   take-short (z ∷ l) (suc n) = omega (arith, take-short l n)
