@@ -47,7 +47,7 @@ turn-done p ordered b requests bytes answers i a b′ h answers′ e =
 
 -- ---- the turns
 
-take-all {ℓ} : {A : Type ℓ} (l : List A) → take (length l) l ≡ l
+pub take-all {ℓ} : {A : Type ℓ} (l : List A) → take (length l) l ≡ l
 take-all [] = refl
 take-all {A = A} (z ∷ l) = ap {B = List A} (λ r. z ∷ r) (take-all l)
 
@@ -97,9 +97,25 @@ module _ (p : Params) (b : Board) (requests bytes answers : List ℕ) (h : Head)
   pub turns-asked : TurnsAsked p (h .ordered) b requests answers (h .items)
   turns-asked = record { asked = omega (arith, is .fits); places = is .room; ready = is .ready }
 
-  own-word : (r : Reply) → numberOf r ≡ packed (answerOf r [] 0)
+  pub own-word : (r : Reply) → numberOf r ≡ packed (answerOf r [] 0)
   unfolding packed answerOf programsIn erasesIn
   own-word r = omega arith
+
+  -- as the queue that is lent
+  abbrev pub call : Call
+  call = queue (flatQueue requests bytes answers)
+
+  -- the reply is the queue's, but for a list that is no multiple of three
+  pub same-reply : badParameter p || eqb (length requests % 3) 0 ≡ true → flatReply p b (length requests) (length answers) ≡ replyOf p b call
+  unfolding replyOf rowsOf flatReply
+  same-reply t = rw (items-length requests, length-replicate (length answers) (answerOf Accepted [] 0)) (go (badParameter p) refl (eqb (length requests % 3) 0) refl)
+    where
+      go : (x : Bool) → badParameter p ≡ x → (y : Bool) → eqb (length requests % 3) 0 ≡ y
+          → cond (badParameter p) BadParameter (cond (not (eqb (length requests % 3) 0)) WrongLength (firstRow Accepted (queueRows p b (length requests / 3) (length answers))))
+          ≡ firstRow Accepted (queueRows p b (length requests / 3) (length answers))
+      go true e y k = rw e (unfold queueRows lentRows firstRow in rw e)
+      go false e true k = rw (e, k)
+      go false e false k = absurd (false≢true (rw (e, k) at t))
 
   module _ (b′ : Board) (answers′ : List ℕ) (fold : (b′, answers′) ≡ servedFrom packed p bytes (take (h .items) (itemsOf requests)) 0 b answers) (word : ℕ) (w : word ≡ numberOf (h .reply)) where
     -- the loop served these, with this reply
@@ -113,10 +129,6 @@ module _ (p : Params) (b : Board) (requests bytes answers : List ℕ) (h : Head)
     none-served e =
         let none : h .items ≡ 0 = is .counted ∙ rw e in
         ap (λ (k : ℕ). servedFrom packed p bytes (take k (itemsOf requests)) 0 b answers) none
-
-    -- as the queue that is lent
-    abbrev call : Call
-    call = queue (flatQueue requests bytes answers)
 
     abbrev byWork : Work → FlatOutcome
     byWork k = flatOutcome (packed (k .answer)) (over (map packed (answersIn (k .parts))) answers) (k .left)
@@ -142,18 +154,6 @@ module _ (p : Params) (b : Board) (requests bytes answers : List ℕ) (h : Head)
         go : (replyOf p b call ≡ Accepted) ⊎ (isAccepted (replyOf p b call) ≡ false) → flatOutcome word answers′ b′ ≡ byWork (workOf p b call)
         go (inl e) = accepted replied e
         go (inr e) = refused replied e
-
-    -- the reply is the queue's, but for a list that is no multiple of three
-    same-reply : badParameter p || eqb (length requests % 3) 0 ≡ true → flatReply p b (length requests) (length answers) ≡ replyOf p b call
-    unfolding replyOf rowsOf flatReply
-    same-reply t = rw (items-length requests, length-replicate (length answers) (answerOf Accepted [] 0)) (go (badParameter p) refl (eqb (length requests % 3) 0) refl)
-      where
-        go : (x : Bool) → badParameter p ≡ x → (y : Bool) → eqb (length requests % 3) 0 ≡ y
-            → cond (badParameter p) BadParameter (cond (not (eqb (length requests % 3) 0)) WrongLength (firstRow Accepted (queueRows p b (length requests / 3) (length answers))))
-            ≡ firstRow Accepted (queueRows p b (length requests / 3) (length answers))
-        go true e y k = rw e (unfold queueRows lentRows firstRow in rw e)
-        go false e true k = rw (e, k)
-        go false e false k = absurd (false≢true (rw (e, k) at t))
 
     pub all-done : flatOutcome word answers′ b′ ≡ flatCall p b requests bytes answers
     unfolding flatCall outcomeOf

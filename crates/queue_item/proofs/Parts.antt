@@ -2,8 +2,10 @@
 -- Assumes nothing.
 use mathlib.Core.Path.{_≡_, refl, sym, ap, _∙_}
 use mathlib.Core.Bool.{Bool, true, false, not}
-use mathlib.Core.List.{List, []}
-use Prim.Native.Nat.{ℕ, _+_, _*_, _-_, _≤_}
+use mathlib.Core.List.{List, [], append-nil}
+use Prim.Native.Nat.{ℕ, _+_, _*_, _-_, _≤_, _<_}
+use native.Mathlib.Omega.{arith}
+use native.Mathlib.Decide.{decLt}
 use lib.ListN.{length, take, drop}
 use borrow.Author.Tests.{leb-true, not-false}
 use Rattle.loops.proofs.Lent.{width}
@@ -16,15 +18,20 @@ use Rattle.rules.specs.Tables.{Board}
 use Rattle.rules.specs.Orderly.{orderly}
 use Rattle.rules.specs.Requests.{Request, itemRequest, lies, write, requestOf}
 use Rattle.rules.specs.Replies.{badCount, isAccepted, lengthsFit, numberOf, replyOf, wrongData}
-use Rattle.rules.specs.Calls.{Outcome, answerOf, outcomeOf}
+use Rattle.rules.specs.Write.{writeOps}
+use Rattle.rules.specs.Calls.{Outcome, answerOf, opsOf, outcomeOf, single}
+use Rattle.rules.specs.Cuts.{limited, stepOutcome}
 use Rattle.rules.proofs.Admitted.{Checks, write-checks}
 use Rattle.rules.proofs.ItemData.{item-data}
 use Rattle.rules.proofs.Outcomes.{accepted-by, call-refused, is-refused, write-accepted}
 use Rattle.rules.proofs.WritePromise.{write-promise}
 use Rattle.queue_turns.specs.Served.{itemOutcome}
+use Rattle.queue_turns.specs.Limited.{itemStep, leftAfter}
+use Rattle.queue_turns.proofs.Limited.{none-made}
 use Rattle.outcomes.specs.Claims.{outcome}
+use Rattle.outcomes.proofs.Cuts.{step-refused, step-whole, write-work}
 use Rattle.queue_head.specs.Heads.{Ready}
-use Rattle.queue_item.specs.Items.{ItemIs}
+use Rattle.queue_item.specs.Items.{ItemIs, ItemLimited}
 
 -- what the reply of an item promises
 abbrev Replied : Params → Bool → List ℕ → ℕ → ℕ → Bool → Reply → Type 0
@@ -52,6 +59,19 @@ module _ (p : Params) (ordered : Bool) (b : Board) (y : Ready p ordered b) (byte
           answered = an ∙ ap (λ (k : Reply). answerOf k [] 0) is ∙ sym (ap (λ (k : Outcome). k .answer) o);
           left = sym (ap (λ (k : Outcome). k .board) o);
           ready = y;
+        }
+
+    -- with any budget
+    pub limited-refused : (n ≡ 0 → ⊥) → (a : Answer) → a ≡ answerOf r [] 0 → (k : ℕ) → ItemLimited p ordered b bytes k it a k b
+    unfolding itemStep leftAfter
+    limited-refused ne a an k =
+        let no : isAccepted (replyOf p b (write request)) ≡ false = rw (← is) (is-refused r (λ (e : r ≡ Accepted). ne (m ∙ ap numberOf e))) in
+        let o = step-refused p b k (write request) no ∙ call-refused p b (write request) no in
+        record {
+          answered = an ∙ ap (λ (q : Reply). answerOf q [] 0) is ∙ sym (ap (λ (q : Outcome). q .answer) o);
+          board = sym (ap (λ (q : Outcome). q .board) o);
+          left = omega (arith, none-made p b request no);
+          ready = λ some. y;
         }
 
     module _ (z : n ≡ 0) where
@@ -92,3 +112,27 @@ module _ (p : Params) (ordered : Bool) (b : Board) (y : Ready p ordered b) (byte
           let same : outcome a (asked .bytes) [] b′ ≡ outcomeOf p b (write request) = e ∙ ap (λ (q : Request). outcomeOf p b (write q)) asked-is in
           let left : b′ ≡ (outcomeOf p b (write request)) .board = ap (λ (k : Outcome). k .board) same in
           record { answered = ap (λ (k : Outcome). k .answer) same; left = left; ready = rw left (unfold itemOutcome in ready-after) }
+
+      -- the operations of the write
+      ops-are : (k : ℕ) → leftAfter p bytes b k it ≡ k - length (writeOps p b request)
+      unfolding leftAfter opsOf single
+      ops-are k = rw (write-work p b request accepted, append-nil (writeOps p b request))
+
+      pub limited-done : (k : ℕ) (a : Answer) (left : ℕ) (b′ : Board) → outcome a (asked .bytes) [] b′ ≡ stepOutcome p b (limited k (write asked)) → left ≡ k - length (writeOps p b asked)
+          → ItemLimited p ordered b bytes k it a left b′
+      unfolding itemStep
+      limited-done k a left b′ e l =
+          let same : outcome a (asked .bytes) [] b′ ≡ stepOutcome p b (limited k (write request)) = e ∙ ap (λ (q : Request). stepOutcome p b (limited k (write q))) asked-is in
+          let rest : left ≡ k - length (writeOps p b request) = l ∙ ap (λ (q : Request). k - length (writeOps p b q)) asked-is in
+          record {
+            answered = ap (λ (q : Outcome). q .answer) same;
+            board = ap (λ (q : Outcome). q .board) same;
+            left = rest ∙ sym (ops-are k);
+            ready = λ some. go (decLt (length (writeOps p b request)) k) same rest some;
+          }
+        where
+          go : Dec (length (writeOps p b request) < k) → outcome a (asked .bytes) [] b′ ≡ stepOutcome p b (limited k (write request)) → left ≡ k - length (writeOps p b request) → (left ≡ 0 → ⊥) → Ready p ordered b′
+          go (yes h) same rest some =
+              let whole = step-whole p b k (write request) _ _ _ _ (write-work p b request accepted) h in
+              rw (ap (λ (q : Outcome). q .board) (same ∙ whole)) (unfold itemOutcome in ready-after)
+          go (no h) same rest some = absurd (some (omega arith))

@@ -9,6 +9,7 @@ use Rattle.rules.specs.declared.Answer.{Answer}
 use Rattle.rules.specs.declared.Item.{Item}
 use Rattle.rules.specs.Tables.{Board}
 use Rattle.queue_turns.specs.Served.{itemOutcome}
+use Rattle.queue_turns.specs.Limited.{itemStep, leftAfter}
 use Rattle.queue_head.specs.Heads.{Ready}
 
 -- one item is answered as the single write that it asks for, leaves what that leaves, and the flag stays true of it
@@ -16,3 +17,10 @@ pub record ItemIs (p : Params) (ordered : Bool) (b : Board) (bytes : List ℕ) (
   pub answered : a ≡ (itemOutcome p bytes b it) .answer
   pub left : b′ ≡ (itemOutcome p bytes b it) .board
   pub ready : Ready p ordered b′
+
+-- with k left of a budget it is the single write with that budget; what is left then; and the flag stays true unless that is nothing
+pub record ItemLimited (p : Params) (ordered : Bool) (b : Board) (bytes : List ℕ) (k : ℕ) (it : Item) (a : Answer) (rest : ℕ) (b′ : Board) : Type 0 where
+  pub answered : a ≡ (itemStep p bytes b k it) .answer
+  pub board : b′ ≡ (itemStep p bytes b k it) .board
+  pub left : rest ≡ leftAfter p bytes b k it
+  pub ready : (rest ≡ 0 → ⊥) → Ready p ordered b′

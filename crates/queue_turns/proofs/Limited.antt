@@ -49,6 +49,10 @@ write-refused : (p : Params) (b : Board) (q : Request) → isAccepted (replyOf p
 unfolding writeWork refuses lent
 write-refused p b q e = work-refused p b (write q) _ _ _ _ e
 
+pub none-made : (p : Params) (b : Board) (q : Request) → isAccepted (replyOf p b (write q)) ≡ false → length (opsOf ((workOf p b (write q)) .parts)) ≡ 0
+unfolding workOf opsOf single
+none-made p b q e = rw (write-refused p b q e)
+
 pub one : (p : Params) (b : Board) (q : Request) → One p b q
 unfolding replayChip replayWear
 one p b q = go (reply-cases (replyOf p b (write q)))
