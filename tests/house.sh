@@ -29,7 +29,7 @@ in_table() {
 }
 
 check "docs/house.svg is not that of crates.txt: run tools/house" tools/house --check
-check "docs/cuts.svg is not that of crates/rules/specs/CutT.antt: run tools/cuts" tools/cuts --check
+check "docs/cuts.svg is not that of crates/cases/specs/CutT.antt: run tools/cuts" tools/cuts --check
 check "crates.txt: a crate uses one that comes later" rising
 check "README.md, The house: not the crates of crates.txt in their order" in_table
 echo "$passed passed, $failed failed"

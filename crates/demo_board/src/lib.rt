@@ -2,7 +2,7 @@
 ghost use mathlib.Core.Path.{_≡_};
 ghost use Prim.Native.Nat.{_*_, min};
 ghost use lib.ListN.{replicate};
-ghost use Rattle.rules.specs.BoardT.{boardT};
+ghost use Rattle.cases.specs.BoardT.{boardT};
 use rules::Params;
 
 // Board T.

@@ -9,7 +9,7 @@ use native.Mathlib.Omega.{arith}
 use lib.ListN.{replicate, take}
 use Rattle.rules.specs.declared.Answer.{Answer}
 use Rattle.rules.specs.declared.Reply.the-variants.{Accepted}
-use Rattle.rules.specs.BoardT.{boardT}
+use Rattle.cases.specs.BoardT.{boardT}
 use Rattle.rules.specs.Tables.{Board}
 use Rattle.rules.specs.Requests.{format, read, write}
 use Rattle.rules.specs.Replies.{isAccepted, replyOf}

@@ -1,7 +1,7 @@
 -- What the format and a line make of a board.
 -- Assumes nothing.
 use mathlib.Core.Path.{_≡_}
-use Rattle.rules.specs.BoardT.{boardT}
+use Rattle.cases.specs.BoardT.{boardT}
 use Rattle.rules.specs.Requests.{format}
 use Rattle.rules.specs.Calls.{outcomeOf}
 use Rattle.rules.specs.Tables.{Board}

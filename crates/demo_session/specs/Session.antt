@@ -11,7 +11,7 @@ use lib.ListN.{length, replicate}
 use Rattle.rules.specs.Tables.{Board}
 use Rattle.rules.specs.Requests.{Request, format, read, write}
 use Rattle.rules.specs.Calls.{outcomeOf}
-use Rattle.rules.specs.BoardT.{boardT, blankT}
+use Rattle.cases.specs.BoardT.{boardT, blankT}
 use Rattle.demo_lines.specs.declared.Line.{Line}
 use Rattle.demo_lines.specs.declared.Line.the-variants.{Write, Read, Other}
 use Rattle.demo_lines.specs.Grammar.{lineOf}

@@ -9,7 +9,7 @@ use Rattle.lists.proofs.Joins.{sameList→eq}
 use Rattle.rules.specs.declared.Reply.the-variants.{Accepted}
 use Rattle.rules.specs.Requests.{format}
 use Rattle.rules.specs.Replies.{replyOf}
-use Rattle.rules.specs.BoardT.{boardT, paramsT}
+use Rattle.cases.specs.BoardT.{boardT, paramsT}
 use Rattle.rules.proofs.Names.{all-rules}
 use Rattle.rules.specs.Cuts.{stepOutcome}
 use Rattle.claims.specs.Runs.{leaves, partsBy, partsOf, partsTo, toRegion}

@@ -11,7 +11,7 @@ use Rattle.rules.specs.Tables.{Board}
 use Rattle.rules.specs.Requests.{format, requestOf, write}
 use Rattle.rules.specs.Replies.{replyOf}
 use Rattle.rules.specs.Cuts.{Step, plain}
-use Rattle.rules.specs.BoardT.{boardT}
+use Rattle.cases.specs.BoardT.{boardT}
 use Rattle.claims.specs.Runs.{partsOf}
 use Rattle.erases.specs.Erases.{clustersIn, erasesBy, roundedUp, spareShare, total}
 

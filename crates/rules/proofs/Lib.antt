@@ -1,7 +1,4 @@
 pub mod Names
-pub mod BoardT
-pub mod StartT
-pub mod CutT
 pub mod Refusals
 pub mod Sizes
 pub mod Frames

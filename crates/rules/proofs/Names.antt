@@ -115,36 +115,6 @@ use Rattle.rules.specs.Replies.{
   whyReply,
 }
 use Rattle.rules.specs.Calls.{answerOf, single, refuses, does, readBytes, writeWork, writeAll, queueWork, workOf, opsOf, over, answersIn, outcomeOf}
-use Rattle.rules.specs.BoardT.{
-  paramsT,
-  boardT,
-  blankT,
-  asks,
-  W,
-  R,
-  inputT,
-  counted,
-  printed,
-  sessionFrom,
-  sessionT,
-  outputT,
-  boardFrom,
-  after,
-  plannedT,
-  formatsT,
-  readsT,
-  reclaimAfter,
-  paramsJ,
-  markedCases,
-  asSaid,
-  sixthSpares,
-  spareT,
-  sixthSaid,
-  begunT,
-  begunCases,
-  begunSaid,
-  sameLists,
-}
 
 -- what the calls are defined by
 unfoldable pub all-rules : Unit {0}
@@ -159,9 +129,3 @@ unfolding allBelow allTrue countBelow firstBelow lastBelow leastBelow mostBelow 
     notOrderly notStartable tooFewAnswers noStampLeft firstRow lentRows accessRows orderRow stampRow rowsOf replyOf whyRows whyReply answerOf single refuses does readBytes writeWork writeAll queueWork workOf
     opsOf over answersIn outcomeOf
 all-rules = tt
-
--- and Board T
-unfoldable pub all-boardT : Unit {0}
-unfolding all-rules paramsT boardT blankT asks W R inputT counted printed sessionFrom sessionT outputT boardFrom after plannedT formatsT readsT reclaimAfter paramsJ
-    markedCases asSaid sixthSpares spareT sixthSaid begunT begunCases begunSaid sameLists
-all-boardT = tt

@@ -18,6 +18,3 @@ pub mod Calls
 pub mod Cuts
 pub mod Words
 pub mod Machine
-pub mod BoardT
-pub mod StartT
-pub mod CutT

@@ -1,7 +1,7 @@
 -- `demo_board::board`: the parameters one by one.
 -- Assumes nothing.
 use mathlib.Core.Path.{refl}
-use Rattle.rules.specs.BoardT.{boardT, paramsT}
+use Rattle.cases.specs.BoardT.{boardT, paramsT}
 use Rattle.demo_board.proofs.board.Statement.{statement}
 use Rattle.demo_board.proofs.board.Tie as tie
 

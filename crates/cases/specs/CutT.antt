@@ -6,14 +6,14 @@ use Prim.Native.Nat.{ℕ}
 use mathlib.Core.List.{List, [], _∷_, _++_, map}
 use lib.ListN.{replicate}
 use Rattle.lists.specs.Below.{joinBelow}
 use Rattle.rules.specs.declared.Answer.{Answer}
 use Rattle.rules.specs.declared.Reply.the-variants.{Accepted}
 use Rattle.rules.specs.Tables.{Board, none}
 use Rattle.rules.specs.Requests.{Call, format, queue, queueOf, start}
 use Rattle.rules.specs.Calls.{Outcome, outcomeOf}
 use Rattle.rules.specs.Cuts.{limited, stepOutcome}
-use Rattle.rules.specs.BoardT.{W, after, boardT, counted}
-use Rattle.rules.specs.StartT.{foundT}
+use Rattle.cases.specs.BoardT.{W, after, boardT, counted}
+use Rattle.cases.specs.StartT.{foundT}
 
 -- a call on Board T with a budget, and a start after it
 unfoldable pub cutT : Board → ℕ → Call → Outcome

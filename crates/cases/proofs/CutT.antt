@@ -2,13 +2,13 @@
 -- Assumes nothing.
 use mathlib.Core.Path.{_≡_, refl}
 use mathlib.Core.Bool.{true}
-use Rattle.rules.specs.BoardT.{sameLists}
-use Rattle.rules.specs.StartT.{foundT}
+use Rattle.cases.specs.BoardT.{sameLists}
+use Rattle.cases.specs.StartT.{foundT}
 use Rattle.rules.specs.Replies.{queueRows}
 use Rattle.rules.specs.Cuts.{cutBoard, cutOutcome, finished, hasBudget, isCut, stepOutcome}
-use Rattle.rules.specs.CutT.{all-cutT, cutCases, cutSaid, leftCases, leftSaid, queueCases, queueSaid}
-use Rattle.rules.proofs.BoardT.{sameLists→eq}
-use Rattle.rules.proofs.Names.{all-boardT}
+use Rattle.cases.specs.CutT.{all-cutT, cutCases, cutSaid, leftCases, leftSaid, queueCases, queueSaid}
+use Rattle.cases.proofs.BoardT.{sameLists→eq}
+use Rattle.cases.proofs.Names.{all-boardT}
 
 cut-test : sameLists cutCases cutSaid ≡ true
 unfolding all-boardT foundT hasBudget isCut finished cutBoard cutOutcome stepOutcome all-cutT

@@ -7,8 +7,8 @@ use mathlib.Core.List.{List, [], _∷_}
 use Rattle.lists.specs.Parts.{sameList}
 use Rattle.lists.proofs.Tests.{and-left, and-right}
 use Rattle.lists.proofs.Joins.{sameList→eq}
-use Rattle.rules.specs.BoardT.{sessionT, outputT, markedCases, asSaid, sixthSpares, sixthSaid, begunCases, begunSaid, sameLists}
-use Rattle.rules.proofs.Names.{all-boardT}
+use Rattle.cases.specs.BoardT.{sessionT, outputT, markedCases, asSaid, sixthSpares, sixthSaid, begunCases, begunSaid, sameLists}
+use Rattle.cases.proofs.Names.{all-boardT}
 
 pub sameLists→eq : (x y : List (List ℕ)) → sameLists x y ≡ true → x ≡ y
 unfolding sameLists

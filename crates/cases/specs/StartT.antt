@@ -6,13 +6,13 @@ use mathlib.Core.List.{List, [], _∷_, _++_}
 use lib.ListN.{take, getD, set, replicate}
 use Rattle.lists.specs.Below.{joinBelow}
 use Rattle.lists.specs.Parts.{putPart}
 use Rattle.rules.specs.Tables.{Board, boardOf, none, wordAt}
 use Rattle.rules.specs.Regions.{sector}
 use Rattle.rules.specs.Pages.{block}
 use Rattle.rules.specs.Requests.{start, release}
 use Rattle.rules.specs.Replies.{numberOf, replyOf}
 use Rattle.rules.specs.Calls.{Outcome, outcomeOf}
-use Rattle.rules.specs.BoardT.{boardT, after, begunT}
+use Rattle.cases.specs.BoardT.{boardT, after, begunT}
 
 -- Board T's chip, with wear all 1 and the tables gone
 unfoldable pub chipAlone : List ℕ → Board

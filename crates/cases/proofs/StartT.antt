@@ -4,10 +4,10 @@ use mathlib.Core.Path.{_≡_, refl}
 use mathlib.Core.Bool.{true}
 use Rattle.lists.specs.Parts.{sameList}
 use Rattle.lists.proofs.Joins.{sameList→eq}
-use Rattle.rules.specs.BoardT.{sameLists}
-use Rattle.rules.specs.StartT.{chipAlone, foundT, refusedCases, refusedSaid, repliesT, startCases, startSaid, startsT, withCopy}
-use Rattle.rules.proofs.BoardT.{sameLists→eq}
-use Rattle.rules.proofs.Names.{all-boardT}
+use Rattle.cases.specs.BoardT.{sameLists}
+use Rattle.cases.specs.StartT.{chipAlone, foundT, refusedCases, refusedSaid, repliesT, startCases, startSaid, startsT, withCopy}
+use Rattle.cases.proofs.BoardT.{sameLists→eq}
+use Rattle.cases.proofs.Names.{all-boardT}
 
 start-test : sameLists startCases startSaid ≡ true
 unfolding all-boardT chipAlone foundT startsT withCopy startCases startSaid

@@ -1,0 +1,4 @@
+pub mod Names
+pub mod BoardT
+pub mod StartT
+pub mod CutT

@@ -1,0 +1,3 @@
+pub mod BoardT
+pub mod StartT
+pub mod CutT
