@@ -8,10 +8,13 @@
  * parameters.
  *
  * There are seven calls: cnftl_format, cnftl_read, cnftl_write, cnftl_queue,
- * cnftl_release, cnftl_why and cnftl_start.  Each one returns for every request
- * and for every content of the lent memory.  What cannot be done is refused by number,
- * and a refusal changes no lent byte, but for two lists: that of a cnftl_why is
- * filled with reply 7 too, and a queue writes the answer of a refused item.
+ * cnftl_release, cnftl_why and cnftl_start.  Four of them also come as a call
+ * that loses power on the way, for tests: cnftl_format_cut, cnftl_write_cut,
+ * cnftl_queue_cut and cnftl_start_cut.  Each one returns for every request and
+ * for every content of the lent memory.  What cannot be done is refused by
+ * number, and a refusal changes no lent byte, but for two lists: that of a
+ * cnftl_why is filled with reply 7 too, and a queue writes the answer of a
+ * refused item.
  *
  * Which sectors belong to a region: sector lba is in cluster lba / alpha, and
  * cluster k is in region k mod mu.  So the sectors of a region, which are those
@@ -419,6 +422,103 @@ uint64_t cnftl_why(uint32_t s, uint32_t alpha, uint32_t beta, uint32_t d,
                    uint32_t *list, size_t list_len);
 
 /*
+ * Four calls with a budget: they leave what the plain call would leave if the
+ * power went while it works.  They are for tests of how a firmware, and a board
+ * with it, comes back from a power loss; in service none of them is needed.
+ *
+ * A budget is a number of page programs and block erases.  Once past its
+ * refusals, such a call stops as soon as it has made that many, each of them
+ * whole: it is cut.  It is cut after its very last one too, so it finishes
+ * exactly if it makes fewer than budget.  With budget 0 it stops before the
+ * first, and so does then a call that would make none: a start with nothing to
+ * erase, and a queue whose requests are all refused or whose board is not
+ * orderly.  A write programs its copies first, frame by frame and page by page,
+ * then erases the block that it reclaims, and then programs the pages of its
+ * own frame; a queue does so request by request; a format and a start erase in
+ * rising order of the blocks.
+ *
+ * A call that finishes is the plain call: same answer, same bytes.  A call that
+ * is refused gives the plain call's refusal with every budget, and changes
+ * nothing.  A call that is cut returns 0, reply and counts.  It leaves the chip
+ * as it then stands, the wear as counted so far, and in the other tables, which
+ * a power loss takes away, all ones: 65,535 in ct, bt and fst, 255 in bst,
+ * UINT64_MAX in marks and 4,294,967,295 in stamps.  A cut queue leaves the
+ * answers of those requests by whose end fewer than budget were made; the
+ * answer of the request that was cut short, and all after it, stay as they
+ * were.  Fill the answers with UINT64_MAX before, which no request gets.
+ *
+ * To tell a cut call from a finished one, look at bst[0] after reply 0: it is
+ * 255 exactly if the call was cut (cnftl_board_is_cut).  Only a queue on a
+ * board that was not orderly before may finish and leave a 255 that it found.
+ * To try every cut of a call, make it on copies of the board with budgets 0, 1,
+ * 2 and so on, until it is not cut.
+ *
+ * What to call next: cnftl_start; after a cut format cnftl_format.  Until then
+ * the board is not orderly.  Where only calls and cuts have changed it since
+ * its last finished format, that start is accepted and erases at most one
+ * block.  Every accepted write then reads back, also each request that a cut
+ * queue has answered with reply 0; the sectors of the write that was cut short
+ * read all old or all new; and a released cluster with whole frames left comes
+ * back with the latest.  A start that is cut is made again.
+ */
+uint64_t cnftl_format_cut(uint32_t s, uint32_t alpha, uint32_t beta,
+                          uint32_t d, uint32_t mu, uint32_t gamma,
+                          uint32_t c, uint32_t n,
+                          uint8_t *chip, size_t chip_len,
+                          uint16_t *ct, size_t ct_len,
+                          uint16_t *bt, size_t bt_len,
+                          uint16_t *fst, size_t fst_len,
+                          uint8_t *bst, size_t bst_len,
+                          uint32_t *wear, size_t wear_len,
+                          uint64_t *marks, size_t marks_len,
+                          uint32_t *stamps, size_t stamps_len,
+                          uint64_t budget);
+
+uint64_t cnftl_write_cut(uint32_t s, uint32_t alpha, uint32_t beta,
+                         uint32_t d, uint32_t mu, uint32_t gamma,
+                         uint32_t c, uint32_t n,
+                         uint8_t *chip, size_t chip_len,
+                         uint16_t *ct, size_t ct_len,
+                         uint16_t *bt, size_t bt_len,
+                         uint16_t *fst, size_t fst_len,
+                         uint8_t *bst, size_t bst_len,
+                         uint32_t *wear, size_t wear_len,
+                         uint64_t *marks, size_t marks_len,
+                         uint32_t *stamps, size_t stamps_len,
+                         uint32_t lba, uint32_t count,
+                         const uint8_t *data, size_t data_len,
+                         uint64_t budget);
+
+uint64_t cnftl_queue_cut(uint32_t s, uint32_t alpha, uint32_t beta,
+                         uint32_t d, uint32_t mu, uint32_t gamma,
+                         uint32_t c, uint32_t n,
+                         uint8_t *chip, size_t chip_len,
+                         uint16_t *ct, size_t ct_len,
+                         uint16_t *bt, size_t bt_len,
+                         uint16_t *fst, size_t fst_len,
+                         uint8_t *bst, size_t bst_len,
+                         uint32_t *wear, size_t wear_len,
+                         uint64_t *marks, size_t marks_len,
+                         uint32_t *stamps, size_t stamps_len,
+                         const uint32_t *requests, size_t requests_len,
+                         const uint8_t *data, size_t data_len,
+                         uint64_t *answers, size_t answers_len,
+                         uint64_t budget);
+
+uint64_t cnftl_start_cut(uint32_t s, uint32_t alpha, uint32_t beta,
+                         uint32_t d, uint32_t mu, uint32_t gamma,
+                         uint32_t c, uint32_t n,
+                         uint8_t *chip, size_t chip_len,
+                         uint16_t *ct, size_t ct_len,
+                         uint16_t *bt, size_t bt_len,
+                         uint16_t *fst, size_t fst_len,
+                         uint8_t *bst, size_t bst_len,
+                         uint32_t *wear, size_t wear_len,
+                         uint64_t *marks, size_t marks_len,
+                         uint32_t *stamps, size_t stamps_len,
+                         uint64_t budget);
+
+/*
  * An answer is reply + 65,536 * programs + 4,294,967,296 * erases.
  * These take it apart.  The third count of a read and a write, the spare areas
  * looked at (document 02, T-08), is not in it: a cnftl_why tells it beforehand,
@@ -710,6 +810,42 @@ static inline uint64_t cnftl_board_why(const struct cnftl_board *b,
                                        uint32_t lba, uint32_t *list)
 {
     return cnftl_why(CNFTL_BOARD(b), lba, list, CNFTL_WHY_ENTRIES);
+}
+
+/* The calls with a budget, and whether the last of them was cut. */
+static inline uint64_t cnftl_board_format_cut(const struct cnftl_board *b,
+                                              uint64_t budget)
+{
+    return cnftl_format_cut(CNFTL_BOARD(b), budget);
+}
+
+static inline uint64_t cnftl_board_write_cut(const struct cnftl_board *b,
+                                             uint32_t lba, uint32_t count,
+                                             const uint8_t *data,
+                                             size_t data_len, uint64_t budget)
+{
+    return cnftl_write_cut(CNFTL_BOARD(b), lba, count, data, data_len, budget);
+}
+
+static inline uint64_t
+cnftl_board_queue_cut(const struct cnftl_board *b,
+                      const struct cnftl_request *requests,
+                      size_t requests_count, const uint8_t *data,
+                      size_t data_len, uint64_t *answers, uint64_t budget)
+{
+    return cnftl_queue_cut(CNFTL_BOARD(b), &requests->lba, 3 * requests_count,
+                           data, data_len, answers, requests_count, budget);
+}
+
+static inline uint64_t cnftl_board_start_cut(const struct cnftl_board *b,
+                                             uint64_t budget)
+{
+    return cnftl_start_cut(CNFTL_BOARD(b), budget);
+}
+
+static inline int cnftl_board_is_cut(const struct cnftl_board *b)
+{
+    return b->bst[0] == 255;
 }
 
 #ifdef __cplusplus

@@ -1,6 +1,7 @@
 /*
  * header.c - Board T of document 01 through cnftl.h, as C99 and as C++ (see
  * header.cc): the printed session and the marked cases that a call can show;
+ * the calls with a budget, cut after each of their operations;
  * and what follows from the parameters alone: sizes, the sectors of each
  * region, and the writes per erase, with the figures of the README.
  */
@@ -493,13 +494,19 @@ static void check_replies(void)
               CNFTL_NOT_ORDERLY, 0, 0));
 }
 
-/* Board T after the fifth write, with its tables lost and wear 1 throughout. */
-static void lose_tables(void)
+/* Board T after the fifth write. */
+static void five_writes(void)
 {
     new_board();
     assert(is(cnftl_board_format(&board), CNFTL_ACCEPTED, 0, 5));
     for (int i = 0; i < 5; i++)
         run_line(&session[i]);
+}
+
+/* The same with its tables lost and wear 1 throughout. */
+static void lose_tables(void)
+{
+    five_writes();
     memset(ct, 255, sizeof ct);
     memset(bt, 255, sizeof bt);
     memset(fst, 255, sizeof fst);
@@ -559,6 +566,155 @@ static void check_start(void)
     board.params.gamma = 17;
     assert(is(cnftl_board_start(&board), CNFTL_BAD_PARAMETER, 0, 0));
     board.params.gamma = 2;
+}
+
+/* Whether a call was cut: all ones in all tables but the wear. */
+static int lost(void)
+{
+    const struct {
+        const void *table;
+        size_t bytes;
+    } tables[6] = {
+        { ct, 12 }, { bt, sizeof bt }, { fst, sizeof fst },
+        { bst, sizeof bst }, { marks, sizeof marks }, { stamps, sizeof stamps }
+    };
+
+    for (int i = 0; i < 6; i++)
+        for (size_t j = 0; j < tables[i].bytes; j++)
+            if (((const uint8_t *)tables[i].table)[j] != 255)
+                return 0;
+    return cnftl_board_is_cut(&board)
+        && is(cnftl_board_read(&board, 0, 1, data, 16), CNFTL_NOT_ORDERLY,
+              0, 0);
+}
+
+/* The sixth write, cut after each of its operations, and the start after it:
+   two pages of a copy, the erase of block 0, and two pages of the new frame.
+   With the last of them sector 5 is the new one; the copy that stands beside
+   block 0 is erased.  A budget of six is not spent. */
+static void check_cut_write(void)
+{
+    for (uint32_t budget = 0; budget <= 6; budget++) {
+        uint64_t a;
+
+        five_writes();
+        memset(data, 22, sizeof data);
+        a = cnftl_board_write_cut(&board, 5, 1, data, 16, budget);
+        if (budget == 6) {
+            assert(is(a, CNFTL_ACCEPTED, 4, 1) && !cnftl_board_is_cut(&board));
+            assert(bt[0] == 3 && frame_is(3, 1, 2, 5, 0));
+            continue;
+        }
+        assert(is(a, CNFTL_ACCEPTED, 0, 0) && lost());
+        assert(wear[0] == (budget < 3 ? 1u : 2u) && wear[3] == 1);
+        assert(is(cnftl_board_start(&board), CNFTL_ACCEPTED, 0,
+                  budget == 1 || budget == 2));
+        assert(wear[3] == (budget == 1 || budget == 2 ? 2u : 1u));
+        assert(is(cnftl_board_read(&board, 4, 2, data, 32), CNFTL_ACCEPTED,
+                  0, 0));
+        assert(sector_is(0, 18) && sector_is(1, budget < 5 ? 18 : 22));
+        assert(is(cnftl_board_read(&board, 0, 2, data, 32), CNFTL_ACCEPTED,
+                  0, 0));
+        assert(sector_is(0, 21) && sector_is(1, 17));
+    }
+}
+
+/* A queue of four operations, cut after each: the first item and the refused
+   ones behind it have their answers once a third is made, and the last item
+   with a budget that is not spent.  On a board that is not orderly budget 0
+   cuts it too, and no other. */
+static void check_cut_queue(void)
+{
+    for (uint32_t budget = 0; budget <= 5; budget++) {
+        uint64_t answers[5];
+
+        new_board();
+        assert(is(cnftl_board_format(&board), CNFTL_ACCEPTED, 0, 5));
+        memset(data, 17, sizeof data);
+        memset(answers, 255, sizeof answers);
+        assert(is(cnftl_board_queue_cut(&board, requests, 5, data, 32, answers,
+                                        budget), CNFTL_ACCEPTED, 0, 0));
+        assert(cnftl_board_is_cut(&board) == (budget < 5));
+        for (int i = 0; i < 5; i++)
+            assert((answers[i] == UINT64_MAX) == (budget < (i < 4 ? 3u : 5u)));
+        if (budget < 5)
+            assert(lost() && is(cnftl_board_start(&board), CNFTL_ACCEPTED,
+                                0, 0));
+        assert(is(cnftl_board_read(&board, 0, 1, data, 16), CNFTL_ACCEPTED,
+                  0, 0));
+        assert(sector_is(0, budget < 2 ? 255 : 17));
+        fst[0] = 5;
+        assert(is(cnftl_board_queue_cut(&board, requests, 1, data, 32, answers,
+                                        budget), CNFTL_ACCEPTED, 0, 0));
+        assert(budget == 0 ? lost()
+               : fst[0] == 5 && answers[0] == CNFTL_NOT_ORDERLY);
+    }
+}
+
+/* A format, cut after each of its five erases, and the format after it. */
+static void check_cut_format(void)
+{
+    for (uint32_t budget = 0; budget <= 6; budget++) {
+        uint64_t a;
+
+        five_writes();
+        a = cnftl_board_format_cut(&board, budget);
+        assert(is(a, CNFTL_ACCEPTED, 0, budget == 6 ? 5 : 0));
+        assert(budget == 6 ? marks_are(0, 0, 0, 0) : lost());
+        for (uint32_t i = 0; i < 5; i++) {
+            assert(wear[i] == (i < budget ? 2u : 1u));
+            assert((chip[i * 128] == 255) == (i < budget || i > 2));
+        }
+        assert(is(cnftl_board_format(&board), CNFTL_ACCEPTED, 0, 5));
+        assert(is(cnftl_board_read(&board, 0, 1, data, 16), CNFTL_ACCEPTED,
+                  0, 0));
+        assert(sector_is(0, 255));
+    }
+}
+
+/* A start with a block to erase, cut before and after that and then made again,
+   and one with nothing to do, which budget 0 cuts too. */
+static void check_cut_start(void)
+{
+    for (uint32_t budget = 0; budget <= 2; budget++) {
+        lose_tables();
+        memcpy(chip + 3 * 128, chip, 64);
+        assert(is(cnftl_board_start_cut(&board, budget), CNFTL_ACCEPTED, 0,
+                  budget == 2));
+        assert(wear[3] == 1 + (budget > 0));
+        assert(budget == 2 ? is_found() : lost());
+        assert(is(cnftl_board_start(&board), CNFTL_ACCEPTED, 0, budget == 0));
+        assert(is_found());
+    }
+    assert(is(cnftl_board_start_cut(&board, 1), CNFTL_ACCEPTED, 0, 0)
+           && is_found());
+    assert(is(cnftl_board_start_cut(&board, 0), CNFTL_ACCEPTED, 0, 0)
+           && lost());
+}
+
+/* What is refused is refused with every budget, and keeps its tables. */
+static void check_cut_refused(void)
+{
+    uint64_t answers[5];
+
+    lose_tables();
+    assert(is(cnftl_board_start(&board), CNFTL_ACCEPTED, 0, 0) && is_found());
+    for (uint64_t budget = 0; budget <= 1; budget++) {
+        assert(is(cnftl_board_write_cut(&board, 12, 1, data, 16, budget),
+                  CNFTL_BAD_ADDRESS, 0, 0));
+        assert(is(cnftl_queue_cut(CNFTL_BOARD(&board), &requests->lba, 15, data,
+                                  32, answers, 4, budget),
+                  CNFTL_TOO_FEW_ANSWERS, 0, 0));
+        board.params.c = 7;
+        assert(is(cnftl_board_format_cut(&board, budget), CNFTL_BAD_PARAMETER,
+                  0, 0));
+        board.params.c = 6;
+        chip[27] = 1;
+        assert(is(cnftl_board_start_cut(&board, budget), CNFTL_NOT_ORDERLY,
+                  0, 0));
+        chip[27] = 0;
+    }
+    assert(is_found());
 }
 
 /* The wear: a format counts it up, and it stays at its largest number. */
@@ -725,6 +881,11 @@ int main(void)
     check_stamps();
     check_spares();
     check_start();
+    check_cut_write();
+    check_cut_queue();
+    check_cut_format();
+    check_cut_start();
+    check_cut_refused();
     check_wear();
     check_replies();
     printf("header: Board T answers as printed\n");
