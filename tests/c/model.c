@@ -9,6 +9,7 @@
 #include "model.h"
 
 #include <assert.h>
+#include <setjmp.h>
 #include <stdbool.h>
 #include <stdlib.h>
 #include <string.h>
@@ -681,6 +682,63 @@ static bool orderly(const struct view *v)
     return broken_rule(v) == 0;
 }
 
+/* ==== Budgets ========================================================== */
+
+/* What a budget counts. */
+enum operation { HOST_PAGE, COPIED_PAGE, BLOCK_ERASE, OPERATIONS };
+
+/* T-07: "Power may go after any page program or block erase, each of them
+   whole."  The power that the call being made has left, where it has a budget,
+   what it has made so far, and where it goes when the power does. */
+static struct {
+    bool limited;
+    uint64_t budget, left;
+    uint32_t made[OPERATIONS];
+    bool queue;      /* whether the call is a queue, */
+    size_t answered; /* and how many items it has answered */
+    jmp_buf gone;
+} power;
+
+/* Whether a mutant leaves an operation out of the budget. */
+static bool costs_nothing(enum operation kind)
+{
+    return (MUTANT(CUT_COPIES_FREE) && kind == COPIED_PAGE)
+        || (MUTANT(CUT_PROGRAMS_FREE) && kind != BLOCK_ERASE)
+        || (MUTANT(CUT_ERASES_FREE) && kind == BLOCK_ERASE);
+}
+
+/* The call goes no further if its budget is spent. */
+static void stop_if_spent(void)
+{
+    if (power.limited && power.left == 0)
+        longjmp(power.gone, 1);
+}
+
+/* "Once past its refusals": budget 0 is spent there. */
+static void past_refusals(void)
+{
+    if (!MUTANT(CUT_IDLE))
+        stop_if_spent();
+}
+
+/* An operation is about to be made; only mutants stop here. */
+static void begin_operation(void)
+{
+    if (MUTANT(CUT_IDLE) || MUTANT(CUT_LAST) || MUTANT(CUT_LAST_ITEM))
+        stop_if_spent();
+}
+
+/* An operation was made, "such a call stops when that many are made". */
+static void end_operation(enum operation kind)
+{
+    power.made[kind]++;
+    if (!power.limited || costs_nothing(kind))
+        return;
+    power.left--;
+    if (!MUTANT(CUT_LAST) && !(MUTANT(CUT_LAST_ITEM) && power.queue))
+        stop_if_spent();
+}
+
 /* ==== Steps ============================================================ */
 
 /* A frame on the chip: its virtual block, its physical block, its number. */
@@ -702,6 +760,7 @@ static void put_stamp(uint8_t *spare, uint32_t stamp)
 static uint8_t *page_to_program(struct lent *l, const struct spot *at,
                                 uint32_t place)
 {
+    begin_operation();
     assert(model_mutant != MODEL_RIGHT
            || page_erased(&l->v, at->block, at->frame, place));
     return l->chip + page_at(&l->v.p, at->block, at->frame, place);
@@ -728,14 +787,24 @@ static void program_page(struct lent *l, const struct spot *at, uint32_t place,
     put_stamp(spare, label->stamp);
     spare[11] = (uint8_t)label->virtual_block;
     memset(spare + 12, 255, SPARE - 12);
+    end_operation(HOST_PAGE);
+}
+
+/* The i-th place of a frame that is programmed: they are "in order". */
+static uint32_t place_in_turn(const struct params *p, uint32_t i)
+{
+    return MUTANT(CUT_PAGE_ORDER) ? p->alpha - 1 - i : i;
 }
 
 /* Programs the alpha pages of a frame with one cluster in order. */
 static void program_frame(struct lent *l, const struct spot *at,
                           const struct label *label, const uint8_t *bytes)
 {
-    for (uint32_t place = 0; place < l->v.p.alpha; place++)
+    for (uint32_t i = 0; i < l->v.p.alpha; i++) {
+        uint32_t place = place_in_turn(&l->v.p, i);
+
         program_page(l, at, place, label, bytes + place * l->v.p.s);
+    }
 }
 
 /* Gathers the data bytes of a frame. */
@@ -758,6 +827,8 @@ static void erase_pages(struct lent *l, uint32_t block)
    there." */
 static void count_erase(struct lent *l, uint32_t block)
 {
+    if (MUTANT(CUT_WEAR_LATE) && power.limited && power.left == 1)
+        return;
     if (l->wear[block] != UINT32_MAX || MUTANT(WEAR_WRAPS))
         l->wear[block]++;
 }
@@ -808,11 +879,13 @@ static void format_block(struct lent *l, uint32_t block)
         return;
     }
     l->bst[block] = FREE;
+    begin_operation();
     erase_pages(l, block);
     if (MUTANT(FORMAT_CLEARS_WEAR))
         l->wear[block] = 0;
     if (!MUTANT(FORMAT_NO_WEAR))
         count_erase(l, block);
+    end_operation(BLOCK_ERASE);
 }
 
 /* Works every mark out from the rule, as the chip and the tables now stand. */
@@ -831,7 +904,7 @@ static void format_steps(struct lent *l)
     const struct params *p = &l->v.p;
 
     for (uint32_t b = 0; b < p->n; b++)
-        format_block(l, b);
+        format_block(l, MUTANT(CUT_FORMAT_ORDER) ? p->n - 1 - b : b);
     for (uint32_t x = 0; x < p->c; x++)
         l->ct[x] = NONE;
     for (size_t i = 0; i < (size_t)p->mu * p->gamma; i++)
@@ -1044,14 +1117,15 @@ static void copy_page(struct lent *l, uint32_t cluster,
             page_bytes(p));
     if (MUTANT(COPY_STAMP))
         put_stamp(page + p->s, next_stamp(&l->v, cluster));
+    end_operation(COPIED_PAGE);
 }
 
 /* Copies one frame of the victim and "CT follows each". */
 static void copy_frame(struct lent *l, uint32_t cluster,
                        const struct spot *from, const struct spot *to)
 {
-    for (uint32_t place = 0; place < l->v.p.alpha; place++)
-        copy_page(l, cluster, from, to, place);
+    for (uint32_t i = 0; i < l->v.p.alpha; i++)
+        copy_page(l, cluster, from, to, place_in_turn(&l->v.p, i));
     if (!MUTANT(CT_NOT_FOLLOWING))
         l->ct[cluster] =
             (uint16_t)segment_of(&l->v.p, to->virtual_block, to->frame);
@@ -1078,11 +1152,55 @@ static uint32_t copy_frames(struct lent *l, uint32_t region, uint32_t victim,
     }
     if (MUTANT(ERASE_FIRST))
         erase_pages(l, block);
-    for (uint32_t i = 0; i < copied; i++) {
+    for (uint32_t turn = 0; turn < copied; turn++) {
+        uint32_t i = MUTANT(CUT_COPY_ORDER) ? copied - 1 - turn : turn;
         struct spot from = { true, victim, block, order[i] };
         struct spot to = { true, victim, taken, i + MUTANT(COPIES_FROM_1) };
 
         copy_frame(l, clusters[i], &from, &to);
+    }
+    return copied;
+}
+
+/* "The victim is erased": its pages and its wear. */
+static void erase_victim(struct lent *l, uint32_t block)
+{
+    begin_operation();
+    if (!MUTANT(VICTIM_NOT_ERASED))
+        erase_pages(l, block);
+    if (!MUTANT(RECLAIM_NO_WEAR))
+        count_erase(l, block);
+    end_operation(BLOCK_ERASE);
+}
+
+/* The same before the copies, which then come from memory, as a mutant does
+   it. */
+static uint32_t copy_after_erase(struct lent *l, uint32_t region,
+                                 uint32_t victim, uint32_t taken,
+                                 uint32_t written)
+{
+    static uint8_t before[256 * (512 + SPARE)];
+    uint32_t old = block_of(&l->v, region, victim), copied = 0, f = l->v.p.f;
+    size_t frame_bytes = l->v.p.alpha * page_bytes(&l->v.p);
+    bool copy[256];
+
+    memcpy(before, l->chip + page_at(&l->v.p, old, 0, 0), f * frame_bytes);
+    for (uint32_t i = 0; i < f; i++)
+        copy[i] = frame_copied(&l->v, region, victim, i, written);
+    erase_victim(l, old);
+    for (uint32_t i = 0; i < f; i++) {
+        struct spot to = { true, victim, taken, copied };
+
+        if (!copy[i])
+            continue;
+        for (uint32_t place = 0; place < l->v.p.alpha; place++) {
+            memcpy(page_to_program(l, &to, place),
+                   before + i * frame_bytes + place * page_bytes(&l->v.p),
+                   page_bytes(&l->v.p));
+            end_operation(COPIED_PAGE);
+        }
+        l->ct[cluster_in(before + i * frame_bytes + l->v.p.s)] =
+            (uint16_t)segment_of(&l->v.p, victim, copied++);
     }
     return copied;
 }
@@ -1097,11 +1215,13 @@ static struct spot reclaim(struct lent *l, uint32_t region, uint32_t written,
     uint32_t taken = free_block(&l->v);
     struct spot at = { true, victim, taken, 0 };
 
-    *copied = copy_frames(l, region, victim, taken, written);
-    if (!MUTANT(VICTIM_NOT_ERASED))
-        erase_pages(l, old);
-    if (!MUTANT(RECLAIM_NO_WEAR))
-        count_erase(l, old);
+    if (MUTANT(CUT_ERASE_FIRST)) {
+        *copied = copy_after_erase(l, region, victim, taken, written);
+    } else {
+        *copied = copy_frames(l, region, victim, taken, written);
+        if (!MUTANT(CUT_FRAME_FIRST))
+            erase_victim(l, old);
+    }
     if (!MUTANT(VICTIM_NOT_FREED))
         l->bst[old] = FREE;
     assign(l, region, victim, taken);
@@ -1142,10 +1262,10 @@ static struct spot new_frame(struct lent *l, uint32_t region)
     return at;
 }
 
-/* What a write has done: the frames it copied, the blocks it erased, and the
-   spare areas it looked at. */
+/* What a write has done: the frames it copied, the blocks it erased, the
+   spare areas it looked at, and the block that it reclaimed. */
 struct work {
-    uint32_t copied, erases, looks;
+    uint32_t copied, erases, looks, victim;
 };
 
 /* "If there is no open block or it is full: the lowest virtual block without a
@@ -1159,6 +1279,7 @@ static struct spot take_frame(struct lent *l, uint32_t cluster,
     if (!at.found)
         at = new_frame(l, region);
     if (!at.found) {
+        work->victim = block_of(&l->v, region, victim_of(&l->v, region));
         at = reclaim(l, region, cluster, &work->copied);
         work->erases = 1;
     }
@@ -1225,7 +1346,7 @@ static struct work write_steps(struct lent *l, uint32_t lba, uint32_t count,
     const struct params *p = &l->v.p;
     uint32_t cluster = cluster_of(p, lba);
     struct spot old = valid_frame(&l->v, cluster), at;
-    struct work work = { 0, 0, looks_for(&l->v, cluster) };
+    struct work work = { 0, 0, looks_for(&l->v, cluster), NONE };
     struct label label = label_of_write(&l->v, cluster, &old);
     uint8_t bytes[16 * 512];
     uint32_t segment;
@@ -1239,6 +1360,8 @@ static struct work write_steps(struct lent *l, uint32_t lba, uint32_t count,
     if (label.virtual_block == NONE)
         label.virtual_block = at.virtual_block;
     program_frame(l, &at, &label, bytes);
+    if (MUTANT(CUT_FRAME_FIRST) && work.erases)
+        erase_victim(l, work.victim);
     segment = MUTANT(CT_FRAME) ? at.virtual_block * p->f + at.frame
                                : segment_of(p, at.virtual_block, at.frame);
     l->ct[cluster] = (uint16_t)segment;
@@ -1411,6 +1534,7 @@ uint64_t model_format(uint32_t s, uint32_t alpha, uint32_t beta, uint32_t d,
     good = good_blocks(&l.v);
     if (good < mu * gamma + !MUTANT(FORMAT_BLOCKS_EXACT))
         return answer(TOO_FEW_BLOCKS, 0, 0, 0);
+    past_refusals();
     format_steps(&l);
     if (MUTANT(FORMAT_NO_ERASES))
         good = 0;
@@ -1517,6 +1641,7 @@ uint64_t model_write(uint32_t s, uint32_t alpha, uint32_t beta, uint32_t d,
         reply = refuse_write(&l.v, lba, count, data_len);
     if (reply != ACCEPTED)
         return refused_write(&l, reply, lba);
+    past_refusals();
     return accepted_write(&l, lba, count, data);
 }
 
@@ -1610,11 +1735,29 @@ static void write_items(const struct lent *l, const struct lengths *len,
 
         if (MUTANT(QUEUE_OLD_STATE))
             memcpy(l->fst, before, len->fst * sizeof *before);
+        if (MUTANT(CUT_QUEUE_ANEW))
+            power.left = power.budget;
         answers[at] = write_item(l, len, requests + 3 * i, data, data_len);
+        power.answered = i + 1;
+        if (MUTANT(CUT_REFUSED_ITEM) && answers[at] % 65536 != ACCEPTED)
+            end_operation(HOST_PAGE);
+        if (MUTANT(CUT_LAST_ITEM))
+            stop_if_spent();
         keep_looks(i, answers[at], at_entry[i % MODEL_ITEMS]);
         if (MUTANT(QUEUE_STOPS) && answers[at] % 65536 != ACCEPTED)
             break;
     }
+}
+
+/* "Once past its refusals", which are 1, 2 and 8: the 7 of a state that is not
+   orderly is that of the items. */
+static void queue_past_refusals(const struct view *v)
+{
+    if (MUTANT(CUT_DISORDERED) && !orderly(v))
+        power.limited = false;
+    if (MUTANT(CUT_DISORDERED_ANY) && power.limited && !orderly(v))
+        power.left = 0;
+    past_refusals();
 }
 
 /* T-01: "1, 2 and 8 are for the whole call and leave the answer list as lent;
@@ -1654,6 +1797,7 @@ uint64_t model_queue(uint32_t s, uint32_t alpha, uint32_t beta, uint32_t d,
         answers[0] = answer(reply, 0, 0, 0);
     if (reply != ACCEPTED)
         return answer(reply, 0, 0, 0);
+    queue_past_refusals(&l.v);
     write_items(&l, &len, requests, requests_len / 3, data, data_len, answers,
                 answers_len);
     if (MUTANT(QUEUE_FILLS_PAST) && answers_len > requests_len / 3)
@@ -2068,7 +2212,8 @@ static uint32_t start_blocks(struct lent *l)
 
     for (size_t i = 0; i < (size_t)p->mu * p->gamma; i++)
         l->bt[i] = NONE;
-    for (uint32_t b = 0; b < p->n; b++) {
+    for (uint32_t i = 0; i < p->n; i++) {
+        uint32_t b = MUTANT(CUT_START_ORDER) ? p->n - 1 - i : i;
         const struct finding *found = &found_blocks[b];
 
         if (!found->used || found->left_over) {
@@ -2080,10 +2225,12 @@ static uint32_t start_blocks(struct lent *l)
         }
         if (!found->left_over)
             continue;
+        begin_operation();
         if (!MUTANT(START_NOT_ERASED))
             erase_pages(l, b);
         if (!MUTANT(START_NO_WEAR))
             count_erase(l, b);
+        end_operation(BLOCK_ERASE);
         erases++;
     }
     return MUTANT(START_NO_COUNT) ? 0 : erases;
@@ -2232,5 +2379,239 @@ uint64_t model_start(uint32_t s, uint32_t alpha, uint32_t beta, uint32_t d,
         reply = refuse_start(&l.v);
     if (reply != ACCEPTED)
         return answer(reply, 0, 0, 0);
+    past_refusals();
     return answer(ACCEPTED, 0, start_steps(&l), 0);
+}
+
+/* ==== Calls that power may end ========================================= */
+
+/* The wear before the call, for a mutant. */
+static uint32_t wear_before[65536 + 8];
+
+/* What a budget is worth, where a mutant does not take it for what it is. */
+static uint64_t worth(uint64_t budget)
+{
+    if (MUTANT(CUT_LATE) && budget > 0 && budget < UINT64_MAX)
+        return budget + 1;
+    if (MUTANT(CUT_EARLY) && budget > 0)
+        return budget - 1;
+    return MUTANT(CUT_32_BITS) ? (uint32_t)budget : budget;
+}
+
+/* "format, write, queue and start also come with a budget of programs and
+   erases": power for so many. */
+static void limit_power(const struct lent *l, const struct lengths *len,
+                        uint64_t budget, bool queue)
+{
+    power.limited = !(MUTANT(CUT_ZERO) && budget == 0);
+    power.budget = power.left = worth(budget);
+    memset(power.made, 0, sizeof power.made);
+    power.queue = queue;
+    power.answered = 0;
+    if (MUTANT(CUT_WEAR_BEFORE))
+        memcpy(wear_before, l->wear, len->wear * sizeof *wear_before);
+    if (MUTANT(CUT_BEFORE_REFUSALS))
+        stop_if_spent();
+}
+
+/* "with the chip as it then stands, wear as counted so far and the other tables
+   all ones" */
+static void lose_tables(const struct lent *l, const struct lengths *len)
+{
+    int byte = MUTANT(CUT_ZEROES) ? 0 : 255;
+
+    if (!MUTANT(CUT_KEEPS_CT))
+        memset(l->ct, byte, len->ct * sizeof *l->ct);
+    if (!MUTANT(CUT_KEEPS_BT))
+        memset(l->bt, byte, len->bt * sizeof *l->bt);
+    if (!MUTANT(CUT_KEEPS_FST))
+        memset(l->fst, byte, len->fst * sizeof *l->fst);
+    if (!MUTANT(CUT_KEEPS_BST))
+        memset(l->bst, byte, len->bst * sizeof *l->bst);
+    if (!MUTANT(CUT_KEEPS_MARKS))
+        memset(l->marks, byte, len->marks * sizeof *l->marks);
+    if (!MUTANT(CUT_KEEPS_STAMPS))
+        memset(l->stamps, byte, len->stamps * sizeof *l->stamps);
+    for (uint32_t r = 0; r < l->v.p.mu && MUTANT(CUT_STAMPS_16_BITS); r++)
+        l->stamps[r] = NONE;
+    if (MUTANT(CUT_WEAR_ONES))
+        memset(l->wear, byte, len->wear * sizeof *l->wear);
+    if (MUTANT(CUT_WEAR_BEFORE))
+        memcpy(l->wear, wear_before, len->wear * sizeof *l->wear);
+}
+
+/* "its answers then count for nothing": reply 0 and counts 0. */
+static uint64_t cut_call(const struct lent *l, const struct lengths *len)
+{
+    power.limited = false;
+    lose_tables(l, len);
+    if (MUTANT(CUT_COUNTS))
+        return answer(ACCEPTED, power.made[HOST_PAGE] + power.made[COPIED_PAGE],
+                      power.made[BLOCK_ERASE], 0);
+    return answer(MUTANT(CUT_REPLIES_7) ? NOT_ORDERLY : ACCEPTED, 0, 0, 0);
+}
+
+/* "A plain call equals one whose budget is never spent", and one that is
+   refused is refused. */
+static uint64_t whole_call(const struct lent *l, const struct lengths *len,
+                           uint64_t answered)
+{
+    power.limited = false;
+    if (MUTANT(CUT_REFUSED) && answered % 65536 != ACCEPTED)
+        lose_tables(l, len);
+    return answered;
+}
+
+/* The answers of a cut queue, spoilt as mutants would spoil them: those of the
+   items that it had finished stand, the others stay as lent. */
+static void cut_answers(uint64_t *answers, size_t items)
+{
+    for (size_t i = 0; i < power.answered && MUTANT(CUT_ANSWERS_LOST); i++)
+        answers[i] = UINT64_MAX;
+    for (size_t i = power.answered + 1;
+         i < items && MUTANT(CUT_ANSWERS_BEHIND); i++)
+        answers[i] = NOT_ORDERLY;
+}
+
+/* A format, until its budget is spent. */
+uint64_t model_format_cut(uint32_t s, uint32_t alpha, uint32_t beta,
+                          uint32_t d, uint32_t mu, uint32_t gamma,
+                          uint32_t c, uint32_t n,
+                          uint8_t *chip, size_t chip_len,
+                          uint16_t *ct, size_t ct_len,
+                          uint16_t *bt, size_t bt_len,
+                          uint16_t *fst, size_t fst_len,
+                          uint8_t *bst, size_t bst_len,
+                          uint32_t *wear, size_t wear_len,
+                          uint64_t *marks, size_t marks_len,
+                          uint32_t *stamps, size_t stamps_len,
+                          uint64_t budget)
+{
+    struct params p = make_params(s, alpha, beta, d, mu, gamma, c, n);
+    struct lengths len = {
+        chip_len, ct_len, bt_len, fst_len, bst_len, wear_len, marks_len,
+        stamps_len
+    };
+    struct lent l = {
+        { p, chip, ct, bt, fst, bst, wear, marks, stamps },
+        chip, ct, bt, fst, bst, wear, marks, stamps
+    };
+
+    if (setjmp(power.gone) != 0)
+        return cut_call(&l, &len);
+    limit_power(&l, &len, budget, false);
+    return whole_call(&l, &len,
+        model_format(s, alpha, beta, d, mu, gamma, c, n, chip, chip_len,
+                     ct, ct_len, bt, bt_len, fst, fst_len, bst, bst_len,
+                     wear, wear_len, marks, marks_len, stamps, stamps_len));
+}
+
+/* A write, until its budget is spent. */
+uint64_t model_write_cut(uint32_t s, uint32_t alpha, uint32_t beta,
+                         uint32_t d, uint32_t mu, uint32_t gamma,
+                         uint32_t c, uint32_t n,
+                         uint8_t *chip, size_t chip_len,
+                         uint16_t *ct, size_t ct_len,
+                         uint16_t *bt, size_t bt_len,
+                         uint16_t *fst, size_t fst_len,
+                         uint8_t *bst, size_t bst_len,
+                         uint32_t *wear, size_t wear_len,
+                         uint64_t *marks, size_t marks_len,
+                         uint32_t *stamps, size_t stamps_len,
+                         uint32_t lba, uint32_t count,
+                         const uint8_t *data, size_t data_len,
+                         uint64_t budget)
+{
+    struct params p = make_params(s, alpha, beta, d, mu, gamma, c, n);
+    struct lengths len = {
+        chip_len, ct_len, bt_len, fst_len, bst_len, wear_len, marks_len,
+        stamps_len
+    };
+    struct lent l = {
+        { p, chip, ct, bt, fst, bst, wear, marks, stamps },
+        chip, ct, bt, fst, bst, wear, marks, stamps
+    };
+
+    if (setjmp(power.gone) != 0)
+        return cut_call(&l, &len);
+    limit_power(&l, &len, budget, false);
+    return whole_call(&l, &len,
+        model_write(s, alpha, beta, d, mu, gamma, c, n, chip, chip_len,
+                    ct, ct_len, bt, bt_len, fst, fst_len, bst, bst_len,
+                    wear, wear_len, marks, marks_len, stamps, stamps_len,
+                    lba, count, data, data_len));
+}
+
+/* A queue, until its budget is spent: an item that has its answer by then keeps
+   it. */
+uint64_t model_queue_cut(uint32_t s, uint32_t alpha, uint32_t beta,
+                         uint32_t d, uint32_t mu, uint32_t gamma,
+                         uint32_t c, uint32_t n,
+                         uint8_t *chip, size_t chip_len,
+                         uint16_t *ct, size_t ct_len,
+                         uint16_t *bt, size_t bt_len,
+                         uint16_t *fst, size_t fst_len,
+                         uint8_t *bst, size_t bst_len,
+                         uint32_t *wear, size_t wear_len,
+                         uint64_t *marks, size_t marks_len,
+                         uint32_t *stamps, size_t stamps_len,
+                         const uint32_t *requests, size_t requests_len,
+                         const uint8_t *data, size_t data_len,
+                         uint64_t *answers, size_t answers_len,
+                         uint64_t budget)
+{
+    struct params p = make_params(s, alpha, beta, d, mu, gamma, c, n);
+    struct lengths len = {
+        chip_len, ct_len, bt_len, fst_len, bst_len, wear_len, marks_len,
+        stamps_len
+    };
+    struct lent l = {
+        { p, chip, ct, bt, fst, bst, wear, marks, stamps },
+        chip, ct, bt, fst, bst, wear, marks, stamps
+    };
+
+    if (setjmp(power.gone) != 0) {
+        cut_answers(answers, requests_len / 3);
+        return cut_call(&l, &len);
+    }
+    limit_power(&l, &len, budget, true);
+    return whole_call(&l, &len,
+        model_queue(s, alpha, beta, d, mu, gamma, c, n, chip, chip_len,
+                    ct, ct_len, bt, bt_len, fst, fst_len, bst, bst_len,
+                    wear, wear_len, marks, marks_len, stamps, stamps_len,
+                    requests, requests_len, data, data_len, answers,
+                    answers_len));
+}
+
+/* A start, until its budget is spent. */
+uint64_t model_start_cut(uint32_t s, uint32_t alpha, uint32_t beta,
+                         uint32_t d, uint32_t mu, uint32_t gamma,
+                         uint32_t c, uint32_t n,
+                         uint8_t *chip, size_t chip_len,
+                         uint16_t *ct, size_t ct_len,
+                         uint16_t *bt, size_t bt_len,
+                         uint16_t *fst, size_t fst_len,
+                         uint8_t *bst, size_t bst_len,
+                         uint32_t *wear, size_t wear_len,
+                         uint64_t *marks, size_t marks_len,
+                         uint32_t *stamps, size_t stamps_len,
+                         uint64_t budget)
+{
+    struct params p = make_params(s, alpha, beta, d, mu, gamma, c, n);
+    struct lengths len = {
+        chip_len, ct_len, bt_len, fst_len, bst_len, wear_len, marks_len,
+        stamps_len
+    };
+    struct lent l = {
+        { p, chip, ct, bt, fst, bst, wear, marks, stamps },
+        chip, ct, bt, fst, bst, wear, marks, stamps
+    };
+
+    if (setjmp(power.gone) != 0)
+        return cut_call(&l, &len);
+    limit_power(&l, &len, budget, false);
+    return whole_call(&l, &len,
+        model_start(s, alpha, beta, d, mu, gamma, c, n, chip, chip_len,
+                    ct, ct_len, bt, bt_len, fst, fst_len, bst, bst_len,
+                    wear, wear_len, marks, marks_len, stamps, stamps_len));
 }

@@ -47,5 +47,9 @@ extern __typeof__(cnftl_queue) model_queue;
 extern __typeof__(cnftl_release) model_release;
 extern __typeof__(cnftl_why) model_why;
 extern __typeof__(cnftl_start) model_start;
+extern __typeof__(cnftl_format_cut) model_format_cut;
+extern __typeof__(cnftl_write_cut) model_write_cut;
+extern __typeof__(cnftl_queue_cut) model_queue_cut;
+extern __typeof__(cnftl_start_cut) model_start_cut;
 
 #endif

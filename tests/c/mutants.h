@@ -197,6 +197,44 @@
     X(START_KEEPS_STAMPS, "start: last stamp of an empty region left as lent") \
     X(START_KEEPS_MARKS, "start: the marks left as lent")                      \
     X(START_ERASED_USED, "start: BST of an erased block left as lent")         \
+    /* cuts */                                                                 \
+    X(CUT_LATE, "cut: one operation later")                                    \
+    X(CUT_EARLY, "cut: one operation earlier")                                 \
+    X(CUT_LAST, "cut: not at the very last operation")                         \
+    X(CUT_ZERO, "cut: budget 0 cuts nothing")                                  \
+    X(CUT_IDLE, "cut: budget 0 cuts no call that makes no operation")          \
+    X(CUT_32_BITS, "cut: the budget in 32 bits")                               \
+    X(CUT_COPIES_FREE, "cut: copied pages not counted")                        \
+    X(CUT_PROGRAMS_FREE, "cut: only erases counted")                           \
+    X(CUT_ERASES_FREE, "cut: erases not counted")                              \
+    X(CUT_BEFORE_REFUSALS, "cut: budget 0 cuts a call that is to be refused")  \
+    X(CUT_REFUSED, "cut: a refused call loses its tables")                     \
+    X(CUT_KEEPS_CT, "cut: CT kept")                                            \
+    X(CUT_KEEPS_BT, "cut: BT kept")                                            \
+    X(CUT_KEEPS_FST, "cut: FST kept")                                          \
+    X(CUT_KEEPS_BST, "cut: BST kept")                                          \
+    X(CUT_KEEPS_MARKS, "cut: the marks kept")                                  \
+    X(CUT_KEEPS_STAMPS, "cut: the stamps kept")                                \
+    X(CUT_ZEROES, "cut: the tables all zeroes")                                \
+    X(CUT_STAMPS_16_BITS, "cut: the stamps 65,535")                            \
+    X(CUT_WEAR_ONES, "cut: wear all ones too")                                 \
+    X(CUT_WEAR_BEFORE, "cut: wear as before the call")                         \
+    X(CUT_WEAR_LATE, "cut: the wear of the erase that spends it not counted")  \
+    X(CUT_COUNTS, "cut: the counts so far reported")                           \
+    X(CUT_REPLIES_7, "cut: reply 7")                                           \
+    X(CUT_PAGE_ORDER, "cut: the last page of a frame comes first")             \
+    X(CUT_COPY_ORDER, "cut: the last copy comes first")                        \
+    X(CUT_ERASE_FIRST, "cut: the victim's erase comes before the copies")      \
+    X(CUT_FRAME_FIRST, "cut: the new frame comes before the victim's erase")   \
+    X(CUT_FORMAT_ORDER, "cut: a format erases the last block first")           \
+    X(CUT_START_ORDER, "cut: a start erases the last block first")             \
+    X(CUT_LAST_ITEM, "cut: the item is answered whose last page spends it")    \
+    X(CUT_ANSWERS_BEHIND, "cut: the items behind are answered")                \
+    X(CUT_ANSWERS_LOST, "cut: the answers before it all ones")                 \
+    X(CUT_QUEUE_ANEW, "cut: the budget anew for each item")                    \
+    X(CUT_REFUSED_ITEM, "cut: a refused item counts as an operation")          \
+    X(CUT_DISORDERED, "cut: a queue on a disordered board by no budget")       \
+    X(CUT_DISORDERED_ANY, "cut: a queue on a disordered board by any budget")  \
     /* writes per erase */                                                     \
     X(FIGURE_DOWN, "figure: spare frames / gamma rounded down")                \
     X(FIGURE_MORE, "figure: one more where gamma divides the spare frames")    \
