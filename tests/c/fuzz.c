@@ -6,7 +6,9 @@
  * around each slice must be equal.  The model of a queue is single writes.
  * Accepted reads are also compared with a plain record of the bytes last
  * accepted for each sector (the shadow), also after a start, which brings a
- * released cluster back with its latest whole frame that is left; and what a
+ * released cluster back with its latest whole frame that is left.  Some calls
+ * have a budget; after a cut the shadow holds but for the write that was cut
+ * short, which the start finds wholly old or wholly new.  And what a
  * why has told with the read and the write that follow it; their third count,
  * which C does not get, is the model's.  The header's writes per erase are
  * compared with the model's for any allowed parameters.
@@ -102,6 +104,7 @@ static size_t shift;              /* where byte slices start, 0 to 7 */
 static uint8_t *shadow;           /* the bytes last accepted, by sector */
 static bool shadow_holds;         /* false while the board went another way */
 static uint8_t *released;         /* 1 for a cluster released and not written */
+static bool down;                 /* while it holds: cut and not started yet */
 static uint32_t hot_from, hot;    /* the clusters that get half the traffic */
 
 /* The first element of a slice.  Slices of bytes may start anywhere. */
@@ -211,6 +214,7 @@ static void open_board(struct cnftl_params p, size_t chip_bytes)
     copy_side(&model, &product);
     shadow = get_memory((size_t)cnftl_sectors(&p) * p.s);
     shadow_holds = false;
+    down = false;
     released = get_memory(p.c);
     hot = between(1, p.c < 4 ? p.c : 4);
     hot_from = p.c <= 65536 && once_in(2) ? 0 : p.c - hot;
@@ -236,6 +240,8 @@ struct call {
     struct cnftl_params p;
     size_t len[SLICES];
     uint32_t lba, count; /* lba is a release's cluster */
+    bool limited;        /* whether it has a budget */
+    uint64_t budget;
 };
 
 static const char call_kinds[] = "FRWLYQS";
@@ -250,6 +256,11 @@ static uint64_t forecasts[4];    /* writes as a why has forecast them */
 static uint64_t stampless;       /* those forecast to be refused with 9 */
 static uint64_t held_reads;      /* reads of a frame that a why has told */
 static uint64_t looks_told[3];   /* third counts as told: 0, 1, and 2 or more */
+static uint64_t cut[7], whole[7]; /* accepted calls with a budget, by kind: cut,
+                                     and with a budget that was not spent */
+static uint64_t restarts, restart_erases; /* starts after a cut, their erases */
+static uint64_t came_old, came_new; /* writes cut short, as starts found them */
+static uint64_t kept_items;         /* accepted items of queues that were cut */
 
 #define PARAMETERS(k)                                                          \
     (k)->p.s, (k)->p.alpha, (k)->p.beta, (k)->p.d, (k)->p.mu, (k)->p.gamma,    \
@@ -267,9 +278,43 @@ static uint64_t looks_told[3];   /* third counts as told: 0, 1, and 2 or more */
     longs_of(a, REQUESTS), (k)->len[REQUESTS],                                 \
     bytes_of(a, DATA), (k)->len[DATA], wides_of(a, ANSWERS), (k)->len[ANSWERS]
 
+/* The call on the product with its budget. */
+static uint64_t limited_product(const struct call *k)
+{
+    switch (k->kind) {
+    case 'F':
+        return cnftl_format_cut(LENT(k, &product), k->budget);
+    case 'Q':
+        return cnftl_queue_cut(LENT(k, &product), QUEUE(k, &product),
+                               k->budget);
+    case 'S':
+        return cnftl_start_cut(LENT(k, &product), k->budget);
+    default:
+        return cnftl_write_cut(LENT(k, &product), REQUEST(k, &product),
+                               k->budget);
+    }
+}
+
+/* The same call on the model. */
+static uint64_t limited_model(const struct call *k)
+{
+    switch (k->kind) {
+    case 'F':
+        return model_format_cut(LENT(k, &model), k->budget);
+    case 'Q':
+        return model_queue_cut(LENT(k, &model), QUEUE(k, &model), k->budget);
+    case 'S':
+        return model_start_cut(LENT(k, &model), k->budget);
+    default:
+        return model_write_cut(LENT(k, &model), REQUEST(k, &model), k->budget);
+    }
+}
+
 /* The call on the product. */
 static uint64_t call_product(const struct call *k)
 {
+    if (k->limited)
+        return limited_product(k);
     switch (k->kind) {
     case 'F':
         return cnftl_format(LENT(k, &product));
@@ -291,6 +336,8 @@ static uint64_t call_product(const struct call *k)
 /* The same call on the model. */
 static uint64_t call_model(const struct call *k)
 {
+    if (k->limited)
+        return limited_model(k);
     switch (k->kind) {
     case 'F':
         return model_format(LENT(k, &model));
@@ -340,6 +387,8 @@ static void differ(const struct call *k, const char *what, uint64_t by_product,
            "list %zu entries, requests %zu numbers, answers %zu\n", k->kind,
            k->lba, k->count, k->len[DATA], k->len[LIST], k->len[REQUESTS],
            k->len[ANSWERS]);
+    if (k->limited)
+        printf("  with budget %" PRIu64 "\n", k->budget);
     printf("  s=%" PRIu32 " alpha=%" PRIu32 " beta=%" PRIu32 " d=%" PRIu32
            " mu=%" PRIu32 " gamma=%" PRIu32 " c=%" PRIu32 " n=%" PRIu32 "\n",
            PARAMETERS(k));
@@ -360,10 +409,19 @@ static bool own_parameters(const struct call *k)
     return memcmp(&k->p, &par, sizeof par) == 0;
 }
 
+/* The answers as the last call got them lent. */
+static uint64_t lent_answers[ANSWERS_ROOM / 8];
+
+/* Whether a queue has answered an item.  What was lent is no answer. */
+static bool answered(size_t item)
+{
+    return wides_of(&product, ANSWERS)[item] != lent_answers[item];
+}
+
 /* Keeps the shadow up with the items of a queue that were accepted. */
 static void follow_items(const struct call *k)
 {
-    for (size_t i = 0; i < k->len[REQUESTS] / 3; i++) {
+    for (size_t i = 0; i < k->len[REQUESTS] / 3 && answered(i); i++) {
         const uint32_t *item = longs_of(&product, REQUESTS) + 3 * i;
 
         if (cnftl_reply_of(wides_of(&product, ANSWERS)[i]) == CNFTL_ACCEPTED) {
@@ -420,9 +478,96 @@ static const uint8_t *latest_frame(uint32_t cluster)
     return latest;
 }
 
+/* The write that was cut short, if one was: its cluster and what this would
+   be. */
+static struct {
+    bool any;
+    uint32_t cluster;
+    uint8_t bytes[16 * 512];
+} unfinished;
+
+/* Whether the board has no tables, as a cut call leaves it. */
+static bool is_cut(void)
+{
+    return bst[0] == 255;
+}
+
+/* Where the shadow has a cluster. */
+static uint8_t *shadow_of(uint32_t cluster)
+{
+    return shadow + (size_t)cluster * par.alpha * par.s;
+}
+
+/* A write was cut short. */
+static void begin_write(uint32_t lba, uint32_t count, const uint8_t *data)
+{
+    unfinished.any = true;
+    unfinished.cluster = lba / par.alpha;
+    memcpy(unfinished.bytes, shadow_of(lba / par.alpha), par.alpha * par.s);
+    memcpy(unfinished.bytes + lba % par.alpha * par.s, data, count * par.s);
+}
+
+/* A queue was cut: the items that it has answered are done, and the next one
+   was cut short, unless it is one to be refused. */
+static void follow_cut_queue(const struct call *k)
+{
+    size_t i = 0;
+
+    follow_items(k);
+    for (; i < k->len[REQUESTS] / 3 && answered(i); i++)
+        kept_items += cnftl_reply_of(wides_of(&product, ANSWERS)[i]) == 0;
+    if (i < k->len[REQUESTS] / 3) {
+        const uint32_t *item = longs_of(&product, REQUESTS) + 3 * i;
+        uint64_t end = item[2] + (uint64_t)item[1] * par.s;
+
+        if (item[0] < cnftl_sectors(&par) && item[1] > 0
+            && (uint64_t)item[0] % par.alpha + item[1] <= par.alpha
+            && end <= k->len[DATA])
+            begin_write(item[0], item[1], bytes_of(&product, DATA) + item[2]);
+    }
+}
+
+/* What is known after a cut: nothing of a board whose format was cut. */
+static void follow_cut(const struct call *k)
+{
+    if (k->kind == 'F')
+        shadow_holds = false;
+    if (!shadow_holds || down)
+        return;
+    down = true;
+    unfinished.any = false;
+    if (k->kind == 'W')
+        begin_write(k->lba, k->count, bytes_of(&product, DATA));
+    if (k->kind == 'Q')
+        follow_cut_queue(k);
+}
+
+/* "the write cut short reads wholly old or wholly new": which of the two is
+   what the start that was just made has found. */
+static void settle_write(const struct call *k, uint64_t a)
+{
+    static uint8_t found[16 * 512];
+    size_t len = par.alpha * par.s;
+    uint8_t *old = shadow_of(unfinished.cluster);
+    uint64_t by_read = cnftl_read(LENT(k, &product),
+                                  unfinished.cluster * par.alpha, par.alpha,
+                                  found, len);
+
+    if (cnftl_reply_of(by_read) != CNFTL_ACCEPTED)
+        differ(k, "the read after a start", by_read, CNFTL_ACCEPTED);
+    if (memcmp(found, unfinished.bytes, len) == 0) {
+        came_new++;
+        memcpy(old, unfinished.bytes, len);
+    } else if (memcmp(found, old, len) == 0) {
+        came_old++;
+    } else {
+        differ(k, "the write cut short", a, a);
+    }
+}
+
 /* "A released cluster with whole frames left comes back with the latest": what
    the shadow has of it after a start. */
-static void follow_start(void)
+static void find_released(void)
 {
     for (uint32_t cluster = 0; cluster < par.c; cluster++) {
         const uint8_t *latest;
@@ -438,6 +583,21 @@ static void follow_start(void)
     }
 }
 
+/* What is known after a start. */
+static void follow_start(const struct call *k, uint64_t a)
+{
+    find_released();
+    if (!down)
+        return;
+    down = false;
+    restarts++;
+    restart_erases += cnftl_erases_of(a);
+    if (cnftl_erases_of(a) > 1)
+        differ(k, "the erases of a start after a cut", a, CNFTL_ACCEPTED);
+    if (unfinished.any)
+        settle_write(k, a);
+}
+
 /* Keeps the shadow up with an accepted call, and compares a read with it. */
 static void follow_shadow(const struct call *k, uint64_t a)
 {
@@ -447,7 +607,10 @@ static void follow_shadow(const struct call *k, uint64_t a)
         return;
     if (!own_parameters(k)) {
         shadow_holds = shadow_holds && k->kind == 'R';
+    } else if (k->limited && is_cut()) {
+        follow_cut(k);
     } else if (k->kind == 'F') {
+        down = false;
         memset(shadow, 255, (size_t)cnftl_sectors(&par) * par.s);
         memset(released, 0, par.c);
         shadow_holds = true;
@@ -459,7 +622,7 @@ static void follow_shadow(const struct call *k, uint64_t a)
         memcpy(sectors, bytes_of(&product, DATA), k->len[DATA]);
         released[k->lba / par.alpha] = 0;
     } else if (shadow_holds && k->kind == 'S') {
-        follow_start();
+        follow_start(k, a);
     } else if (shadow_holds && k->kind == 'Q') {
         follow_items(k);
     } else if (shadow_holds) {
@@ -472,7 +635,7 @@ static void follow_shadow(const struct call *k, uint64_t a)
 /* Counts the items of a queue by their replies. */
 static void count_items(const struct call *k)
 {
-    for (size_t i = 0; i < k->len[REQUESTS] / 3; i++) {
+    for (size_t i = 0; i < k->len[REQUESTS] / 3 && answered(i); i++) {
         uint64_t a = wides_of(&product, ANSWERS)[i];
 
         items_seen[cnftl_reply_of(a) % REPLIES]++;
@@ -483,8 +646,14 @@ static void count_items(const struct call *k)
 /* Counts what was seen. */
 static void count_call(const struct call *k, uint64_t a)
 {
+    ptrdiff_t kind = strchr(call_kinds, k->kind) - call_kinds;
+
     calls++;
-    kinds[strchr(call_kinds, k->kind) - call_kinds]++;
+    kinds[kind]++;
+    if (k->limited && cnftl_reply_of(a) == CNFTL_ACCEPTED) {
+        cut[kind] += is_cut();
+        whole[kind] += !is_cut();
+    }
     seen[cnftl_reply_of(a)]++;
     reclaims += k->kind == 'W' && cnftl_erases_of(a) == 1;
     if (k->kind == 'Q' && cnftl_reply_of(a) == CNFTL_ACCEPTED)
@@ -560,6 +729,7 @@ static uint64_t answer_of(const struct call *k)
     for (int i = TABLES; i < SLICES; i++)
         fill_slice(k, (enum slice)i);
     fill_requests(k);
+    memcpy(lent_answers, bytes_of(&product, ANSWERS), room[ANSWERS]);
     by_product = call_product(k);
     by_model = call_model(k);
     if (by_product != by_model)
@@ -582,7 +752,7 @@ static uint32_t make_call(const struct call *k)
 /* A request that is right for the board. */
 static struct call right_call(char kind)
 {
-    struct call k = { kind, par, { 0 }, 0, 0 };
+    struct call k = { kind, par, { 0 }, 0, 0, false, 0 };
     uint32_t cluster = once_in(2) ? hot_from + below(hot) : below(par.c);
     uint32_t place = below(par.alpha);
 
@@ -599,6 +769,26 @@ static struct call right_call(char kind)
         k.len[ANSWERS] = items + below(3);
     }
     return k;
+}
+
+/* Gives a call a budget: most times about as many operations as it may make, at
+   times more than 32 bits can say. */
+static void give_budget(struct call *k)
+{
+    uint32_t pages = (uint32_t)cnftl_pages_per_block(&par);
+    uint32_t each = once_in(2) ? par.alpha : pages + 1;
+    uint32_t most = k->kind == 'F' ? par.n : k->kind == 'S' ? 2
+                  : k->kind == 'W' ? each
+                  : each * (uint32_t)(k->len[REQUESTS] / 3);
+
+    k->limited = true;
+    k->budget = below(most + 2);
+    if (once_in(8))
+        k->budget = below(2);
+    if (once_in(16))
+        k->budget += UINT64_C(4294967296) << below(32);
+    if (once_in(64))
+        k->budget = UINT64_MAX;
 }
 
 /* ==== Faults of a call ================================================= */
@@ -1518,6 +1708,23 @@ static void copy_block(void)
         bst[to] = CNFTL_BLOCK_USED;
 }
 
+/* Each full block gets such a copy, which is not full, while there are free
+   blocks: a start then erases them all. */
+static void copy_full_blocks(void)
+{
+    uint32_t pages = (uint32_t)cnftl_pages_per_block(&par);
+
+    for (uint32_t i = 0; i < par.mu * par.gamma && frames() > 1; i++) {
+        uint32_t to = some_block(CNFTL_BLOCK_FREE);
+
+        if (bt[i] >= par.n || frames_in(bt[i]) < frames() || to == CNFTL_NONE)
+            continue;
+        memcpy(frame_at(to, 0), frame_at(bt[i], 0),
+               between(1, pages - par.alpha) * cnftl_page_bytes(&par));
+        bst[to] = CNFTL_BLOCK_USED;
+    }
+}
+
 /* A used block loses its last frames, down to one. */
 static void shorten_block(void)
 {
@@ -1564,6 +1771,10 @@ static void change_for_start(void)
 
     if (once_in(2))
         make_startable();
+    if (once_in(4)) {
+        copy_full_blocks();
+        return;
+    }
     do
         changes[below(sizeof changes / sizeof *changes)]();
     while (once_in(3));
@@ -1833,6 +2044,8 @@ static void changed_requests(void)
     do {
         struct call k = right_call("RRRWWWLYYQQSSSS"[below(15)]);
 
+        if (strchr("WQS", k.kind) && once_in(3))
+            give_budget(&k);
         if (once_in(8))
             add_faults(&k);
         reply = make_call(&k);
@@ -1851,6 +2064,8 @@ static void faulty_request(void)
 {
     struct call k = right_call("FRRWWLYYQQQQS"[below(13)]);
 
+    if (strchr("FWQS", k.kind) && once_in(3))
+        give_budget(&k);
     add_faults(&k);
     make_call(&k);
 }
@@ -1869,15 +2084,60 @@ static void format_request(void)
         rest_of_episode = 8;
 }
 
+/* What comes after a cut: a start, some of which are cut themselves, and a few
+   reads.  The start is accepted if the board was changed by calls and cuts
+   alone since a format. */
+static void start_again(void)
+{
+    uint32_t reads = between(1, 8);
+    uint64_t a;
+
+    do {
+        struct call k = right_call('S');
+        bool sound = shadow_holds;
+
+        if (once_in(4))
+            give_budget(&k);
+        a = answer_of(&k);
+        if (sound && cnftl_reply_of(a) != CNFTL_ACCEPTED)
+            differ(&k, "the reply to a start after a cut", a, CNFTL_ACCEPTED);
+    } while (cnftl_reply_of(a) == CNFTL_ACCEPTED && is_cut() && calls < limit);
+    for (; reads > 0 && calls < limit; reads--) {
+        struct call k = right_call('R');
+
+        make_call(&k);
+    }
+}
+
+/* A right call with a budget.  Most times a start follows a cut, and a format
+   that of a format. */
+static void limited_request(void)
+{
+    struct call k = right_call(once_in(64) ? 'F' : "WWWWWQQQS"[below(9)]);
+    bool sound = shadow_holds && !down;
+    uint64_t a;
+
+    give_budget(&k);
+    a = answer_of(&k);
+    if (sound && cnftl_reply_of(a) != CNFTL_ACCEPTED)
+        differ(&k, "the reply on a sound board", a, CNFTL_ACCEPTED);
+    if (!is_cut() || once_in(8) || calls >= limit)
+        return;
+    if (k.kind == 'F' || once_in(32))
+        format_request();
+    else
+        start_again();
+}
+
 /* A right read, write, release, why, queue or start.  It is accepted if the
    board was changed by calls alone since a format, and a start then erases
-   nothing.  A board that is not orderly is
+   nothing.  A board that is cut is started soon, one that is not orderly is
    formatted soon, and one with no stamp left in a region later. */
 static void right_request(void)
 {
     struct call k = right_call(once_in(64) ? 'S'
                                : "RRRRWWWWWWWLYYQQ"[below(16)]);
-    bool sound = shadow_holds;
+    bool sound = shadow_holds && !down;
     uint64_t a = answer_of(&k);
     uint32_t reply = cnftl_reply_of(a);
 
@@ -1886,7 +2146,9 @@ static void right_request(void)
         differ(&k, "the reply on a sound board", a, CNFTL_ACCEPTED);
     if (k.kind == 'Y' && reply == CNFTL_ACCEPTED)
         hold_to_it(&k);
-    if (((reply == CNFTL_NOT_ORDERLY && once_in(4))
+    if (is_cut() && once_in(2) && calls < limit)
+        start_again();
+    else if (((reply == CNFTL_NOT_ORDERLY && once_in(4))
          || (reply == CNFTL_NO_STAMP_LEFT && once_in(32))) && calls < limit)
         format_request();
 }
@@ -1942,6 +2204,8 @@ static void run_board(struct cnftl_params p, uint32_t most)
             faulty_request();
         else if (kind < 14)
             changed_requests();
+        else if (kind < 24)
+            limited_request();
         else
             right_request();
     }
@@ -2130,6 +2394,26 @@ static const int start_replies[] = {
 };
 enum { START_REPLIES = sizeof start_replies / sizeof *start_replies };
 
+/* Prints what was seen of budgets; false if something never was. */
+static bool report_cuts(void)
+{
+    bool all = restart_erases > 0 && came_old > 0 && came_new > 0
+            && kept_items > 0;
+
+    printf("fuzz: calls with a budget, cut and not:");
+    for (int i = 0; call_kinds[i]; i++) {
+        if (strchr("FWQS", call_kinds[i]) == NULL)
+            continue;
+        printf(" %c %" PRIu64 " and %" PRIu64, call_kinds[i], cut[i], whole[i]);
+        all = all && cut[i] > 0 && whole[i] > 0;
+    }
+    printf("\nfuzz: %" PRIu64 " starts after a cut (%" PRIu64 " erases), "
+           "writes cut short: %" PRIu64 " came back old, %" PRIu64 " new; %"
+           PRIu64 " items of queues were finished before a cut\n", restarts,
+           restart_erases, came_old, came_new, kept_items);
+    return all;
+}
+
 /* Prints what was seen; false if something never was. */
 static bool report(void)
 {
@@ -2160,6 +2444,7 @@ static bool report(void)
     for (int i = 0; i < START_REPLIES; i++)
         all = all && starts_seen[start_replies[i]] > 0;
     all = all && sweeps > 0 && came_back > 0;
+    all = report_cuts() && all;
     printf("fuzz: %" PRIu64 " whys, %" PRIu64 " read as told, written as told:"
            " %" PRIu64 " continued, %" PRIu64 " opened, %" PRIu64
            " reclaimed, %" PRIu64 " had no stamp left\n", kinds[4], held_reads,
