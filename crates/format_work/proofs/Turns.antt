@@ -10,7 +10,6 @@ use lib.ListN.{length, drop, set, replicate, drop-of-length-le, length-append, l
 use lib.Seq.{drop-cons, set-at}
 use Rattle.lists.specs.Below.{joinBelow}
 use Rattle.lists.specs.Parts.{putPart}
-use Rattle.lists.proofs.Parts.{next}
 use Rattle.lists.proofs.Joins.{tab-length}
 use Rattle.rules.specs.declared.Params.{Params}
 use Rattle.rules.specs.Parameters.{blockBytes}
@@ -23,16 +22,17 @@ use Rattle.format_work.specs.Blocks.{BlocksAsked, BlockAsked, BlockDone,
 
 -- ---- one block
 
-module _ (p : Params) (chip bst wear : List ℕ) (n : ℕ) (a : BlockAsked p chip bst wear n) where
-  pub erase-fits : (w : ℕ) → w ≡ blockBytes p → n * w + w ≤ length chip
-  erase-fits w e = rw (e, a .all .chipLength) (next (blockBytes p) n (p .N) (a .low))
+-- an erase over the width that the code has
+pub erase-is : (p : Params) (chip chip′ : List ℕ) (n w : ℕ) → w ≡ blockBytes p → chip′ ≡ putPart w n (replicate w 255) chip → chip′ ≡ putPart (blockBytes p) n (replicate (blockBytes p) 255) chip
+erase-is p chip chip′ n w e x = rw (← e) x
 
+module _ (p : Params) (chip bst wear : List ℕ) (n : ℕ) (a : BlockAsked p chip bst wear n) where
   pub done-bad : true ≡ bad p chip n → (bst′ : List ℕ) → bst′ ≡ set bst n 2 → BlockDone p chip bst wear n chip bst′ wear 0
   done-bad e bst′ b = record { chipIs = rw (← e); bstIs = rw (← e) b; wearIs = rw (← e); count = rw (← e) }
 
-  pub done-good : (w : ℕ) → w ≡ blockBytes p → false ≡ bad p chip n → (chip′ bst′ wear′ : List ℕ) → chip′ ≡ putPart w n (replicate w 255) chip → bst′ ≡ set bst n 0
+  pub done-good : false ≡ bad p chip n → (chip′ bst′ wear′ : List ℕ) → chip′ ≡ putPart (blockBytes p) n (replicate (blockBytes p) 255) chip → bst′ ≡ set bst n 0
       → wear′ ≡ set wear n (min (wearAt wear n + 1) 4294967295) → BlockDone p chip bst wear n chip′ bst′ wear′ 1
-  done-good w k e chip′ bst′ wear′ x b y = record { chipIs = rw (← e) (x ∙ rw k); bstIs = rw (← e) b; wearIs = rw (← e) y; count = rw (← e) }
+  done-good e chip′ bst′ wear′ x b y = record { chipIs = rw (← e) x; bstIs = rw (← e) b; wearIs = rw (← e) y; count = rw (← e) }
 
 -- ---- all of them
 

@@ -1,7 +1,13 @@
 // Document 01, "Format": what is made of each block.
 ghost use mathlib.Core.Path.{_≡_};
-ghost use lib.ListN.{length, replicate};
-ghost use Rattle.rules.specs.Tables.{none};
+ghost use mathlib.Core.Bool.{cond, true};
+ghost use Prim.Native.Nat.{_+_, _*_, _<_, min};
+ghost use lib.ListN.{length, replicate, set};
+ghost use Rattle.lists.specs.Below.{listBelow};
+ghost use Rattle.lists.specs.Parts.{putPart};
+ghost use Rattle.rules.specs.Parameters.{allowed, blockBytes};
+ghost use Rattle.rules.specs.Tables.{none, wearAt};
+ghost use Rattle.rules.specs.Format.{bad};
 ghost use Rattle.format_work.specs.Blocks.{BlockAsked, BlockDone, BlocksAsked, BlocksDone};
 use rules::PBlock;
 use rules::Params;
@@ -17,6 +23,48 @@ pub fn clear(table: &mut [u16])
     }
 }
 
+// What BST has for block n while none is used: reserved where it is bad, else free.
+fn kind_of(p: Params, chip: &[u8], n: PBlock) -> u8
+    requires { ⌜ allowed p ≡ true ⌝ }
+    requires { ⌜ length (now chip) ≡ p .N * blockBytes p ⌝ }
+    requires { ⌜ n .0 < p .N ⌝ }
+    ensures { λ s. ⌜ s ≡ cond (bad p (now (chip .entry)) (n .0)) 2 0 ⌝ }
+{
+    if chip_bad::is_bad(p, chip, n) {
+        return rules::RESERVED;
+    }
+    rules::FREE
+}
+
+// The same of every block.
+pub fn reserve_bad(p: Params, chip: &[u8], bst: &mut [u8])
+    requires { ⌜ allowed p ≡ true ⌝ }
+    requires { ⌜ length (now chip) ≡ p .N * blockBytes p ⌝ }
+    requires { ⌜ length (now bst) ≡ p .N ⌝ }
+    ensures { λ _. ⌜ now (bst .exit) ≡ listBelow (p .N) (λ n. cond (bad p (now (chip .entry)) n) 2 0) ⌝ }
+{
+    let m = p.N;
+    let mut n = 0;
+    while n < m {
+        bst[n] = kind_of(p, chip, PBlock(n));
+        n += 1;
+    }
+}
+
+// Block n is erased, and its wear counts that.
+pub fn erase_block(p: Params, chip: &mut [u8], wear: &mut [u32], n: PBlock)
+    requires { ⌜ allowed p ≡ true ⌝ }
+    requires { ⌜ length (now chip) ≡ p .N * blockBytes p ⌝ }
+    requires { ⌜ length (now wear) ≡ p .N ⌝ }
+    requires { ⌜ n .0 < p .N ⌝ }
+    ensures { λ _. ⌜ now (chip .exit) ≡ putPart (blockBytes p) (n .0) (replicate (blockBytes p) 255) (now (chip .entry)) ⌝ }
+    ensures { λ _. ⌜ now (wear .exit) ≡ set (now (wear .entry)) (n .0) (min (wearAt (now (wear .entry)) (n .0) + 1) 4294967295) ⌝ }
+{
+    let w = chip_sizes::block_bytes(p);
+    chip_pages::erase_at(chip, w, n);
+    chip_tables::count_erase(wear, n);
+}
+
 // Block n becomes reserved where it is bad; else it is erased and becomes free. How many erases that took.
 fn format_block(p: Params, chip: &mut [u8], bst: &mut [u8], wear: &mut [u32], n: PBlock) -> usize
     requires { ⌜ BlockAsked p (now chip) (now bst) (now wear) (n .0) ⌝ }
@@ -26,10 +74,8 @@ fn format_block(p: Params, chip: &mut [u8], bst: &mut [u8], wear: &mut [u32], n:
         chip_tables::set_bst(bst, n, rules::RESERVED);
         return 0;
     }
-    let w = chip_sizes::block_bytes(p);
-    chip_pages::erase_at(chip, w, n);
+    erase_block(p, chip, wear, n);
     chip_tables::set_bst(bst, n, rules::FREE);
-    chip_tables::count_erase(wear, n);
     1
 }
 

@@ -77,7 +77,3 @@ module _ (p : Params) (chip bt : List ℕ) (n : ℕ) (a : BlockAsked p chip bt n
         open-erased ne chip′ wear′ x y =
             let q = ne-eqb m none ne in
             record { chipIs = rw (used, not-full, entry, q) x; btIs = rw (used, not-full, entry, q); wearIs = rw (used, not-full, entry, q) y; count = rw (used, not-full, entry, q) }
-
--- an erase over the width that the code has
-pub erase-is : (p : Params) (chip chip′ : List ℕ) (n w : ℕ) → w ≡ blockBytes p → chip′ ≡ putPart w n (replicate w 255) chip → chip′ ≡ putPart (blockBytes p) n (replicate (blockBytes p) 255) chip
-erase-is p chip chip′ n w e x = rw (← e) x

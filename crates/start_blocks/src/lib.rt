@@ -1,48 +1,17 @@
 // Document 02, T-07, what a start makes of the blocks: BST and BT, and the erases. "If two blocks name one virtual block, the one with a page of every frame
 // programmed (full) stays and the other is erased."
 ghost use mathlib.Core.Path.{_≡_};
-ghost use mathlib.Core.Bool.{Bool, _&&_, cond, false, true};
-ghost use Prim.Native.Nat.{ℕ, _+_, _*_, _<_, _≤_, min};
+ghost use mathlib.Core.Bool.{Bool, _&&_, cond, false};
+ghost use Prim.Native.Nat.{ℕ, _<_, _≤_};
 ghost use lib.Dec.{eqb};
-ghost use lib.ListN.{length, set, replicate};
+ghost use lib.ListN.{length, set};
 ghost use Rattle.lists.specs.Below.{listBelow};
-ghost use Rattle.lists.specs.Parts.{putPart};
-ghost use Rattle.rules.specs.Parameters.{allowed, blockBytes, chipBytes};
-ghost use Rattle.rules.specs.Tables.{btEntry, none, wearAt};
+ghost use Rattle.rules.specs.Tables.{btEntry, none};
 ghost use Rattle.rules.specs.Pages.{block, isFull};
-ghost use Rattle.rules.specs.Format.{bad};
 ghost use Rattle.rules.specs.Start.{foundBt, inUse};
 ghost use Rattle.start_blocks.specs.Named.{BlockAsked, Kept, OpenDone, StartAsked, fullsTo, indexNamed, kinds, namedBy};
 use rules::PBlock;
 use rules::Params;
-
-// What BST has for block n before any is named: reserved where it is bad, else free.
-fn kind_of(p: Params, chip: &[u8], n: PBlock) -> u8
-    requires { ⌜ allowed p ≡ true ⌝ }
-    requires { ⌜ length (now chip) ≡ p .N * blockBytes p ⌝ }
-    requires { ⌜ n .0 < p .N ⌝ }
-    ensures { λ s. ⌜ s ≡ cond (bad p (now (chip .entry)) (n .0)) 2 0 ⌝ }
-{
-    if chip_bad::is_bad(p, chip, n) {
-        return rules::RESERVED;
-    }
-    rules::FREE
-}
-
-// The same of every block.
-fn reserve_bad(p: Params, chip: &[u8], bst: &mut [u8])
-    requires { ⌜ allowed p ≡ true ⌝ }
-    requires { ⌜ length (now chip) ≡ p .N * blockBytes p ⌝ }
-    requires { ⌜ length (now bst) ≡ p .N ⌝ }
-    ensures { λ _. ⌜ now (bst .exit) ≡ listBelow (p .N) (λ n. cond (bad p (now (chip .entry)) n) 2 0) ⌝ }
-{
-    let m = p.N;
-    let mut n = 0;
-    while n < m {
-        bst[n] = kind_of(p, chip, PBlock(n));
-        n += 1;
-    }
-}
 
 // Block n goes into BT if it is in use and full.
 fn name_full(p: Params, chip: &[u8], bt: &mut [u16], n: PBlock)
@@ -69,20 +38,6 @@ fn name_fulls(p: Params, chip: &[u8], bt: &mut [u16])
     }
 }
 
-// Block n is erased, and its wear counts that.
-fn erase_block(p: Params, chip: &mut [u8], wear: &mut [u32], n: PBlock)
-    requires { ⌜ allowed p ≡ true ⌝ }
-    requires { ⌜ length (now chip) ≡ chipBytes p ⌝ }
-    requires { ⌜ length (now wear) ≡ p .N ⌝ }
-    requires { ⌜ n .0 < p .N ⌝ }
-    ensures { λ _. ⌜ now (chip .exit) ≡ putPart (blockBytes p) (n .0) (replicate (blockBytes p) 255) (now (chip .entry)) ⌝ }
-    ensures { λ _. ⌜ now (wear .exit) ≡ set (now (wear .entry)) (n .0) (min (wearAt (now (wear .entry)) (n .0) + 1) 4294967295) ⌝ }
-{
-    let w = chip_sizes::block_bytes(p);
-    chip_pages::erase_at(chip, w, n);
-    chip_tables::count_erase(wear, n);
-}
-
 // Block n, if it is in use and not full, goes into BT where the entry that it names is none, and else is erased. How many erases that took.
 fn name_open(p: Params, chip: &mut [u8], bt: &mut [u16], wear: &mut [u32], n: PBlock) -> usize
     requires { ⌜ BlockAsked p (now chip) (now bt) (n .0) ⌝ }
@@ -100,7 +55,7 @@ fn name_open(p: Params, chip: &mut [u8], bt: &mut [u16], wear: &mut [u32], n: PB
         chip_tables::set_bt(p, bt, h.region, h.vblock, n);
         return 0;
     }
-    erase_block(p, chip, wear, n);
+    format_work::erase_block(p, chip, wear, n);
     1
 }
 
@@ -161,7 +116,7 @@ pub fn find_blocks(
     ensures { λ k. ⌜ Kept p (now (chip .entry)) (now (wear .entry)) (now (chip .exit)) (now (bt .exit)) (now (wear .exit)) k ⌝ }
     ensures { λ _. ⌜ now (bst .exit) ≡ kinds p (now (chip .entry)) (foundBt p (now (chip .entry))) ⌝ }
 {
-    reserve_bad(p, chip, bst);
+    format_work::reserve_bad(p, chip, bst);
     format_work::clear(bt);
     name_fulls(p, chip, bt);
     let k = name_opens(p, chip, bt, wear);

@@ -3,7 +3,7 @@
 use mathlib.Core.Path.{_≡_, sym, _∙_}
 use native.Mathlib.Omega.{arith}
 use borrow.Author.Needs.{needs}
-use Rattle.format_work.proofs.Turns.{erase-fits, done-bad, done-good}
+use Rattle.format_work.proofs.Turns.{done-bad, done-good}
 use Rattle.format_work.proofs.format_block.Statement.{statement}
 use Rattle.format_work.proofs.format_block.Tie as tie
 
@@ -26,19 +26,11 @@ returns c =
     let start = at-is-bad .before .before .before .before .before in
     done-bad _ _ _ _ _ (start .pre) (sym (at-if1 .if1 .taken) ∙ at-is-bad .is-bad .ensures) _ (c .before .before .set-bst .ensures)
 
-block-bytes-requires : tie.Need-block-bytes-requires
-block-bytes-requires c κs = search needs
-
-erase-at-requires : tie.Need-erase-at-requires
-erase-at-requires c κs =
-    let start = c .before .before .before .before .before .before .before .before in
-    erase-fits _ _ _ _ _ (start .pre) _ (c .before .block-bytes .ensures)
+erase-block-requires : tie.Need-erase-block-requires
+erase-block-requires c κs = search needs
 
 set-bst-requires-2 : tie.Need-set-bst-requires-2
 set-bst-requires-2 c κs = search needs
-
-count-erase-requires : tie.Need-count-erase-requires
-count-erase-requires c κs = search needs
 
 same-length-3 : tie.Need-same-length-3
 same-length-3 c = search needs
@@ -51,29 +43,14 @@ same-length-5 c = search needs
 
 returns-2 : tie.Need-returns-2
 returns-2 c =
-    let at-set-bst2 = c .before .before .before .before .before .before in
-    let at-erase-at = at-set-bst2 .before .before .before .before in
-    let at-block-bytes = at-erase-at .before .before in
-    let at-if1 = at-block-bytes .before in
+    let at-erase-block = c .before .before .before .before .before .before .before .before in
+    let at-if1 = at-erase-block .before .before .before in
     let at-is-bad = at-if1 .before in
     let start = at-is-bad .before .before .before .before .before in
-    done-good _ _ _ _ _ (start .pre) _ (at-block-bytes .block-bytes .ensures) (sym (at-if1 .if1 .left) ∙ at-is-bad .is-bad .ensures) _ _ _ (at-erase-at .erase-at .ensures)
-    (at-set-bst2 .set-bst2 .ensures) (c .before .before .count-erase .ensures)
+    done-good _ _ _ _ _ (start .pre) (sym (at-if1 .if1 .left) ∙ at-is-bad .is-bad .ensures) _ _ _ (at-erase-block .erase-block .ensures .0) (c .before .before .set-bst2 .ensures)
+    (at-erase-block .erase-block .ensures .1)
 
 pub format-block-spec : {M : Type 1} → statement M
 format-block-spec =
     tie.close
-    (tie.spec
-    is-bad-requires
-    set-bst-requires
-    same-length
-    same-length-2
-    returns
-    block-bytes-requires
-    erase-at-requires
-    set-bst-requires-2
-    count-erase-requires
-    same-length-3
-    same-length-4
-    same-length-5
-    returns-2)
+    (tie.spec is-bad-requires set-bst-requires same-length same-length-2 returns erase-block-requires set-bst-requires-2 same-length-3 same-length-4 same-length-5 returns-2)

@@ -1,7 +1,9 @@
 -- `start_blocks::name_open`: by what the block's head says, and by the entry that it names.
 -- Assumes nothing.
+use mathlib.Core.Path.{_∙_}
 use borrow.Author.Needs.{needs}
 use borrow.Author.Tests.{not-true, not-false}
+use Rattle.rules.proofs.TableFacts.{chip-size}
 use Rattle.start_blocks.proofs.Heads.{number-low, open-erased, open-full, open-named, open-unused}
 use Rattle.start_blocks.proofs.name_open.Statement.{statement}
 use Rattle.start_blocks.proofs.name_open.Tie as tie
@@ -56,7 +58,9 @@ returns-3 c =
     open-named _ _ _ _ (start .pre .0) _ (at-head-of .head-of .ensures) _ (not-false _ (at-if1 .if1 .left)) (at-if2 .if2 .left) _ (at-bt-at .bt-at .ensures .0) (at-if3 .if3 .taken) _ (c .before .before .set-bt .ensures)
 
 erase-block-requires : tie.Need-erase-block-requires
-erase-block-requires c κs = search needs
+erase-block-requires c κs =
+    let start = c .before .before .before .before .before .before .before .before .before .before .before .before .before .before in
+    let a = start .pre .0 in (a .fine, (a .chipLength ∙ chip-size (start .args .p), (start .pre .1, a .low)))
 
 same-length-5 : tie.Need-same-length-5
 same-length-5 c = search needs

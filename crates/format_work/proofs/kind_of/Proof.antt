@@ -1,8 +1,8 @@
--- `start_blocks::kind_of`: by the block's mark.
+-- `format_work::kind_of`: by the block's mark.
 -- Assumes nothing.
 use borrow.Author.Needs.{needs}
-use Rattle.start_blocks.proofs.kind_of.Statement.{statement}
-use Rattle.start_blocks.proofs.kind_of.Tie as tie
+use Rattle.format_work.proofs.kind_of.Statement.{statement}
+use Rattle.format_work.proofs.kind_of.Tie as tie
 
 is-bad-requires : tie.Need-is-bad-requires
 is-bad-requires c κs = search needs

@@ -1,4 +1,4 @@
--- `start_blocks::reserve_bad`: after n turns the first n entries are made.
+-- `format_work::reserve_bad`: after n turns the first n entries are made.
 -- Assumes nothing.
 use mathlib.Core.Path.{_≡_, refl, _∙_}
 use mathlib.Core.Bool.{cond}
@@ -7,8 +7,8 @@ use native.Mathlib.Omega.{arith}
 use lib.ListN.{length, length-set, getD}
 use Rattle.loops.proofs.Tables.{as-lent, made-all, made-next, madeTo}
 use Rattle.rules.specs.Format.{bad}
-use Rattle.start_blocks.proofs.reserve_bad.Statement.{statement}
-use Rattle.start_blocks.proofs.reserve_bad.Tie as tie
+use Rattle.format_work.proofs.reserve_bad.Statement.{statement}
+use Rattle.format_work.proofs.reserve_bad.Tie as tie
 
 abbrev Inv-loop : tie.InvT-loop
 Inv-loop p chip bst₀ m n₀ bst n = (n ≤ m) × (length bst ≡ length bst₀) × (bst ≡ madeTo (p .N) (λ n. cond (bad p chip n) 2 0) (λ n. getD bst₀ n 0) n)

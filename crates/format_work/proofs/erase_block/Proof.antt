@@ -1,11 +1,10 @@
--- `start_blocks::erase_block`: the erase and its count.
+-- `format_work::erase_block`: the erase and its count.
 -- Assumes nothing.
 use borrow.Author.Needs.{needs}
 use Rattle.lists.proofs.Parts.{next}
-use Rattle.rules.proofs.TableFacts.{chip-size}
-use Rattle.start_blocks.proofs.Heads.{erase-is}
-use Rattle.start_blocks.proofs.erase_block.Statement.{statement}
-use Rattle.start_blocks.proofs.erase_block.Tie as tie
+use Rattle.format_work.proofs.Turns.{erase-is}
+use Rattle.format_work.proofs.erase_block.Statement.{statement}
+use Rattle.format_work.proofs.erase_block.Tie as tie
 
 block-bytes-requires : tie.Need-block-bytes-requires
 block-bytes-requires c κs = search needs
@@ -13,7 +12,7 @@ block-bytes-requires c κs = search needs
 erase-at-requires : tie.Need-erase-at-requires
 erase-at-requires c κs =
     let start = c .before .before .before .before in
-    rw (c .before .block-bytes .ensures, start .pre .1 .0, chip-size (start .args .p)) (next _ _ _ (start .pre .1 .1 .1))
+    rw (c .before .block-bytes .ensures, start .pre .1 .0) (next _ _ _ (start .pre .1 .1 .1))
 
 count-erase-requires : tie.Need-count-erase-requires
 count-erase-requires c κs = search needs
