@@ -1,0 +1,90 @@
+// Document 02, T-07, cuts, of the calls that do nothing to the chip but erase blocks in rising order, a format and a start. After such a cut every table but the wear is lost, so
+// BST is free to list what is to be erased: a block that it has as free is.
+ghost use mathlib.Core.Path.{_≡_};
+ghost use mathlib.Core.Bool.{true};
+ghost use Prim.Native.Nat.{_≤_};
+ghost use lib.Dec.{eqb};
+ghost use lib.ListN.{length, take};
+ghost use Rattle.lists.specs.Below.{countBelow};
+ghost use Rattle.rules.specs.Parameters.{allowed};
+ghost use Rattle.rules.specs.Tables.{boardOf, bstAt};
+ghost use Rattle.rules.specs.Traces.{eraseWhere, replayChip, replayWear};
+ghost use Rattle.rules.specs.Replies.{lengthsFit};
+ghost use Rattle.rules.specs.Cuts.{cutBoard};
+ghost use Rattle.format_work.specs.Blocks.{BlockAsked, BlocksAsked};
+ghost use Rattle.cut_erases.specs.Listed.{EraseDone, listed};
+use rules::PBlock;
+use rules::Params;
+
+// How many blocks BST lists.
+pub fn count_listed(bst: &[u8]) -> usize
+    ensures { λ k. ⌜ k ≡ countBelow (length (now (bst .entry))) (listed (now (bst .entry))) ⌝ }
+{
+    let mut k = 0;
+    let mut n = 0;
+    while n < bst.len() {
+        if chip_tables::bst_at(bst, PBlock(n)) == rules::FREE {
+            k += 1;
+        }
+        n += 1;
+    }
+    k
+}
+
+// Block n is erased if BST lists it and an erase is left. How many erases that took.
+fn erase_listed(
+    p: Params,
+    chip: &mut [u8],
+    bst: &[u8],
+    wear: &mut [u32],
+    n: PBlock,
+    left: usize,
+) -> usize
+    requires { ⌜ BlockAsked p (now chip) (now bst) (now wear) (n .0) ⌝ }
+    ensures { λ x. ⌜ EraseDone p (now (chip .entry)) (now (bst .entry)) (now (wear .entry)) (n .0) left (now (chip .exit)) (now (wear .exit)) x ⌝ }
+{
+    if left == 0 {
+        return 0;
+    }
+    if chip_tables::bst_at(bst, n) != rules::FREE {
+        return 0;
+    }
+    format_work::erase_block(p, chip, wear, n);
+    1
+}
+
+// The first k blocks that BST lists are erased, and no other.
+fn erase_first(p: Params, chip: &mut [u8], bst: &[u8], wear: &mut [u32], k: usize)
+    requires { ⌜ BlocksAsked p (now chip) (now bst) (now wear) ⌝ }
+    ensures { λ _. ⌜ now (chip .exit) ≡ replayChip p (now (chip .entry)) (take k (eraseWhere p (listed (now (bst .entry))))) ⌝ }
+    ensures { λ _. ⌜ now (wear .exit) ≡ replayWear (now (wear .entry)) (take k (eraseWhere p (listed (now (bst .entry))))) ⌝ }
+{
+    let m = p.N;
+    let mut left = k;
+    let mut n: usize = 0;
+    while n < m {
+        left -= erase_listed(p, chip, bst, wear, PBlock(n), left);
+        n += 1;
+    }
+}
+
+// The same, and then the power is gone: every table but the wear is lost.
+pub fn cut_after(
+    p: Params,
+    chip: &mut [u8],
+    ct: &mut [u16],
+    bt: &mut [u16],
+    fst: &mut [u16],
+    bst: &mut [u8],
+    wear: &mut [u32],
+    marks: &mut [u64],
+    stamps: &mut [u32],
+    k: usize,
+)
+    requires { ⌜ allowed p ≡ true ⌝ }
+    requires { ⌜ lengthsFit p (boardOf (now chip) (now ct) (now bt) (now fst) (now bst) (now wear) (now marks) (now stamps)) ≡ true ⌝ }
+    ensures { λ _. ⌜ boardOf (now (chip .exit)) (now (ct .exit)) (now (bt .exit)) (now (fst .exit)) (now (bst .exit)) (now (wear .exit)) (now (marks .exit)) (now (stamps .exit)) ≡ cutBoard p (boardOf (now (chip .entry)) (now (ct .entry)) (now (bt .entry)) (now (fst .entry)) (now (bst .entry)) (now (wear .entry)) (now (marks .entry)) (now (stamps .entry))) (take k (eraseWhere p (listed (now (bst .entry))))) ⌝ }
+{
+    erase_first(p, chip, bst, wear, k);
+    chip_lost::lose(ct, bt, fst, bst, marks, stamps);
+}
