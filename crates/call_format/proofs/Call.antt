@@ -5,8 +5,6 @@ use mathlib.Core.List.{List, []}
 use Prim.Native.Nat.{ℕ, _*_, _≤_, _<_}
 use native.Mathlib.Omega.{arith}
 use lib.ListN.{length, replicate}
-use borrow.Author.Tests.{eqb-true}
-use Rattle.lists.proofs.Tests.{truths}
 use Rattle.rules.specs.declared.Params.{Params}
 use Rattle.rules.specs.declared.Reply.{Reply}
 use Rattle.rules.specs.declared.Reply.the-variants.{Accepted}
@@ -14,36 +12,27 @@ use Rattle.rules.specs.Tables.{Board, boardOf, none}
 use Rattle.rules.specs.Marks.{marksOf}
 use Rattle.rules.specs.Format.{formatted}
 use Rattle.rules.specs.Requests.{format}
-use Rattle.rules.specs.Replies.{lengthsFit, replyOf}
+use Rattle.rules.specs.Replies.{replyOf}
 use Rattle.rules.specs.Calls.{answerOf, outcomeOf}
 use Rattle.rules.proofs.Sizes.{sizes}
-use Rattle.rules.proofs.TableFacts.{chip-size}
 use Rattle.rules.proofs.Admitted.{FormatAdmitted, format-admitted}
 use Rattle.rules.proofs.Outcomes.{format-accepted}
 use Rattle.rules.proofs.Counts.{format-programs}
 use Rattle.marks.proofs.FormattedMarks.{formatted-marks}
+use Rattle.chip_lost.proofs.Board.{Lengths}
 use Rattle.format_work.specs.Blocks.{BlocksAsked, BlocksDone}
-use Rattle.check_rules.specs.Check.{Lengths}
-use Rattle.check_rules.proofs.Agree.{lengths-in, marks-fit}
+use Rattle.cut_erases.proofs.Board.{blocks-asked, table-lengths}
 use Rattle.outcomes.specs.Claims.{outcome}
 
 module _ (p : Params) (b : Board) (e : replyOf p b format ≡ Accepted) where
-  given : FormatAdmitted p b
+  pub given : FormatAdmitted p b
   given = format-admitted p b e
 
-  lens : Lengths p (b .chip) (b .ct) (b .bt) (b .fst) (b .bst)
-  lens = lengths-in p b (given .fine) (given .lengths)
+  lens : Lengths p (b .ct) (b .bt) (b .fst) (b .bst) (b .marks) (b .stamps)
+  lens = table-lengths p b (given .lengths)
 
-  wear-length : length (b .wear) ≡ p .N
-  unfolding lengthsFit
-  wear-length = eqb-true _ _ ((truths _ (given .lengths)) .1 .1 .1 .1 .1 .0)
-
-  stamps-length : length (b .stamps) ≡ p .mu
-  unfolding lengthsFit
-  stamps-length = eqb-true _ _ ((truths _ (given .lengths)) .1 .1 .1 .1 .1 .1 .1 .0)
-
-  pub blocks-asked : BlocksAsked p (b .chip) (b .bst) (b .wear)
-  blocks-asked = record { fine = lens .fine; chipLength = lens .chipLength ∙ chip-size p; bstLength = lens .bstLength; wearLength = wear-length }
+  pub asked : BlocksAsked p (b .chip) (b .bst) (b .wear)
+  asked = blocks-asked p b (given .lengths) (given .fine)
 
   pub few : (k : ℕ) → k ≤ p .N → k < 4294967296
   few k h = omega (arith, h, (sizes p (given .fine)) .blocks)
@@ -57,8 +46,8 @@ module _ (p : Params) (b : Board) (e : replyOf p b format ≡ Accepted) where
       let ct-is : ct ≡ replicate (p .C) none = ce ∙ rw (lens .ctLength) in
       let bt-is : bt ≡ replicate (p .mu * p .gamma) none = be ∙ rw (lens .btLength) in
       let fst-is : fst ≡ replicate (p .mu) none = fe ∙ rw (lens .fstLength) in
-      let marks-is : marks ≡ marksOf p (formatted p b) = me ∙ rw (marks-fit p b (given .lengths)) (sym (formatted-marks p b e)) in
-      let stamps-is : stamps ≡ replicate (p .mu) 0 = se ∙ rw stamps-length in
+      let marks-is : marks ≡ marksOf p (formatted p b) = me ∙ rw (lens .marksLength) (sym (formatted-marks p b e)) in
+      let stamps-is : stamps ≡ replicate (p .mu) 0 = se ∙ rw (lens .stampsLength) in
       (λ i.
       record {
         answer = record { reply = (er ∙ e) i; programs = sym (format-programs p (b .chip)) i; erases = d .count i; looks = 0 };

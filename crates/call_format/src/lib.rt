@@ -4,6 +4,7 @@ ghost use mathlib.Core.List.{[]};
 ghost use Rattle.rules.specs.Lent.{entryBoard, exitBoard};
 ghost use Rattle.rules.specs.Requests.{format};
 ghost use Rattle.rules.specs.Calls.{outcomeOf};
+ghost use Rattle.rules.specs.Cuts.{limited, stepOutcome};
 ghost use Rattle.outcomes.specs.Claims.{outcome};
 use rules::Answer;
 use rules::Params;
@@ -38,4 +39,42 @@ pub fn format(
         erases: k as u32,
         looks: 0,
     }
+}
+
+// The same with a budget of erases. Where a format makes that many or more, so many blocks are erased, the tables are lost, and the answer counts nothing.
+pub fn format_cut(
+    p: Params,
+    chip: &mut [u8],
+    ct: &mut [u16],
+    bt: &mut [u16],
+    fst: &mut [u16],
+    bst: &mut [u8],
+    wear: &mut [u32],
+    marks: &mut [u64],
+    stamps: &mut [u32],
+    budget: u64,
+) -> Answer
+    ensures { λ a. ⌜ outcome a [] [] (exitBoard chip ct bt fst bst wear marks stamps) ≡ stepOutcome p (entryBoard chip ct bt fst bst wear marks stamps) (limited budget format) ⌝ }
+{
+    let reply = replies::format_reply(p, chip, ct, bt, fst, bst, wear, marks, stamps);
+    if rules::number(reply) != 0 {
+        return reply_rows::idle(reply);
+    }
+    if budget > chip_bad::count_good(p, chip) as u64 {
+        return format(p, chip, ct, bt, fst, bst, wear, marks, stamps);
+    }
+    format_work::reserve_bad(p, chip, bst);
+    cut_erases::cut_after(
+        p,
+        chip,
+        ct,
+        bt,
+        fst,
+        bst,
+        wear,
+        marks,
+        stamps,
+        budget as usize,
+    );
+    reply_rows::idle(reply)
 }

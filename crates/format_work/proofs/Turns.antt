@@ -37,7 +37,7 @@ module _ (p : Params) (chip bst wear : List ℕ) (n : ℕ) (a : BlockAsked p chi
 -- ---- all of them
 
 -- a value that is one where the block is bad, and another where it is not
-flipped : {A : Type 0} (t : Bool) (x y : A) → cond t x y ≡ cond (not t) y x
+pub flipped : {A : Type 0} (t : Bool) (x y : A) → cond t x y ≡ cond (not t) y x
 flipped true x y = refl
 flipped false x y = refl
 

@@ -4,7 +4,7 @@ use borrow.Author.Needs.{needs}
 use Rattle.rules.specs.Tables.{Board, boardOf}
 use Rattle.rules.specs.Requests.{format, lent, lentAnswers}
 use Rattle.outcomes.proofs.Ends.{refused-by, reply-zero}
-use Rattle.call_format.proofs.Call.{blocks-asked, few, format-done}
+use Rattle.call_format.proofs.Call.{asked, few, format-done}
 use Rattle.call_format.proofs.format.Statement.{statement}
 use Rattle.call_format.proofs.format.Tie as tie
 
@@ -72,7 +72,7 @@ format-blocks-requires c κs =
     let at-number = at-if1 .before in
     let at-format-reply = at-number .before in
     let a = at-format-reply .before .before .before .before .before .before .before .before .before .before .before .before .before .before .before .before .before in
-    blocks-asked _ (board a)
+    asked _ (board a)
     (reply-zero _ (board a) format _ (at-format-reply .format-reply .ensures) _ (at-number .number .ensures) (at-if1 .if1 .left))
 
 cast-t28 : tie.Need-cast-t28
