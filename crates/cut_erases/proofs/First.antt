@@ -1,7 +1,7 @@
 -- The first k erases of those that pass a test are the erases of the blocks that pass another one: the test, with fewer than k below that pass it. So a loop that stops erasing
 -- after k goes as any other loop that erases does (rules' Erases), and what it has left is k less those that it passed.
 -- Assumes nothing.
-use mathlib.Core.Path.{_≡_, refl, sym, ap, _∙_}
+use mathlib.Core.Path.{_≡_, sym, _∙_}
 use mathlib.Core.Logic.{_⊎_, inl, inr}
 use mathlib.Core.Bool.{Bool, true, false, _&&_, cond}
 use mathlib.Core.List.{List, [], _∷_, _++_, append-nil}
@@ -19,7 +19,7 @@ use Rattle.lists.proofs.Tests.{and-no, so}
 use Rattle.rules.specs.declared.Params.{Params}
 use Rattle.rules.specs.Parameters.{blockBytes}
 use Rattle.rules.specs.Tables.{bstAt, wearAt}
-use Rattle.rules.specs.Traces.{Op, erase, eraseWhere, replayChip, replayWear}
+use Rattle.rules.specs.Traces.{erase, eraseWhere, replayChip, replayWear}
 use Rattle.rules.proofs.Erases.{Erased, erases-long, erases-ran, erasesBelow, next-erased, none-erased, where-below}
 use Rattle.rules.proofs.Writes.{wear-length}
 use Rattle.format_work.specs.Blocks.{BlockAsked, BlocksAsked}

@@ -2,12 +2,10 @@
 // BST is free to list what is to be erased: a block that it has as free is.
 ghost use mathlib.Core.Path.{_≡_};
 ghost use mathlib.Core.Bool.{true};
-ghost use Prim.Native.Nat.{_≤_};
-ghost use lib.Dec.{eqb};
 ghost use lib.ListN.{length, take};
 ghost use Rattle.lists.specs.Below.{countBelow};
 ghost use Rattle.rules.specs.Parameters.{allowed};
-ghost use Rattle.rules.specs.Tables.{boardOf, bstAt};
+ghost use Rattle.rules.specs.Tables.{boardOf};
 ghost use Rattle.rules.specs.Traces.{eraseWhere, replayChip, replayWear};
 ghost use Rattle.rules.specs.Replies.{lengthsFit};
 ghost use Rattle.rules.specs.Cuts.{cutBoard};

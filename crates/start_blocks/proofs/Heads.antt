@@ -2,10 +2,11 @@
 -- Assumes nothing.
 use mathlib.Core.Path.{_≡_, sym, _∙_}
 use mathlib.Core.Logic.{_⊎_, inl, inr}
-use mathlib.Core.Bool.{true, false, _&&_, cond}
+use mathlib.Core.Bool.{true, false, not, _&&_, cond}
 use mathlib.Core.List.{List}
 use Prim.Native.Nat.{ℕ, _+_, _*_, _<_, min}
 use native.Mathlib.Omega.{arith}
+use lib.Dec.{eqb}
 use lib.ListN.{replicate, set}
 use borrow.Author.Tests.{eq-eqb, ne-eqb}
 use Rattle.lists.specs.Parts.{putPart}
@@ -77,3 +78,25 @@ module _ (p : Params) (chip bt : List ℕ) (n : ℕ) (a : BlockAsked p chip bt n
         open-erased ne chip′ wear′ x y =
             let q = ne-eqb m none ne in
             record { chipIs = rw (used, not-full, entry, q) x; btIs = rw (used, not-full, entry, q); wearIs = rw (used, not-full, entry, q) y; count = rw (used, not-full, entry, q) }
+
+  -- ---- whether it is one too many
+
+  pub many-unused : h .used ≡ false → tooMany p chip bt n ≡ false
+  unfolding tooMany
+  many-unused u = rw (← is .usedIs, u)
+
+  module _ (u : h .used ≡ true) where
+    pub many-full : h .full ≡ true → tooMany p chip bt n ≡ false
+    unfolding tooMany
+    many-full f = rw (← is .usedIs, u, ← (is .names u) .fullIs, f)
+
+    module _ (f : h .full ≡ false) (m : ℕ) (named : m ≡ btAt p bt (h .region) (h .vblock .0)) where
+      many-is : tooMany p chip bt n ≡ not (eqb m none)
+      unfolding tooMany btAt
+      many-is = rw (← is .usedIs, u, ← (is .names u) .fullIs, f, ← index-is u, ← named)
+
+      pub many-alone : m ≡ none → tooMany p chip bt n ≡ false
+      many-alone e = many-is ∙ rw (eq-eqb m none e)
+
+      pub many-over : (m ≡ none → ⊥) → tooMany p chip bt n ≡ true
+      many-over ne = many-is ∙ rw (ne-eqb m none ne)

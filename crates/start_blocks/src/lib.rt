@@ -8,8 +8,8 @@ ghost use lib.ListN.{length, set};
 ghost use Rattle.lists.specs.Below.{listBelow};
 ghost use Rattle.rules.specs.Tables.{btEntry, none};
 ghost use Rattle.rules.specs.Pages.{block, isFull};
-ghost use Rattle.rules.specs.Start.{foundBt, inUse};
-ghost use Rattle.start_blocks.specs.Named.{BlockAsked, Kept, OpenDone, StartAsked, fullsTo, indexNamed, kinds, namedBy};
+ghost use Rattle.rules.specs.Start.{foundBt, inUse, leftOver};
+ghost use Rattle.start_blocks.specs.Named.{BlockAsked, Kept, OpenDone, StartAsked, fullsTo, indexNamed, kinds, namedBy, tooMany};
 use rules::PBlock;
 use rules::Params;
 
@@ -122,4 +122,48 @@ pub fn find_blocks(
     let k = name_opens(p, chip, bt, wear);
     use_named(bt, bst);
     k
+}
+
+// What BST has for block n as the list of what is to be erased: free where the block is in use, not full, and BT has another for the entry that it names; else reserved.
+fn left_kind(p: Params, chip: &[u8], bt: &[u16], n: PBlock) -> u8
+    requires { ⌜ BlockAsked p (now chip) (now bt) (n .0) ⌝ }
+    ensures { λ s. ⌜ s ≡ cond (tooMany p (now (chip .entry)) (now (bt .entry)) (n .0)) 0 2 ⌝ }
+{
+    let h = chip_heads::head_of(p, chip, n);
+    if !h.used {
+        return rules::RESERVED;
+    }
+    if h.full {
+        return rules::RESERVED;
+    }
+    if chip_tables::bt_at(p, bt, h.region, h.vblock).0 == rules::NONE {
+        return rules::RESERVED;
+    }
+    rules::FREE
+}
+
+// The same of every block, once BT has the full ones.
+fn list_kinds(p: Params, chip: &[u8], bt: &[u16], bst: &mut [u8])
+    requires { ⌜ StartAsked p (now chip) (now bt) ⌝ }
+    requires { ⌜ now bt ≡ fullsTo p (now chip) (p .N) ⌝ }
+    requires { ⌜ length (now bst) ≡ p .N ⌝ }
+    ensures { λ _. ⌜ now (bst .exit) ≡ listBelow (p .N) (λ n. cond (leftOver p (now (chip .entry)) n) 0 2) ⌝ }
+{
+    let m = p.N;
+    let mut n = 0;
+    while n < m {
+        bst[n] = left_kind(p, chip, bt, PBlock(n));
+        n += 1;
+    }
+}
+
+// BST lists what is left over, and nothing is erased yet. BT is written over on the way.
+pub fn list_left(p: Params, chip: &[u8], bt: &mut [u16], bst: &mut [u8])
+    requires { ⌜ StartAsked p (now chip) (now bt) ⌝ }
+    requires { ⌜ length (now bst) ≡ p .N ⌝ }
+    ensures { λ _. ⌜ now (bst .exit) ≡ listBelow (p .N) (λ n. cond (leftOver p (now (chip .entry)) n) 0 2) ⌝ }
+{
+    format_work::clear(bt);
+    name_fulls(p, chip, bt);
+    list_kinds(p, chip, bt, bst);
 }

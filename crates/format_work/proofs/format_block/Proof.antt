@@ -1,7 +1,6 @@
 -- `format_work::format_block`: one of two outcomes, by the block's mark.
 -- Assumes nothing.
-use mathlib.Core.Path.{_≡_, sym, _∙_}
-use native.Mathlib.Omega.{arith}
+use mathlib.Core.Path.{sym, _∙_}
 use borrow.Author.Needs.{needs}
 use Rattle.format_work.proofs.Turns.{done-bad, done-good}
 use Rattle.format_work.proofs.format_block.Statement.{statement}
