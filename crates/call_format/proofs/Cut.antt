@@ -20,7 +20,7 @@ use Rattle.rules.specs.Replies.{lengthsFit, replyOf}
 use Rattle.rules.specs.Calls.{Outcome, answerOf, outcomeOf, single, workOf}
 use Rattle.rules.specs.Cuts.{cutBoard, hasBudget, limited, stepOutcome}
 use Rattle.cut_erases.specs.Listed.{listed}
-use Rattle.cut_erases.proofs.Ends.{ends, over, still-fits, whole}
+use Rattle.cut_erases.proofs.Ends.{ends, fits-same, over, whole}
 use Rattle.format_work.proofs.Turns.{flipped}
 use Rattle.outcomes.specs.Claims.{outcome}
 use Rattle.outcomes.proofs.Cuts.{format-work}
@@ -35,7 +35,7 @@ module _ (p : Params) (b : Board) (e : replyOf p b format ≡ Accepted) where
   work = format-work p b e
 
   pub cut-asked : (bst : List ℕ) → bst ≡ listBelow (p .N) (λ n. cond (bad p (b .chip) n) 2 0) → (allowed p ≡ true) × (lengthsFit p (over b (b .bt) bst) ≡ true)
-  cut-asked bst is = ((given p b e) .fine, still-fits p b (b .bt) bst refl (ap length is ∙ list-length (p .N) _ ∙ sym ((asked p b e) .bstLength)) ((given p b e) .lengths))
+  cut-asked bst is = ((given p b e) .fine, fits-same p b (b .bt) bst refl (ap length is ∙ list-length (p .N) _ ∙ sym ((asked p b e) .bstLength)) ∙ (given p b e) .lengths)
 
   module _ (k n : ℕ) (counted : n ≡ goodBlocks p (b .chip)) where
     count : n ≡ countBelow (p .N) good

@@ -1,6 +1,6 @@
 -- The reply to a start is a format's, where that refuses, and else by the row of the chip; and the work of an accepted start, done.
 -- Assumes nothing.
-use mathlib.Core.Path.{_≡_, refl, sym, ap, _∙_}
+use mathlib.Core.Path.{_≡_, sym, _∙_}
 use mathlib.Core.Bool.{Bool, false, not, true}
 use mathlib.Core.List.{[]}
 use Prim.Native.Nat.{ℕ, _+_, _*_, _<_, _≤_}
@@ -16,7 +16,7 @@ use Rattle.rules.specs.Traces.{erasesIn}
 use Rattle.rules.specs.Format.{goodBlocks}
 use Rattle.rules.specs.Start.{startOps, startable, started}
 use Rattle.rules.specs.Requests.{format, start}
-use Rattle.rules.specs.Replies.{badParameter, firstRow, lengthsFit, lentRows, notStartable, numberOf, replyOf, rowsOf, tooFewBlocks, wrongLength}
+use Rattle.rules.specs.Replies.{badParameter, firstRow, lentRows, notStartable, numberOf, replyOf, rowsOf, tooFewBlocks, wrongLength}
 use Rattle.rules.specs.Calls.{answerOf, outcomeOf}
 use Rattle.rules.proofs.Admitted.{FormatAdmitted, format-admitted}
 use Rattle.rules.proofs.Counts.{start-counts}
@@ -60,9 +60,9 @@ module _ (p : Params) (b : Board) (e : replyOf p b start ≡ Accepted) where
   few k most = omega (arith, most, (sizes p ((start-admitted p b e) .fine)) .blocks)
 
   -- all tables rebuilt
-  pub start-done : (r : Reply) → r ≡ replyOf p b start → (b′ : Board) (k : ℕ) → b′ ≡ started p b → k ≡ erasesIn (startOps p (b .chip))
-      → outcome (record { reply = r; programs = 0; erases = k; looks = 0 }) [] [] b′ ≡ outcomeOf p b start
+  pub start-done : (b′ : Board) (k : ℕ) → b′ ≡ started p b → k ≡ erasesIn (startOps p (b .chip))
+      → outcome (record { reply = Accepted; programs = 0; erases = k; looks = 0 }) [] [] b′ ≡ outcomeOf p b start
   unfolding answerOf
-  start-done r er b′ k be ke =
-      (λ i. record { answer = record { reply = (er ∙ e) i; programs = sym ((start-counts p (b .chip)) .0) i; erases = ke i; looks = 0 }; bytes = []; answers = []; board = be i })
+  start-done b′ k be ke =
+      (λ i. record { answer = record { reply = Accepted; programs = sym ((start-counts p (b .chip)) .0) i; erases = ke i; looks = 0 }; bytes = []; answers = []; board = be i })
       ∙ sym (start-accepted p b e)

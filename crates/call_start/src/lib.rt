@@ -1,10 +1,13 @@
 // Document 02's T-07, "Start from the chip alone", on the lent chip and tables. No `requires`: the contract says that the whole outcome is the rules', for every input.
 ghost use mathlib.Core.Path.{_≡_};
 ghost use mathlib.Core.List.{[]};
+ghost use Rattle.rules.specs.declared.Reply.the-variants.{Accepted};
+ghost use Rattle.rules.specs.Tables.{boardOf};
 ghost use Rattle.rules.specs.Lent.{entryBoard, exitBoard};
 ghost use Rattle.rules.specs.Requests.{start};
 ghost use Rattle.rules.specs.Replies.{replyOf};
 ghost use Rattle.rules.specs.Calls.{outcomeOf};
+ghost use Rattle.rules.specs.Cuts.{limited, stepOutcome};
 ghost use Rattle.outcomes.specs.Claims.{outcome};
 use rules::Answer;
 use rules::Params;
@@ -34,6 +37,30 @@ fn start_reply(
     Reply::Accepted
 }
 
+// What an accepted start does: the blocks that are left over are erased, and every table but the wear is rebuilt from the chip. The answer counts the erases.
+fn rebuild(
+    p: Params,
+    chip: &mut [u8],
+    ct: &mut [u16],
+    bt: &mut [u16],
+    fst: &mut [u16],
+    bst: &mut [u8],
+    wear: &mut [u32],
+    marks: &mut [u64],
+    stamps: &mut [u32],
+) -> Answer
+    requires { ⌜ replyOf p (boardOf (now chip) (now ct) (now bt) (now fst) (now bst) (now wear) (now marks) (now stamps)) start ≡ Accepted ⌝ }
+    ensures { λ a. ⌜ outcome a [] [] (exitBoard chip ct bt fst bst wear marks stamps) ≡ outcomeOf p (entryBoard chip ct bt fst bst wear marks stamps) start ⌝ }
+{
+    let k = start_work::start_all(p, chip, ct, bt, fst, bst, wear, marks, stamps);
+    Answer {
+        reply: Reply::Accepted,
+        programs: 0,
+        erases: k as u32,
+        looks: 0,
+    }
+}
+
 // The blocks that are left over are erased, and every table but the wear is rebuilt from the chip.
 pub fn start(
     p: Params,
@@ -52,11 +79,43 @@ pub fn start(
     if rules::number(reply) != 0 {
         return reply_rows::idle(reply);
     }
-    let k = start_work::start_all(p, chip, ct, bt, fst, bst, wear, marks, stamps);
-    Answer {
-        reply,
-        programs: 0,
-        erases: k as u32,
-        looks: 0,
+    rebuild(p, chip, ct, bt, fst, bst, wear, marks, stamps)
+}
+
+// The same with a budget of erases. Where a start makes that many or more, so many blocks are erased, the tables are lost, and the answer counts nothing.
+pub fn start_cut(
+    p: Params,
+    chip: &mut [u8],
+    ct: &mut [u16],
+    bt: &mut [u16],
+    fst: &mut [u16],
+    bst: &mut [u8],
+    wear: &mut [u32],
+    marks: &mut [u64],
+    stamps: &mut [u32],
+    budget: u64,
+) -> Answer
+    ensures { λ a. ⌜ outcome a [] [] (exitBoard chip ct bt fst bst wear marks stamps) ≡ stepOutcome p (entryBoard chip ct bt fst bst wear marks stamps) (limited budget start) ⌝ }
+{
+    let reply = start_reply(p, chip, ct, bt, fst, bst, wear, marks, stamps);
+    if rules::number(reply) != 0 {
+        return reply_rows::idle(reply);
     }
+    start_blocks::list_left(p, chip, bt, bst);
+    if budget > cut_erases::count_listed(bst) as u64 {
+        return rebuild(p, chip, ct, bt, fst, bst, wear, marks, stamps);
+    }
+    cut_erases::cut_after(
+        p,
+        chip,
+        ct,
+        bt,
+        fst,
+        bst,
+        wear,
+        marks,
+        stamps,
+        budget as usize,
+    );
+    reply_rows::idle(reply)
 }

@@ -1,6 +1,6 @@
 -- What the lent lengths give, and the erases of a BST that lists the blocks that pass a test.
 -- Assumes nothing.
-use mathlib.Core.Path.{_≡_, refl, _∙_}
+use mathlib.Core.Path.{_≡_, refl, ap, _∙_}
 use mathlib.Core.Bool.{Bool, true, false, cond}
 use mathlib.Core.List.{List}
 use Prim.Native.Nat.{ℕ, zero, suc, _<_}
@@ -9,8 +9,8 @@ use lib.Dec.{eqb}
 use lib.ListN.{length}
 use borrow.Author.Tests.{eqb-true}
 use Rattle.lists.specs.Below.{countBelow, joinBelow, listBelow}
-use Rattle.lists.proofs.Lists.{list-at}
-use Rattle.lists.proofs.Tests.{truths}
+use Rattle.lists.proofs.Lists.{list-at, list-length}
+use Rattle.lists.proofs.Tests.{count-cong, truths}
 use Rattle.rules.specs.declared.Params.{Params}
 use Rattle.rules.specs.Parameters.{allowed}
 use Rattle.rules.specs.Tables.{Board, bstAt}
@@ -68,3 +68,6 @@ module _ (p : Params) (f : ℕ → Bool) (bst : List ℕ) (is : bst ≡ listBelo
 
   pub where-listed : eraseWhere p (listed bst) ≡ eraseWhere p f
   where-listed = rw (where-below p (listed bst), where-below p f) (same-erases (listed bst) f (p .N) listed-is)
+
+  pub count-is : (k : ℕ) → k ≡ countBelow (length bst) (listed bst) → k ≡ countBelow (p .N) f
+  count-is k e = e ∙ rw (ap length is ∙ list-length (p .N) _) (count-cong (p .N) (listed bst) f listed-is)

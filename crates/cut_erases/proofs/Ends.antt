@@ -25,9 +25,9 @@ use Rattle.cut_erases.proofs.Board.{where-listed, where-long}
 abbrev pub over : Board → List ℕ → List ℕ → Board
 over b bt bst = boardOf (b .chip) (b .ct) bt (b .fst) bst (b .wear) (b .marks) (b .stamps)
 
-pub still-fits : (p : Params) (b : Board) (bt bst : List ℕ) → length bt ≡ length (b .bt) → length bst ≡ length (b .bst) → lengthsFit p b ≡ true → lengthsFit p (over b bt bst) ≡ true
+pub fits-same : (p : Params) (b : Board) (bt bst : List ℕ) → length bt ≡ length (b .bt) → length bst ≡ length (b .bst) → lengthsFit p (over b bt bst) ≡ lengthsFit p b
 unfolding lengthsFit
-still-fits p b bt bst x y h = rw (x, y) h
+fits-same p b bt bst x y = rw (x, y)
 
 module _ (p : Params) (b : Board) (c : Call) (f : ℕ → Bool) (b″ : Board) (e : workOf p b c ≡ single c (answerOf Accepted (eraseWhere p f) 0) [] (eraseWhere p f) b″)
     (k n : ℕ) (counted : n ≡ countBelow (p .N) f) where

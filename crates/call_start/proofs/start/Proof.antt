@@ -4,8 +4,6 @@ use borrow.Author.Needs.{needs}
 use Rattle.rules.specs.Tables.{Board, boardOf}
 use Rattle.rules.specs.Requests.{lent, lentAnswers, start}
 use Rattle.outcomes.proofs.Ends.{refused-by, reply-zero}
-use Rattle.starts.proofs.Accepted.{start-admitted}
-use Rattle.call_start.proofs.Call.{few, start-done}
 use Rattle.call_start.proofs.start.Statement.{statement}
 use Rattle.call_start.proofs.start.Tie as tie
 
@@ -52,25 +50,13 @@ returns c =
     let a = at-start-reply .before .before .before .before .before .before .before .before .before .before .before .before .before .before .before .before .before in
     refused-by _ (board a) start _ (at-start-reply .start-reply .ensures) _ (c .before .before .number .ensures) (c .before .if1 .taken) _ (c .idle .ensures)
 
-start-all-requires : tie.Need-start-all-requires
-start-all-requires c κs =
+rebuild-requires : tie.Need-rebuild-requires
+rebuild-requires c κs =
     let at-if1 = c .before .before .before .before .before .before .before .before in
     let at-number = at-if1 .before in
     let at-start-reply = at-number .before in
     let a = at-start-reply .before .before .before .before .before .before .before .before .before .before .before .before .before .before .before .before .before in
-    start-admitted _ (board a) (reply-zero _ (board a) start _ (at-start-reply .start-reply .ensures) _ (at-number .number .ensures) (at-if1 .if1 .left))
-
-cast-t28 : tie.Need-cast-t28
-cast-t28 c =
-    let at-start-all = c .before .before .before .before .before .before .before .before .before .before .before .before .before .before .before .before in
-    let at-if1 = at-start-all .before .before .before .before .before .before .before .before .before in
-    let at-number = at-if1 .before in
-    let at-start-reply = at-number .before in
-    let a = at-start-reply .before .before .before .before .before .before .before .before .before .before .before .before .before .before .before .before .before in
-    record {
-      fits = few _ (board a) (reply-zero _ (board a) start _ (at-start-reply .start-reply .ensures) _ (at-number .number .ensures) (at-if1 .if1 .left)) _
-          (at-start-all .start-all .ensures .1 .1);
-    }
+    reply-zero _ (board a) start _ (at-start-reply .start-reply .ensures) _ (at-number .number .ensures) (at-if1 .if1 .left)
 
 same-length-9 : tie.Need-same-length-9
 same-length-9 c = search needs
@@ -97,17 +83,9 @@ same-length-16 : tie.Need-same-length-16
 same-length-16 c = search needs
 
 returns-2 : tie.Need-returns-2
-returns-2 c =
-    let at-start-all = c .before .before .before .before .before .before .before .before .before .before .before .before .before .before .before .before in
-    let at-if1 = at-start-all .before .before .before .before .before .before .before .before .before in
-    let at-number = at-if1 .before in
-    let at-start-reply = at-number .before in
-    let a = at-start-reply .before .before .before .before .before .before .before .before .before .before .before .before .before .before .before .before .before in
-    start-done _ (board a)
-    (reply-zero _ (board a) start _ (at-start-reply .start-reply .ensures) _ (at-number .number .ensures) (at-if1 .if1 .left))
-    _ (at-start-reply .start-reply .ensures) _ _
-    (at-start-all .start-all .ensures .0)
-    (at-start-all .start-all .ensures .1 .0)
+returns-2 c = c .before .before .before .before .before .before .before .before .before .before .before .before .before .before .before .before .rebuild .ensures
 
 pub start-spec : {M : Type 1} → statement M
-start-spec = tie.close (tie.spec start-reply-requires number-requires idle-requires same-length same-length-2 same-length-3 same-length-4 same-length-5 same-length-6 same-length-7 same-length-8 returns start-all-requires cast-t28 same-length-9 same-length-10 same-length-11 same-length-12 same-length-13 same-length-14 same-length-15 same-length-16 returns-2)
+start-spec =
+    tie.close
+    (tie.spec start-reply-requires number-requires idle-requires same-length same-length-2 same-length-3 same-length-4 same-length-5 same-length-6 same-length-7 same-length-8 returns rebuild-requires same-length-9 same-length-10 same-length-11 same-length-12 same-length-13 same-length-14 same-length-15 same-length-16 returns-2)
