@@ -1,54 +1,37 @@
 -- The frames that pass a test, which are those with a mark, copied one after the other: what a turn asks, what it leaves, and what all of them leave.
 -- Assumes nothing.
-use mathlib.Core.Path.{_≡_, refl, sym, ap, _∙_}
+use mathlib.Core.Path.{_≡_, refl, ap, _∙_}
 use mathlib.Core.Bool.{Bool, true, false}
-use mathlib.Core.List.{List, [], _∷_, _++_, map, append-assoc, append-nil}
+use mathlib.Core.List.{List, [], _∷_, _++_}
 use Prim.Native.Nat.{ℕ, suc, _+_, _*_, _≤_, _<_, min}
-use native.Mathlib.Numerals.{add-one}
 use native.Mathlib.Nat.{add-zero, zero-add}
 use native.Mathlib.Omega.{arith}
 use mir.Syntax.{w64}
 use mir.Val.{Fits}
-use lib.ListN.{getD, length, set, replicate, length-append, length-map}
-use Rattle.lists.specs.Below.{countBelow, keepBelow}
+use lib.ListN.{getD, length, set, replicate, length-append}
+use Rattle.lists.specs.Below.{keepBelow}
 use Rattle.lists.specs.Parts.{putPart}
-use Rattle.lists.proofs.Tests.{count-le}
-use Rattle.lists.proofs.Ranks.{keep-length, map-at, keep-nth}
 use Rattle.rules.specs.declared.Params.{Params}
-use Rattle.rules.specs.Parameters.{frames, frameBytes, blockBytes}
+use Rattle.rules.specs.Parameters.{frames, blockBytes}
 use Rattle.rules.specs.Numbers.{segmentOf}
 use Rattle.rules.specs.Tables.{wearAt, marksLength, wordAt}
-use Rattle.rules.specs.Pages.{block, frame, held, erased}
-use Rattle.rules.specs.Traces.{erase, onChip, replayChip, frameOps, framesOps}
+use Rattle.rules.specs.Pages.{block, frame, held}
+use Rattle.rules.specs.Traces.{erase, onChip, replayChip, framesOps}
 use Rattle.rules.specs.Write.{followCt}
 use Rattle.rules.proofs.Sizes.{sizes}
 use Rattle.rules.proofs.Chip.{replay-append, frame-put}
-use Rattle.rules.proofs.Replays.{Ran, Wholes, frames-ran, block-size, put-frames-else}
 use Rattle.rules.proofs.Following.{follow-length}
 use Rattle.marks.specs.Marks.{markIn}
-use Rattle.rules.specs.Machine.{putFrames}
 use Rattle.rules.specs.Marks.{tableOf}
 use Rattle.marks.proofs.Tables.{table-marks}
-use Rattle.write_reclaim.specs.Moves.{Whole, OnChip, MoveAsked, MovedIf, FromTo, Copied, Reclaimed, markedFrames}
-use Rattle.write_reclaim.proofs.Places.{block-fits, frame-fits, frame-whole}
+use Rattle.write_reclaim.specs.Moves.{Whole, MoveAsked, MovedIf, Between, FromTo, Copied, Reclaimed, markedFrames}
+use Rattle.write_reclaim.proofs.Places.{block-fits}
+use Rattle.write_reclaim.proofs.Kept as kept
 
 -- a table of 64-bit words holds marks
 pub holds : (p : Params) (t : List ℕ) → length t ≡ marksLength p → ((k : ℕ) → Fits w64 (getD t k 0)) → t ≡ tableOf p (markIn p t)
 unfolding wordAt
 holds p t e small = table-marks p (markIn p t) t e (λ k h. omega (arith, small k)) (λ r v f h low few. refl)
-
--- ---- one frame more
-
-map-snoc : (g : ℕ → List ℕ) (xs : List ℕ) (i : ℕ) → map g (xs ++ (i ∷ [])) ≡ map g xs ++ (g i ∷ [])
-map-snoc g [] i = refl
-map-snoc g (x ∷ xs) i = ap (λ (l : List (List ℕ)). g x ∷ l) (map-snoc g xs i)
-
-frames-snoc : (p : Params) (n to : ℕ) (xs : List (List ℕ)) (x : List ℕ) → framesOps p n to (xs ++ (x ∷ [])) ≡ framesOps p n to xs ++ frameOps p n (to + length xs) x (p .alpha)
-unfolding framesOps
-frames-snoc p n to [] x = rw (add-zero, append-nil)
-frames-snoc p n to (y ∷ xs) x =
-    let e : suc to + length xs ≡ to + suc (length xs) = omega arith in
-    rw (frames-snoc p n (suc to) xs x, e) (sym (append-assoc (frameOps p n to y (p .alpha)) (framesOps p n (suc to) xs) _))
 
 follow-snoc : (p : Params) (v to : ℕ) (xs : List (List ℕ)) (x ct : List ℕ) → followCt p v to (xs ++ (x ∷ [])) ct ≡ set (followCt p v to xs ct) (held p x) (segmentOf p v (to + length xs))
 unfolding followCt
@@ -57,56 +40,21 @@ follow-snoc p v to (y ∷ xs) x ct =
     let e : suc to + length xs ≡ to + suc (length xs) = omega arith in
     rw (← e) (follow-snoc p v (suc to) xs x (set ct (held p y) (segmentOf p v to)))
 
+-- ---- the frames with a mark, and CT that follows
+
 module _ (p : Params) (chip ct : List ℕ) (o n v : ℕ) (a : FromTo p chip ct o n v) (fine : ℕ → Bool) where
   abbrev blk : List ℕ
   blk = block p chip o
 
+  abbrev g : Between p chip o n
+  g = a .between
+
   -- the frames copied after m turns, and the chip then
   abbrev pub xs : ℕ → List (List ℕ)
-  xs m = map (frame p blk) (keepBelow m fine)
+  xs m = kept.xs p chip o n g fine m
 
   abbrev pub after : ℕ → List ℕ
-  after m = replayChip p chip (framesOps p n 0 (xs m))
-
-  from-in : (f : ℕ) → f < frames p → OnChip p chip o f
-  from-in f h = record { whole = a .whole; block = a .from; frame = h }
-
-  to-in : (k : ℕ) → k < frames p → OnChip p chip n k
-  to-in k h = record { whole = a .whole; block = a .to; frame = h }
-
-  n-fits : n * blockBytes p + blockBytes p ≤ length chip
-  n-fits = block-fits p chip n 0 (to-in 0 ((sizes p (a .whole .fine)) .some))
-
-  kept-length : (m : ℕ) → length (xs m) ≡ countBelow m fine
-  kept-length m = length-map (keepBelow m fine) (frame p blk) ∙ keep-length m fine
-
-  pub kept-few : (m : ℕ) → length (xs m) ≤ m
-  kept-few m = rw (kept-length m) (count-le m fine)
-
-  whole : (m : ℕ) → m ≤ frames p → Wholes p (xs m)
-  whole m h i k =
-      let j : i < countBelow m fine = rw (← kept-length m) k in
-      let l : i < length (keepBelow m fine) = rw (keep-length m fine) j in
-      let w = keep-nth m fine i 0 j in
-      rw (map-at (frame p blk) (keepBelow m fine) i 0 [] l) (frame-whole p chip o _ (from-in _ (omega (arith, w .0))))
-
-  ran : (m : ℕ) → m ≤ frames p → Ran p chip (after m) n (putFrames p 0 (xs m) (block p chip n))
-  ran m h = frames-ran p n (xs m) 0 chip n-fits (whole m h) (omega (arith, kept-few m))
-
-  pub after-length : (m : ℕ) → m ≤ frames p → length (after m) ≡ length chip
-  after-length m h = (ran m h) .size
-
-  source-same : (m : ℕ) → m ≤ frames p → block p (after m) o ≡ blk
-  source-same m h = (ran m h) .else o (a .apart)
-
-  next-clean : (m : ℕ) → m < frames p → erased (frame p (block p (after m) n) (length (xs m))) ≡ true
-  next-clean m h =
-      rw (
-        (ran m (omega arith)) .here,
-        put-frames-else p (xs m) 0 (block p chip n) (block-size p chip n n-fits) (whole m (omega arith)) (omega (arith, kept-few m))
-            (length (xs m)) (λ x y. omega arith),
-      )
-      (a .clean (length (xs m)) (omega (arith, kept-few m)))
+  after m = kept.after p chip o n g fine m
 
   -- after m turns
   pub record So (m : ℕ) (l u : List ℕ) (k : ℕ) : Type 0 where
@@ -122,40 +70,29 @@ module _ (p : Params) (chip ct : List ℕ) (o n v : ℕ) (a : FromTo p chip ct o
   ct-length m l u k so = ap length (so .ctIs) ∙ follow-length p v (xs m) 0 ct
 
   pub chip-length : (m : ℕ) → m ≤ frames p → (l u : List ℕ) (k : ℕ) → So m l u k → length l ≡ length chip
-  chip-length m h l u k so = ap length (so .chipIs) ∙ after-length m h
+  chip-length m h l u k so = ap length (so .chipIs) ∙ kept.after-length p chip o n g fine m h
 
   module _ (m : ℕ) (h : m < frames p) (l u : List ℕ) (k : ℕ) (so : So m l u k) where
     source : block p l o ≡ blk
-    source = ap (λ (t : List ℕ). block p t o) (so .chipIs) ∙ source-same m (omega arith)
+    source = ap (λ (t : List ℕ). block p t o) (so .chipIs) ∙ kept.source-same p chip o n g fine m (omega arith)
 
     few : k ≤ m
-    few = rw (so .count) (kept-few m)
+    few = rw (so .count) (kept.kept-few p chip o n g fine m)
 
     cluster-low : held p (frame p blk m) < length u
     cluster-low = rw (ct-length m l u k so) (a .good m h)
 
     pub move-asked : MoveAsked p l u o n v m k
     move-asked =
-        let w : Whole p l = record { fine = a .whole .fine; size = chip-length m (omega arith) l u k so ∙ a .whole .size } in
+        let w : Whole p l = record { fine = g .whole .fine; size = chip-length m (omega arith) l u k so ∙ g .whole .size } in
         record {
-          from = record { whole = w; block = a .from; frame = h };
-          to = record { whole = w; block = a .to; frame = omega (arith, few) };
+          from = record { whole = w; block = g .from; frame = h };
+          to = record { whole = w; block = g .to; frame = omega (arith, few) };
           low = a .low;
-          apart = a .apart;
-          clean = rw (so .chipIs, so .count) (next-clean m h);
+          apart = g .apart;
+          clean = rw (so .chipIs, so .count) (kept.next-clean p chip o n g fine m h);
           cluster = rw source cluster-low;
         }
-
-    more-yes : fine m ≡ true → xs (m + 1) ≡ xs m ++ (frame p blk m ∷ [])
-    unfolding keepBelow
-    more-yes t = rw (add-one, t) (map-snoc (frame p blk) (keepBelow m fine) m)
-
-    more-no : fine m ≡ false → xs (m + 1) ≡ xs m
-    unfolding keepBelow
-    more-no t = rw (add-one, t, append-nil)
-
-    fits-next : (n * frames p + length (xs m)) * frameBytes p + frameBytes p ≤ length (after m)
-    fits-next = rw (after-length m (omega arith)) (frame-fits p chip n (length (xs m)) (to-in (length (xs m)) (omega (arith, kept-few m))))
 
     module _ (l′ u′ : List ℕ) (x : ℕ) (w : MovedIf p l u o n v m k (fine m) l′ u′ x) where
       pub turn : So (m + 1) l′ u′ (k + x)
@@ -170,27 +107,27 @@ module _ (p : Params) (chip ct : List ℕ) (o n v : ℕ) (a : FromTo p chip ct o
                 chipIs = w .chipIs ∙ rw (
                   t,
                   source,
-                  more-yes t,
-                  frames-snoc p n 0 (xs m) (frame p blk m),
+                  kept.more-yes p chip o n g fine m t,
+                  kept.frames-snoc p n 0 (xs m) (frame p blk m),
                   replay-append p chip (framesOps p n 0 (xs m)),
                   zero-plus,
                   frame-put p
-                      (after m) (frame p blk m) n (length (xs m)) fits-next (frame-whole p chip o m (from-in m h)),
+                      (after m) (frame p blk m) n (length (xs m)) (kept.fits-next p chip o n g fine m h) (kept.frame-long p chip o n g fine m h),
                   so .chipIs,
                   so .count,
                 );
-                ctIs = w .ctIs ∙ rw (t, source, more-yes t, follow-snoc p v 0 (xs m) (frame p blk m) ct, zero-plus, so .ctIs, so .count);
-                count = rw (more-yes t, length-append (xs m) (frame p blk m ∷ []), w .count, t, so .count);
+                ctIs = w .ctIs ∙ rw (t, source, kept.more-yes p chip o n g fine m t, follow-snoc p v 0 (xs m) (frame p blk m) ct, zero-plus, so .ctIs, so .count);
+                count = rw (kept.more-yes p chip o n g fine m t, length-append (xs m) (frame p blk m ∷ []), w .count, t, so .count);
               }
           go false t =
               record {
-                chipIs = w .chipIs ∙ rw (t, more-no t, so .chipIs);
-                ctIs = w .ctIs ∙ rw (t, more-no t, so .ctIs);
-                count = rw (more-no t, w .count, t, so .count, add-zero);
+                chipIs = w .chipIs ∙ rw (t, kept.more-no p chip o n g fine m t, so .chipIs);
+                ctIs = w .ctIs ∙ rw (t, kept.more-no p chip o n g fine m t, so .ctIs);
+                count = rw (kept.more-no p chip o n g fine m t, w .count, t, so .count, add-zero);
               }
 
       pub turn-few : k + x ≤ m + 1
-      turn-few = omega (arith, turn .count, kept-few (m + 1))
+      turn-few = omega (arith, turn .count, kept.kept-few p chip o n g fine (m + 1))
 
   pub done : (m : ℕ) (l u : List ℕ) (k : ℕ) → m ≡ frames p → So m l u k → Copied p chip ct n v (markedFrames p blk fine) l u k
   done m l u k e so = record { chipIs = so .chipIs ∙ rw e; ctIs = so .ctIs ∙ rw e; count = so .count ∙ rw e }

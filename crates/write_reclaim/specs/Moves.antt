@@ -46,14 +46,18 @@ pub record MovedIf (p : Params) (chip ct : List ℕ) (o n v f k : ℕ) (t : Bool
   pub ctIs : ct′ ≡ cond t (set ct (held p (frame p (block p chip o) f)) (segmentOf p v k)) ct
   pub count : x ≡ cond t 1 0
 
--- block o is full, and block n is another, and erased
-pub record FromTo (p : Params) (chip ct : List ℕ) (o n v : ℕ) : Type 0 where
+-- block n is another than block o, and erased
+pub record Between (p : Params) (chip : List ℕ) (o n : ℕ) : Type 0 where
   pub whole : Whole p chip
   pub from : o < p .N
   pub to : n < p .N
-  pub low : v < p .gamma
   pub apart : o ≡ n → ⊥
   pub clean : (k : ℕ) → k < frames p → erased (frame p (block p chip n) k) ≡ true
+
+-- and block o, which virtual block v has, is full
+pub record FromTo (p : Params) (chip ct : List ℕ) (o n v : ℕ) : Type 0 where
+  pub between : Between p chip o n
+  pub low : v < p .gamma
   pub good : (f : ℕ) → f < frames p → held p (frame p (block p chip o) f) < length ct
 
 -- the frames of a block that have a mark

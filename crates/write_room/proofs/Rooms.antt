@@ -49,14 +49,14 @@ module _ (p : Params) (chip ct bt bst wear marks : List ℕ) (r v : ℕ) (a : Re
       (ap (map (frame p (block p chip (btAt p bt r v)))) (keep-cong (frames p) _ _ (λ f h. marked-valid p (viewOf p chip ct bt fst r) v f h)))
     where
       body : (fst : List ℕ) → (viewOf p chip ct bt fst r) .body v ≡ block p chip (btAt p bt r v)
-      body fst = block-of-view p chip ct bt fst r v (a .taking .low) (λ x. omega (arith, x, a .blocks .from, (sizes p (a .taking .pool .fine)) .blocks))
+      body fst = block-of-view p chip ct bt fst r v (a .taking .low) (λ x. omega (arith, x, a .blocks .between .from, (sizes p (a .taking .pool .fine)) .blocks))
 
   module _ (o n : ℕ) (eo : o ≡ btAt p bt r v) (en : n ≡ freeBlock p bst wear) where
     pub reclaim-asked : ReclaimAsked p chip ct wear marks o n r v
     reclaim-asked = record { blocks = rw (eo, en) (a .blocks); wearLength = a .taking .pool .wearLength; words = a .words }
 
     pub old-in : o < length bst
-    old-in = rw (eo, a .taking .pool .bstLength) (a .blocks .from)
+    old-in = rw (eo, a .taking .pool .bstLength) (a .blocks .between .from)
 
     pub block-reclaimed : (m : ℕ → Bool) (chip′ ct′ bt′ bst₁ bst′ wear′ : List ℕ) (k : ℕ) → Reclaimed p chip ct wear o n v (markedFrames p (block p chip o) m) chip′ ct′ wear′ k
         → bt′ ≡ set bt (r * p .gamma + v) n → bst₁ ≡ set bst n 1 → bst′ ≡ set bst₁ o 0

@@ -150,12 +150,15 @@ module _ (p : Params) (b : Board) (q : Request) (e : replyOf p b (write q) ≡ A
     from-to : FromTo p (b .chip) (b .ct) (btAt p (b .bt) r v) (freeBlock p (b .bst) (b .wear)) v
     from-to =
         record {
-          whole = record { fine = acc .fine; size = acc .tables .chipLength };
-          from = block-low p z b (acc .tables) r v region-in h some;
-          to = (free-block p z b (acc .tables)) .0;
+          between =
+              record {
+                whole = record { fine = acc .fine; size = acc .tables .chipLength };
+                from = block-low p z b (acc .tables) r v region-in h some;
+                to = (free-block p z b (acc .tables)) .0;
+                apart = λ x. free-unnamed p z b (acc .tables) (r * p .gamma + v) (index-low p r v region-in h) (unfold btAt in x);
+                clean = λ k m. rw (free-fresh p z b (acc .tables)) (fresh-frame p k);
+              };
           low = h;
-          apart = λ x. free-unnamed p z b (acc .tables) (r * p .gamma + v) (index-low p r v region-in h) (unfold btAt in x);
-          clean = λ k m. rw (free-fresh p z b (acc .tables)) (fresh-frame p k);
           good = λ f m. rw (acc .tables .ctLength) ((good f m) .low);
         }
 

@@ -21,7 +21,7 @@ abbrev μ-loop : tie.MeasureT-loop
 frames-requires : tie.Need-frames-requires Inv-loop μ-loop
 frames-requires c κs =
     let entered = c .before .before .before in
-    entered .pre .0 .whole .fine
+    entered .pre .0 .between .whole .fine
 
 loop-holds : tie.Need-loop-holds Inv-loop μ-loop
 loop-holds c = (omega arith, λ a m e. start _ _ _ _ _ _ a _)
@@ -47,7 +47,7 @@ add-k c =
 add-f : tie.Need-add-f Inv-loop μ-loop
 add-f c =
     let at = c .before .before .before .before .before .before .before .before in
-    omega (arith, at .loop .inv .0, (sizes _ (at .before .before .before .before .before .pre .0 .whole .fine)) .short)
+    omega (arith, at .loop .inv .0, (sizes _ (at .before .before .before .before .before .pre .0 .between .whole .fine)) .short)
 
 loop-less : tie.Need-loop-less Inv-loop μ-loop
 loop-less c =

@@ -17,7 +17,7 @@ erase-at-requires : tie.Need-erase-at-requires
 erase-at-requires c κs =
     let at-copy-marked = c .before .before .before .before .before .before in
     let start = at-copy-marked .before .before .before .before .before .before .before in
-    let a = start .pre .blocks in
+    let a = start .pre .blocks .between in
     erase-fits _ _ (a .whole) _ _ _ (a .from) (c .before .block-bytes .ensures) (at-copy-marked .copy-marked .kept .1 .0)
 
 count-erase-requires : tie.Need-count-erase-requires
