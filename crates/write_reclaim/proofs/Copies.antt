@@ -19,7 +19,7 @@ use Rattle.rules.specs.Pages.{block, frame, held}
 use Rattle.rules.specs.Traces.{erase, onChip, replayChip, framesOps}
 use Rattle.rules.specs.Write.{followCt}
 use Rattle.rules.proofs.Sizes.{sizes}
-use Rattle.rules.proofs.Chip.{replay-append, frame-put}
+use Rattle.rules.proofs.Chip.{replay-append}
 use Rattle.rules.proofs.Following.{follow-length}
 use Rattle.marks.specs.Marks.{markIn}
 use Rattle.rules.specs.Marks.{tableOf}
@@ -86,11 +86,14 @@ module _ (p : Params) (chip ct : List ℕ) (o n v : ℕ) (a : FromTo p chip ct o
     move-asked =
         let w : Whole p l = record { fine = g .whole .fine; size = chip-length m (omega arith) l u k so ∙ g .whole .size } in
         record {
-          from = record { whole = w; block = g .from; frame = h };
-          to = record { whole = w; block = g .to; frame = omega (arith, few) };
+          copy =
+              record {
+                from = record { whole = w; block = g .from; frame = h };
+                to = record { whole = w; block = g .to; frame = omega (arith, few) };
+                apart = g .apart;
+                clean = rw (so .chipIs, so .count) (kept.next-clean p chip o n g fine m h);
+              };
           low = a .low;
-          apart = g .apart;
-          clean = rw (so .chipIs, so .count) (kept.next-clean p chip o n g fine m h);
           cluster = rw source cluster-low;
         }
 
@@ -111,8 +114,6 @@ module _ (p : Params) (chip ct : List ℕ) (o n v : ℕ) (a : FromTo p chip ct o
                   kept.frames-snoc p n 0 (xs m) (frame p blk m),
                   replay-append p chip (framesOps p n 0 (xs m)),
                   zero-plus,
-                  frame-put p
-                      (after m) (frame p blk m) n (length (xs m)) (kept.fits-next p chip o n g fine m h) (kept.frame-long p chip o n g fine m h),
                   so .chipIs,
                   so .count,
                 );

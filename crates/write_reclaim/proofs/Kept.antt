@@ -12,14 +12,14 @@ use Rattle.lists.specs.Below.{countBelow, keepBelow}
 use Rattle.lists.proofs.Tests.{count-le}
 use Rattle.lists.proofs.Ranks.{keep-length, map-at, keep-nth}
 use Rattle.rules.specs.declared.Params.{Params}
-use Rattle.rules.specs.Parameters.{frames, frameBytes, blockBytes}
+use Rattle.rules.specs.Parameters.{frames, blockBytes}
 use Rattle.rules.specs.Pages.{block, frame, erased}
 use Rattle.rules.specs.Traces.{replayChip, frameOps, framesOps}
 use Rattle.rules.specs.Machine.{putFrames}
 use Rattle.rules.proofs.Sizes.{sizes}
 use Rattle.rules.proofs.Replays.{Ran, Wholes, frames-ran, block-size, put-frames-else}
 use Rattle.write_reclaim.specs.Moves.{OnChip, Between}
-use Rattle.write_reclaim.proofs.Places.{block-fits, frame-fits, frame-whole}
+use Rattle.write_reclaim.proofs.Places.{block-fits, frame-whole}
 
 -- ---- one frame more
 
@@ -87,9 +87,6 @@ module _ (p : Params) (chip : List ℕ) (o n : ℕ) (a : Between p chip o n) (fi
       )
       (a .clean (length (xs m)) (omega (arith, kept-few m)))
 
-  pub frame-long : (m : ℕ) → m < frames p → length (frame p blk m) ≡ frameBytes p
-  frame-long m h = frame-whole p chip o m (from-in m h)
-
   pub more-yes : (m : ℕ) → fine m ≡ true → xs (m + 1) ≡ xs m ++ (frame p blk m ∷ [])
   unfolding keepBelow
   more-yes m t = rw (add-one, t) (map-snoc (frame p blk) (keepBelow m fine) m)
@@ -97,6 +94,3 @@ module _ (p : Params) (chip : List ℕ) (o n : ℕ) (a : Between p chip o n) (fi
   pub more-no : (m : ℕ) → fine m ≡ false → xs (m + 1) ≡ xs m
   unfolding keepBelow
   more-no m t = rw (add-one, t, append-nil)
-
-  pub fits-next : (m : ℕ) → m < frames p → (n * frames p + length (xs m)) * frameBytes p + frameBytes p ≤ length (after m)
-  fits-next m h = rw (after-length m (omega arith)) (frame-fits p chip n (length (xs m)) (to-in (length (xs m)) (omega (arith, kept-few m))))

@@ -5,21 +5,22 @@ use mathlib.Core.Bool.{Bool, true, false}
 use mathlib.Core.List.{List}
 use Prim.Native.Nat.{ℕ, _+_, _*_, _≤_, _<_}
 use native.Mathlib.Omega.{arith}
-use lib.ListN.{length, set, replicate}
-use Rattle.lists.specs.Parts.{part, putPart}
+use lib.ListN.{length, replicate}
+use Rattle.lists.specs.Parts.{part}
 use Rattle.lists.proofs.Parts.{next, part-length, part-part}
 use Rattle.lists.proofs.Joins.{replicate-of}
 use Rattle.rules.specs.declared.Params.{Params}
 use Rattle.rules.specs.Parameters.{frames, pageBytes, frameBytes, blockBytes, chipBytes}
 use Rattle.rules.specs.Numbers.{segmentOf}
-use Rattle.rules.specs.Pages.{block, frame, held}
+use Rattle.rules.specs.Pages.{block, frame}
+use Rattle.rules.specs.Traces.{frameOps, replayChip}
 use Rattle.rules.proofs.Sizes.{Sizes, sizes}
 use Rattle.rules.proofs.Frames.{seg-low}
 use Rattle.rules.proofs.TableFacts.{chip-size}
 use Rattle.rules.proofs.Isolation.{index-inj}
 use Rattle.chip_frames.specs.Frame.{FrameAsked, firstPages}
-use Rattle.chip_frames.proofs.Run.{copy-all}
-use Rattle.write_reclaim.specs.Moves.{Whole, OnChip, MoveAsked, Moved, MovedIf}
+use Rattle.chip_frames.proofs.Replay.{pages-put}
+use Rattle.write_reclaim.specs.Moves.{Whole, OnChip, CopyAsked, Moved, MovedIf}
 
 pub chip-length : (p : Params) (chip : List ℕ) → Whole p chip → length chip ≡ chipBytes p
 chip-length p chip w = w .size ∙ sym (chip-size p)
@@ -47,7 +48,7 @@ module _ (p : Params) (chip : List ℕ) (n f : ℕ) (a : OnChip p chip n f) wher
       let z = sizes p (a .whole .fine) in
       rw e (omega (arith, seg-low p z v f (a .frame) low, z .few))
 
-module _ (p : Params) (chip ct : List ℕ) (o n v f k : ℕ) (a : MoveAsked p chip ct o n v f k) where
+module _ (p : Params) (chip : List ℕ) (o n f k : ℕ) (a : CopyAsked p chip o n f k) where
   z : Sizes p
   z = sizes p (a .from .whole .fine)
 
@@ -73,13 +74,9 @@ module _ (p : Params) (chip ct : List ℕ) (o n v f k : ℕ) (a : MoveAsked p ch
           clean = to-clean;
         }
 
-    pub moved : (c sg : ℕ) (chip₁ ct₁ : List ℕ) → c ≡ held p (frame p (block p chip o) f) → sg ≡ segmentOf p v k
-        → chip₁ ≡ firstPages (p .s + 16) (p .alpha) to (part (p .alpha * (p .s + 16)) from chip) chip (p .alpha) → ct₁ ≡ set ct c sg → Moved p chip ct o n v f k chip₁ ct₁
-    moved c sg chip₁ ct₁ ec es x y =
-        record {
-          chipIs = x ∙ copy-all _ _ _ _ _ copy-asked ∙ unfold frameBytes pageBytes in (rw (et, ef) (ap (λ (l : List ℕ). putPart (frameBytes p) (n * frames p + k) l chip) (frame-is p chip o f (a .from))));
-          ctIs = y ∙ rw (ec, es);
-        }
+    pub part-copied : (m : ℕ) (chip₁ : List ℕ) → chip₁ ≡ firstPages (p .s + 16) (p .alpha) to (part (p .alpha * (p .s + 16)) from chip) chip m
+        → chip₁ ≡ replayChip p chip (frameOps p n k (frame p (block p chip o) f) m)
+    part-copied m chip₁ x = rw (pages-put p chip (frame p (block p chip o) f) n k m, ← frame-is p chip o f (a .from), ← ef, ← et) (unfold frameBytes pageBytes in x)
 
 -- moved where the test passed
 module _ (p : Params) (chip ct : List ℕ) (o n v f k : ℕ) (t : Bool) where

@@ -6,13 +6,12 @@ use mathlib.Core.List.{List, [], _∷_, _++_, map}
 use Prim.Native.Nat.{ℕ, _+_, _*_, _<_, min}
 use lib.ListN.{length, set}
 use Rattle.lists.specs.Below.{keepBelow}
-use Rattle.lists.specs.Parts.{putPart}
 use Rattle.rules.specs.declared.Params.{Params}
-use Rattle.rules.specs.Parameters.{allowed, frames, frameBytes, blockBytes}
+use Rattle.rules.specs.Parameters.{allowed, frames, blockBytes}
 use Rattle.rules.specs.Numbers.{segmentOf}
 use Rattle.rules.specs.Tables.{wearAt}
 use Rattle.rules.specs.Pages.{block, frame, held, erased}
-use Rattle.rules.specs.Traces.{erase, replayChip, framesOps}
+use Rattle.rules.specs.Traces.{erase, replayChip, frameOps, framesOps}
 use Rattle.rules.specs.Write.{followCt}
 use Rattle.chip_marks.specs.Asked.{WordsAsked}
 
@@ -27,22 +26,26 @@ pub record OnChip (p : Params) (chip : List ℕ) (n f : ℕ) : Type 0 where
   pub block : n < p .N
   pub frame : f < frames p
 
--- frame f of block o is to go to frame k of another block n, which is erased; virtual block v is to have it
-pub record MoveAsked (p : Params) (chip ct : List ℕ) (o n v f k : ℕ) : Type 0 where
+-- frame f of block o is to go to frame k of another block n, which is erased
+pub record CopyAsked (p : Params) (chip : List ℕ) (o n f k : ℕ) : Type 0 where
   pub from : OnChip p chip o f
   pub to : OnChip p chip n k
-  pub low : v < p .gamma
   pub apart : o ≡ n → ⊥
   pub clean : erased (frame p (block p chip n) k) ≡ true
+
+-- and virtual block v is to have it
+pub record MoveAsked (p : Params) (chip ct : List ℕ) (o n v f k : ℕ) : Type 0 where
+  pub copy : CopyAsked p chip o n f k
+  pub low : v < p .gamma
   pub cluster : held p (frame p (block p chip o) f) < length ct
 
 pub record Moved (p : Params) (chip ct : List ℕ) (o n v f k : ℕ) (chip′ ct′ : List ℕ) : Type 0 where
-  pub chipIs : chip′ ≡ putPart (frameBytes p) (n * frames p + k) (frame p (block p chip o) f) chip
+  pub chipIs : chip′ ≡ replayChip p chip (frameOps p n k (frame p (block p chip o) f) (p .alpha))
   pub ctIs : ct′ ≡ set ct (held p (frame p (block p chip o) f)) (segmentOf p v k)
 
 -- the same where the test passed, and nothing where it did not; x is how many frames that copied
 pub record MovedIf (p : Params) (chip ct : List ℕ) (o n v f k : ℕ) (t : Bool) (chip′ ct′ : List ℕ) (x : ℕ) : Type 0 where
-  pub chipIs : chip′ ≡ cond t (putPart (frameBytes p) (n * frames p + k) (frame p (block p chip o) f) chip) chip
+  pub chipIs : chip′ ≡ cond t (replayChip p chip (frameOps p n k (frame p (block p chip o) f) (p .alpha))) chip
   pub ctIs : ct′ ≡ cond t (set ct (held p (frame p (block p chip o) f)) (segmentOf p v k)) ct
   pub count : x ≡ cond t 1 0
 

@@ -1,9 +1,11 @@
 // Document 01, "Reclaim": the victim's valid frames, which are those with a mark, are copied to the free block, CT follows each, and the victim is erased.
 ghost use mathlib.Core.Path.{_≡_};
+ghost use Prim.Native.Nat.{_≤_};
 ghost use Rattle.rules.specs.Pages.{block, frame, held};
+ghost use Rattle.rules.specs.Traces.{replayChip, frameOps};
 ghost use Rattle.rules.specs.Marks.{Marks, tableOf};
 ghost use Rattle.chip_marks.specs.Asked.{WordsAsked};
-ghost use Rattle.write_reclaim.specs.Moves.{OnChip, MoveAsked, Moved, MovedIf, FromTo, Copied, ReclaimAsked, Reclaimed, markedFrames};
+ghost use Rattle.write_reclaim.specs.Moves.{OnChip, CopyAsked, MoveAsked, Moved, MovedIf, FromTo, Copied, ReclaimAsked, Reclaimed, markedFrames};
 use rules::Cluster;
 use rules::PBlock;
 use rules::Params;
@@ -18,6 +20,17 @@ fn cluster_at(p: Params, chip: &[u8], n: PBlock, f: usize) -> Cluster
         p,
         chip_blocks::frame_of(p, chip_blocks::block_of(p, chip, n), f),
     )
+}
+
+// The first m pages of frame f of block o are copied to frame k of block n: all of them, or fewer at a cut.
+pub fn copy_part(p: Params, chip: &mut [u8], o: PBlock, n: PBlock, f: usize, k: usize, m: usize)
+    requires { ⌜ CopyAsked p (now chip) (o .0) (n .0) f k ⌝ }
+    requires { ⌜ m ≤ p .alpha ⌝ }
+    ensures { λ _. ⌜ now (chip .exit) ≡ replayChip p (now (chip .entry)) (frameOps p (n .0) k (frame p (block p (now (chip .entry)) (o .0)) f) m) ⌝ }
+{
+    let from = chip_frames::frame_at(p, o, f);
+    let to = chip_frames::frame_at(p, n, k);
+    chip_frames::copy_pages(chip, p.s + rules::SPARE_BYTES, p.alpha, from, to, m);
 }
 
 // Frame f of block o is copied to frame k of block n, and CT follows.
@@ -35,9 +48,7 @@ fn move_frame(
     ensures { λ _. ⌜ Moved p (now (chip .entry)) (now (ct .entry)) (o .0) (n .0) (v .0) f k (now (chip .exit)) (now (ct .exit)) ⌝ }
 {
     let c = cluster_at(p, chip, o, f);
-    let from = chip_frames::frame_at(p, o, f);
-    let to = chip_frames::frame_at(p, n, k);
-    chip_frames::copy_pages(chip, p.s + rules::SPARE_BYTES, p.alpha, from, to, p.alpha);
+    copy_part(p, chip, o, n, f, k, p.alpha);
     chip_tables::set_ct(ct, c, rules::segment_of(p, v, k));
 }
 

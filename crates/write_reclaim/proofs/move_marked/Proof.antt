@@ -13,7 +13,7 @@ is-marked-requires : tie.Need-is-marked-requires
 is-marked-requires c κs =
     let start = c .before .before .before in
     let a = start .pre in
-    record { words = a .1; frame = omega (arith, a .0 .from .frame, (sizes _ (a .1 .fine)) .short) }
+    record { words = a .1; frame = omega (arith, a .0 .copy .from .frame, (sizes _ (a .1 .fine)) .short) }
 
 move-frame-requires : tie.Need-move-frame-requires
 move-frame-requires c κs = search needs
