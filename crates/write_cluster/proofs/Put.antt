@@ -6,26 +6,26 @@ use mathlib.Core.Bool.{Bool, true, false, not, cond, false≢true}
 use mathlib.Core.List.{List, []}
 use Prim.Native.Nat.{ℕ, _+_, _*_, _-_, _≤_, _<_}
 use native.Mathlib.Omega.{arith}
-use native.Mathlib.Decide.{ℕ-discrete, decLt}
+use native.Mathlib.Decide.{ℕ-discrete}
 use native.Mathlib.Nat.{div-lt-iff-lt-mul, mod-lt, zero-mul}
 use lib.Dec.{eqb}
 use borrow.Author.Tests.{eq-eqb, ne-eqb, lt-ltb}
 use lib.ListN.{length, take, set, replicate}
 use Rattle.lists.proofs.Joins.{join-cong}
-use Rattle.chip_frames.specs.Frame.{HostAsked, firstPages, hostPage, hostFrame, sectorsOf}
-use Rattle.chip_frames.proofs.Host.{all-done}
+use Rattle.chip_frames.specs.Frame.{hostPage, hostFrame, sectorsOf}
 use Rattle.read_work.specs.Lookup.{blockFor, lastFor, frameFor, Lookup, Stands}
 use Rattle.read_work.proofs.Views.{lookup-of}
-use Rattle.write_cluster.specs.Clusters.{Standing, ClusterPut}
-use Rattle.lists.specs.Parts.{allAre, part, putPart}
+use Rattle.write_cluster.specs.Clusters.{Standing, PagesAsked, PagesPut, ClusterPut}
+use Rattle.lists.specs.Parts.{allAre, part}
 use Rattle.lists.proofs.Tests.{never}
 use Rattle.rules.specs.declared.Params.{Params}
 use Rattle.rules.specs.Parameters.{frames, pageBytes, frameBytes, blockBytes}
 use Rattle.rules.specs.Numbers.{sectorOf, regionOf, vblockOf, placeOf, segmentOf}
+use Rattle.rules.specs.Traces.{frameOps, replayChip}
 use Rattle.rules.specs.Write.{newSector, newPage, newFrame, nextStamp}
-use Rattle.rules.specs.Tables.{Board, none, ctAt, btAt, btEntry, stampAt}
+use Rattle.rules.specs.Tables.{Board, none, ctAt, btAt, btEntry}
 use Rattle.rules.specs.Regions.{View, view, viewOf, bodyAt, assigned, frameOf, sectorIn}
-use Rattle.rules.specs.Pages.{block, frame, page, spare, spareBytes, holds, lastIn}
+use Rattle.rules.specs.Pages.{block, frame, page, holds, lastIn}
 use Rattle.rules.specs.Requests.{requestCluster, Request, requestRegion}
 use Rattle.rules.proofs.Sizes.{Sizes, sizes}
 use Rattle.rules.proofs.Frames.{erased-holds, seg-low as seg-low-of}
@@ -33,7 +33,7 @@ use Rattle.lists.proofs.Parts.{next, part-part, part-length}
 use Rattle.rules.proofs.Isolation.{index-low}
 use Rattle.lists.proofs.Joins.{replicate-of}
 use Rattle.rules.proofs.Continues.{segs-in}
-use Rattle.rules.proofs.RegionFacts.{GoodFrame, Entry, good-all, good-held}
+use Rattle.rules.proofs.RegionFacts.{Entry}
 use Rattle.rules.proofs.FramePut.{last-holds}
 
 module _ (p : Params) (b : Board) (q : Request) (v f : ℕ) (t : Standing p b q v f) where
@@ -175,18 +175,29 @@ module _ (p : Params) (b : Board) (q : Request) (v f : ℕ) (t : Standing p b q 
         go (nowhere k z s) = never h k
         go (somewhere k z ne e) = old-apart e (sym z ∙ x)
 
-    pub host-asked : (to off : ℕ) → to ≡ n * frames p + f → off ≡ sectorOf p (q .lba) → HostAsked (b .chip) (p .s) (p .alpha) to kept fr off (q .count) (q .bytes)
+    pub pages-asked : PagesAsked p (b .chip) (b .bt) (b .stamps) q v f kept fr
     unfolding frameBytes pageBytes
-    host-asked to off e o =
+    pages-asked =
         record {
-          small = z .sHigh;
-          few = omega (arith, z .alphaHigh);
-          fits = rw e to-fits;
-          inside = rw o (t .asked .inside);
-          given = t .asked .bytes;
-          clean = rw e to-clean;
-          source = source;
-          apart = λ h x. apart h (x ∙ e);
+          fine = t .fine;
+          cluster = t .asked .cluster;
+          btLength = t .btLength;
+          stampsLength = t .stampsLength;
+          left = t .left;
+          low = low;
+          block = block-low v low (t .taken);
+          frame = t .base .ready .low;
+          host =
+              record {
+                small = z .sHigh;
+                few = omega (arith, z .alphaHigh);
+                fits = to-fits;
+                inside = t .asked .inside;
+                given = t .asked .bytes;
+                clean = to-clean;
+                source = source;
+                apart = apart;
+              };
         }
 
     sectors-are : (j : ℕ) → sectorsOf (p .s) (p .alpha) kept fr (b .chip) j ≡ sectorIn p vw c j
@@ -197,65 +208,42 @@ module _ (p : Params) (b : Board) (q : Request) (v f : ℕ) (t : Standing p b q 
         go (nowhere k z s) = rw (k, s)
         go (somewhere k z ne e) = rw (k, z, ne-eqb (vw .segOf c) none ne, old-frame e)
 
-    pub frame-is : (off t u : ℕ) → off ≡ sectorOf p (q .lba) → hostFrame (p .s) (p .alpha) off (q .count) (q .bytes) (sectorsOf (p .s) (p .alpha) kept fr (b .chip)) c t u ≡ newFrame p vw q t u
+    frame-is : (s u : ℕ) → hostFrame (p .s) (p .alpha) (sectorOf p (q .lba)) (q .count) (q .bytes) (sectorsOf (p .s) (p .alpha) kept fr (b .chip)) c s u ≡ newFrame p vw q s u
     unfolding hostFrame hostPage newFrame newPage newSector
-    frame-is off t u o = join-cong (p .alpha) _ _ (λ j l. rw (o, sectors-are j))
+    frame-is s u = join-cong (p .alpha) _ _ (λ j l. rw (sectors-are j))
+
+    -- the pages that are put are the new frame's
+    module _ (m : ℕ) (chip₁ stamps₁ : List ℕ) (put : PagesPut p (b .chip) (b .bt) (b .stamps) q v f kept fr m chip₁ stamps₁) where
+      pub pages-are : chip₁ ≡ replayChip p (b .chip) (frameOps p n f (newFrame p vw q (nextStamp b r) v) m)
+      unfolding nextStamp
+      pages-are = put .chipIs ∙ ap (λ (x : List ℕ). replayChip p (b .chip) (frameOps p n f x m)) (frame-is (nextStamp b r) v)
 
   -- ---- the same over the numbers that the code has
 
-  module _ (c′ r′ : ℕ) (ec : c′ ≡ c) (er : r′ ≡ regionOf p c′) where
-    region-is : r′ ≡ r
-    region-is = er ∙ ap (regionOf p) ec
+  pub frame-few : f < 256
+  frame-few = omega (arith, t .base .ready .low, z .short)
 
-    pub region-at : r′ < p .mu
-    region-at = rw region-is region-in
+  pub segment-few : (sg : ℕ) → sg ≡ segmentOf p v f → sg < 65536
+  segment-few sg e = rw e (omega (arith, seg-low-of p z v f (t .base .ready .low) low, z .few))
 
-    pub vblock-low : v < p .gamma
-    vblock-low = low
-
+  module _ (c′ : ℕ) (ec : c′ ≡ c) where
     pub ct-in : c′ < length (b .ct)
     ct-in = rw (ec, t .ctLength) (t .asked .cluster)
 
-    pub fst-in : r′ < length (b .fst)
-    fst-in = rw (region-is, t .fstLength) region-in
+    module _ (r′ : ℕ) (er : r′ ≡ regionOf p c′) where
+      region-is : r′ ≡ r
+      region-is = er ∙ ap (regionOf p) ec
 
-    pub stamps-in : r′ < length (b .stamps)
-    stamps-in = rw (region-is, t .stampsLength) region-in
+      pub fst-in : r′ < length (b .fst)
+      fst-in = rw (region-is, t .fstLength) region-in
 
-    pub stamp-left : stampAt (b .stamps) r′ < 4294967295
-    stamp-left = rw region-is (t .left)
-
-    pub vblock-few : v < 256
-    vblock-few = omega (arith, low, z .gammaHigh)
-
-    pub frame-few : f < 256
-    frame-few = omega (arith, t .base .ready .low, z .short)
-
-    pub segment-few : (sg : ℕ) → sg ≡ segmentOf p v f → sg < 65536
-    segment-few sg e = rw e (omega (arith, seg-low-of p z v f (t .base .ready .low) low, z .few))
-
-    module _ (n′ : ℕ) (en : n′ ≡ btAt p (b .bt) r′ v) where
-      block-is : n′ ≡ n
-      block-is = en ∙ rw region-is
-
-      pub number-asked : (n′ < p .N) × (f < frames p)
-      number-asked = (rw block-is (block-low v low (t .taken)), t .base .ready .low)
-
-      module _ (to off : ℕ) (et : to ≡ n′ * frames p + f) (eo : off ≡ sectorOf p (q .lba)) (kept : Bool) (fr : ℕ) (found : Stands p (b .chip) (b .ct) (b .bt) c kept fr) where
-        to-is : to ≡ n * frames p + f
-        to-is = et ∙ rw block-is
-
-        pub host-requires : HostAsked (b .chip) (p .s) (p .alpha) to kept fr off (q .count) (q .bytes)
-        host-requires = (host-asked kept fr found to off to-is eo)
-
-        pub cluster-put : (chip₁ ct₁ fst₁ stamps₁ : List ℕ) (sg t₁ : ℕ)
-            → chip₁ ≡ firstPages (p .s + 16) (p .alpha) to (hostFrame (p .s) (p .alpha) off (q .count) (q .bytes) (sectorsOf (p .s) (p .alpha) kept fr (b .chip)) c′ t₁ v) (b .chip) (p .alpha)
-            → sg ≡ segmentOf p v f → ct₁ ≡ set (b .ct) c′ sg → fst₁ ≡ set (b .fst) r′ sg → t₁ ≡ stampAt (b .stamps) r′ + 1 → stamps₁ ≡ set (b .stamps) r′ (stampAt (b .stamps) r′ + 1)
-            → ClusterPut p b q v f chip₁ ct₁ fst₁ stamps₁
-        cluster-put chip₁ ct₁ fst₁ stamps₁ sg t₁ e s x y k w =
-            record {
-              chip = unfold frameBytes pageBytes nextStamp in (e ∙ all-done _ _ _ _ _ _ _ _ _ host-requires _ _ _ ∙ rw (ec, frame-is kept fr found off t₁ v eo, to-is, k, region-is));
-              ct = x ∙ rw (ec, s);
-              fst = y ∙ rw (region-is, s);
-              stamps = w ∙ unfold nextStamp in rw region-is;
-            }
+      pub cluster-put : (kept : Bool) (fr : ℕ) → Stands p (b .chip) (b .ct) (b .bt) c kept fr → (chip₁ ct₁ fst₁ stamps₁ : List ℕ) (sg : ℕ)
+          → PagesPut p (b .chip) (b .bt) (b .stamps) q v f kept fr (p .alpha) chip₁ stamps₁ → sg ≡ segmentOf p v f → ct₁ ≡ set (b .ct) c′ sg → fst₁ ≡ set (b .fst) r′ sg
+          → ClusterPut p b q v f chip₁ ct₁ fst₁ stamps₁
+      cluster-put kept fr found chip₁ ct₁ fst₁ stamps₁ sg put s x y =
+          record {
+            chip = pages-are kept fr found (p .alpha) chip₁ stamps₁ put;
+            ct = x ∙ rw (ec, s);
+            fst = y ∙ rw (region-is, s);
+            stamps = unfold nextStamp in put .stampsAre;
+          }

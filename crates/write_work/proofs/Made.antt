@@ -3,30 +3,24 @@
 use mathlib.Core.Path.{_≡_, refl, sym, _∙_}
 use mathlib.Core.Logic.{_⊎_, inr}
 use mathlib.Core.List.{List, []}
-use Prim.Native.Nat.{ℕ, _+_, _*_, _≤_, _<_}
-use native.Mathlib.Omega.{arith}
+use Prim.Native.Nat.{ℕ, _+_, _*_, _<_}
 use native.Mathlib.Decide.{ℕ-discrete}
 use native.Mathlib.Nat.{mod-lt}
 use lib.ListN.{length, set, length-set}
 use lib.Seq.{getD-set-same, getD-set-other}
 use Rattle.write_cluster.specs.Clusters.{Standing, ClusterPut}
 use Rattle.rules.specs.declared.Params.{Params}
-use Rattle.rules.specs.Parameters.{frames, frameBytes, blockBytes}
 use Rattle.rules.specs.Write.{Plan, continues, opens, reclaims, planVBlock, planFrame, planBlock, planBst, planOps, roomOps, copies, followCt, newFrame, newPage, newSector, writtenBy, nextStamp}
 use Rattle.rules.specs.Tables.{Board, boardOf, none, ctAt, btAt, fstAt, btEntry, stampAt}
 use Rattle.rules.specs.Regions.{View, view, viewOf}
-use Rattle.lists.specs.Parts.{putPart}
-use Rattle.rules.specs.Traces.{replayChip, replayWear}
+use Rattle.rules.specs.Traces.{frameOps, replayChip, replayWear}
 use Rattle.rules.specs.Requests.{requestCluster, Request, requestRegion}
 use Rattle.rules.specs.Machine.{withRoom}
-use Rattle.lists.proofs.Parts.{next}
 use Rattle.lists.proofs.Joins.{join-cong}
-use Rattle.rules.proofs.Chip.{replay-append, frame-put}
-use Rattle.rules.proofs.FramePut.{Sheet}
+use Rattle.rules.proofs.Chip.{replay-append}
 use Rattle.rules.proofs.Isolation.{Effect, index-low, own-view}
 use Rattle.rules.proofs.Continues.{Makes}
 use Rattle.rules.proofs.Admitted.{Admitted}
-use Rattle.rules.proofs.Writes.{own-sheet}
 use Rattle.write_room.proofs.Worn.{wear-append, frame-wear}
 
 room-last : (p : Params) (vw : View) (pl : Plan) → (withRoom p vw pl) .lastSeg ≡ vw .lastSeg
@@ -121,17 +115,9 @@ module _ (p : Params) (b : Board) (q : Request) (acc : Admitted p b q) (left : s
   unfolding newFrame newPage newSector
   frame-same = join-cong (p .alpha) _ _ (λ j l. rw (view-is, makes .reads (requestCluster p q) (acc .asked .cluster) j))
 
-  sheet : Sheet p v (requestCluster p q) (newFrame p vw q (nextStamp b r) v)
-  unfolding nextStamp
-  sheet = own-sheet p b q acc _ v (omega (arith, left))
-
-  frame-fits : (n * frames p + f) * frameBytes p + frameBytes p ≤ length (ready .chip)
-  unfolding blockBytes
-  frame-fits = omega (arith, makes .room .chipLength, next (frameBytes p) f (frames p) (makes .base .ready .low), next (frames p * frameBytes p) n (p .N) (makes .room .low))
-
-  chip-is : (writtenBy p b r q pl) .chip ≡ putPart (frameBytes p) (n * frames p + f) (newFrame p vw q (nextStamp b r) v) (ready .chip)
+  chip-is : (writtenBy p b r q pl) .chip ≡ replayChip p (ready .chip) (frameOps p n f (newFrame p vw q (nextStamp b r) v) (p .alpha))
   unfolding writtenBy planOps
-  chip-is = replay-append p (b .chip) (roomOps p b r pl) _ ∙ frame-put p (ready .chip) (newFrame p vw q (nextStamp b r) v) n f frame-fits (sheet .whole)
+  chip-is = replay-append p (b .chip) (roomOps p b r pl) _
 
   wear-is : (writtenBy p b r q pl) .wear ≡ replayWear (b .wear) (roomOps p b r pl)
   unfolding writtenBy planOps
