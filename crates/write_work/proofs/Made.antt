@@ -2,7 +2,7 @@
 -- Assumes nothing.
 use mathlib.Core.Path.{_≡_, refl, sym, _∙_}
 use mathlib.Core.Logic.{_⊎_, inr}
-use mathlib.Core.List.{List, []}
+use mathlib.Core.List.{List, [], _++_}
 use Prim.Native.Nat.{ℕ, _+_, _*_, _<_}
 use native.Mathlib.Decide.{ℕ-discrete}
 use native.Mathlib.Nat.{mod-lt}
@@ -115,9 +115,11 @@ module _ (p : Params) (b : Board) (q : Request) (acc : Admitted p b q) (left : s
   unfolding newFrame newPage newSector
   frame-same = join-cong (p .alpha) _ _ (λ j l. rw (view-is, makes .reads (requestCluster p q) (acc .asked .cluster) j))
 
-  chip-is : (writtenBy p b r q pl) .chip ≡ replayChip p (ready .chip) (frameOps p n f (newFrame p vw q (nextStamp b r) v) (p .alpha))
-  unfolding writtenBy planOps
-  chip-is = replay-append p (b .chip) (roomOps p b r pl) _
+  -- the new frame's pages, on the chip with room
+  pub pages-made : (m : ℕ) → replayChip p (ready .chip) (frameOps p (btAt p (ready .bt) r v) f (newFrame p (view p ready r) q (nextStamp ready r) v) m)
+      ≡ replayChip p (b .chip) (roomOps p b r pl ++ frameOps p n f (newFrame p vw q (nextStamp b r) v) m)
+  unfolding nextStamp
+  pages-made m = rw (block-is, frame-same) (sym (replay-append p (b .chip) (roomOps p b r pl) _))
 
   wear-is : (writtenBy p b r q pl) .wear ≡ replayWear (b .wear) (roomOps p b r pl)
   unfolding writtenBy planOps
@@ -128,6 +130,6 @@ module _ (p : Params) (b : Board) (q : Request) (acc : Admitted p b q) (left : s
       → marks ≡ (writtenBy p b r q pl) .marks → boardOf chip ct (ready .bt) fst bst wear marks stamps ≡ writtenBy p b r q pl
   unfolding writtenBy nextStamp
   done chip ct fst stamps bst wear marks h eb ew em =
-      let ec : chip ≡ (writtenBy p b r q pl) .chip = h .chip ∙ rw (block-is, frame-same) (sym chip-is) in
+      let ec : chip ≡ (writtenBy p b r q pl) .chip = h .chip ∙ pages-made (p .alpha) ∙ unfold planOps in refl in
       let et : wear ≡ (writtenBy p b r q pl) .wear = ew ∙ sym wear-is in
       rw (em, ec, et, h .ct, h .fst, h .stamps, eb)

@@ -1,15 +1,14 @@
 -- A write that has passed its checks: what its plan asks is there, and what it leaves is the rules' outcome.
 -- Assumes nothing.
-use mathlib.Core.Path.{_≡_, refl, sym, ap, ap₂, _∙_}
+use mathlib.Core.Path.{_≡_, sym, ap, ap₂, _∙_}
 use mathlib.Core.Logic.{_⊎_, inl, inr}
 use mathlib.Core.Bool.{Bool, true, false, not}
 use mathlib.Core.List.{List, []}
-use Prim.Native.Nat.{ℕ, _+_, _-_, _*_, _/_, _≤_, _<_}
+use Prim.Native.Nat.{ℕ, _+_, _-_, _*_, _≤_, _<_}
 use native.Mathlib.Omega.{arith}
-use native.Mathlib.Decide.{decLt}
-use native.Mathlib.Nat.{mod-lt, div-lt-iff-lt-mul, div-mul-le-self}
-use lib.Dec.{eqb, ltb}
-use borrow.Author.Tests.{eqb-true, le-ltb, lt-ltb, not-false}
+use native.Mathlib.Nat.{mod-lt}
+use lib.Dec.{eqb}
+use borrow.Author.Tests.{eqb-true, not-false}
 use lib.ListN.{length}
 use Rattle.lists.proofs.Tests.{so}
 use Rattle.lists.proofs.Searches.{first-spec}
@@ -17,9 +16,9 @@ use Rattle.rules.specs.declared.Params.{Params}
 use Rattle.rules.specs.declared.Answer.{Answer}
 use Rattle.rules.specs.declared.Reply.the-variants.{Accepted}
 use Rattle.rules.specs.Parameters.{frames}
-use Rattle.rules.specs.Numbers.{placeOf, regionOf, segmentOf, vblockOf}
-use Rattle.rules.specs.Tables.{Board, boardOf, none, btAt, ctAt, fstAt, marksLength, stampAt}
-use Rattle.rules.specs.Pages.{block, filled, frame, programmed}
+use Rattle.rules.specs.Numbers.{regionOf, vblockOf}
+use Rattle.rules.specs.Tables.{Board, boardOf, none, btAt, ctAt, marksLength, stampAt}
+use Rattle.rules.specs.Pages.{block, frame}
 use Rattle.rules.specs.Regions.{View, view, viewOf, assigned, looksAt}
 use Rattle.rules.specs.Traces.{programsIn, erasesIn}
 use Rattle.rules.specs.Write.{Plan, continues, opens, reclaims, hasRoom, lowestUnassigned, planOf, planVBlock, planFrame, eraseOps, freeBlock, planOps, writeOps, written, writtenBy}
@@ -28,8 +27,7 @@ use Rattle.rules.specs.Calls.{Outcome, answerOf, outcomeOf}
 use Rattle.rules.proofs.Sizes.{Sizes}
 use Rattle.rules.proofs.Isolation.{index-low}
 use Rattle.rules.proofs.Views.{body-some, has-block, block-low, free-block, free-unnamed}
-use Rattle.rules.proofs.Frames.{erased-not, seg-place}
-use Rattle.rules.proofs.RegionFacts.{GoodFrame, Open, Neat, filled-le, neat}
+use Rattle.rules.proofs.RegionFacts.{GoodFrame, Neat, neat}
 use Rattle.marks.specs.Kept.{putMark, roomMarks, writtenMarks}
 use Rattle.rules.specs.Requests.{Request, write, requestCluster, requestRegion}
 use Rattle.rules.specs.Machine.{withRoom}
@@ -51,7 +49,7 @@ use Rattle.rules.specs.Words.{PlanListed}
 use Rattle.rules.proofs.Words.{plan-exactly}
 use Rattle.read_work.specs.Lookup.{blockFor, Looked, Lookup, Stands, Within}
 use Rattle.read_work.proofs.Requests.{lookup-admitted}
-use Rattle.write_plan.specs.Plans.{OpenFrames, PlanAsked}
+use Rattle.write_plan.specs.Plans.{PlanAsked}
 use Rattle.write_room.specs.Rooms.{OpenAsked, RoomAsked, RoomMade}
 use Rattle.write_cluster.specs.Clusters.{Standing, ClusterPut}
 use Rattle.outcomes.specs.Claims.{outcome}
@@ -167,14 +165,12 @@ module _ (p : Params) (b : Board) (q : Request) (e : replyOf p b (write q) ≡ A
   lookup-entry c ec = rw ec (lookup-admitted p b q acc)
 
   -- the plan that was found by the marks, which are the board's
-  abbrev Found : ℕ → Plan → Type 0
-  Found r′ pl = (ct : List ℕ) → b .marks ≡ marksOf p (boardOf (b .chip) ct (b .bt) (b .fst) [] [] [] []) → pl ≡ planOf p (viewOf p (b .chip) ct (b .bt) (b .fst) r′)
-
-  plan-is : (r′ : ℕ) → r′ ≡ r → (pl : Plan) → Found r′ pl → pl ≡ planOf p vw
+  pub plan-is : (r′ : ℕ) → r′ ≡ r → (pl : Plan) → ((ct : List ℕ) → b .marks ≡ marksOf p (boardOf (b .chip) ct (b .bt) (b .fst) [] [] [] []) → pl ≡ planOf p (viewOf p (b .chip) ct (b .bt) (b .fst) r′))
+      → pl ≡ planOf p vw
   plan-is r′ er pl found = rw er at (found (b .ct) marks-are)
 
-  pub room-asked : (r′ : ℕ) → r′ ≡ r → (pl : Plan) → Found r′ pl → RoomAsked p (b .chip) (b .ct) (b .bt) (b .bst) (b .wear) (b .marks) r′ pl
-  room-asked r′ er pl found = rw er (go pl (plan-is r′ er pl found))
+  pub room-asked : (r′ : ℕ) → r′ ≡ r → (pl : Plan) → pl ≡ planOf p vw → RoomAsked p (b .chip) (b .ct) (b .bt) (b .bst) (b .wear) (b .marks) r′ pl
+  room-asked r′ er pl ep = rw er (go pl ep)
     where
       go : (pl : Plan) → pl ≡ planOf p vw → RoomAsked p (b .chip) (b .ct) (b .bt) (b .bst) (b .wear) (b .marks) r pl
       go (continues v f) k = tt
@@ -188,19 +184,16 @@ module _ (p : Params) (b : Board) (q : Request) (e : replyOf p b (write q) ≡ A
 
   -- ---- what the write leaves
 
-  module _ (r′ : ℕ) (er : r′ ≡ r) (pl : Plan) (found : Found r′ pl) (v f copied erases : ℕ) (chip₁ ct₁ bt₁ bst₁ wear₁ : List ℕ)
+  module _ (r′ : ℕ) (er : r′ ≡ r) (pl : Plan) (ep-r : pl ≡ planOf p vw) (v f copied erases : ℕ) (chip₁ ct₁ bt₁ bst₁ wear₁ : List ℕ)
       (m : (fst stamps : List ℕ) → b .marks ≡ marksOf p (boardOf (b .chip) (b .ct) (b .bt) fst (b .bst) (b .wear) (b .marks) stamps)
       → RoomMade p (boardOf (b .chip) (b .ct) (b .bt) fst (b .bst) (b .wear) (b .marks) stamps) r′ pl v f copied erases chip₁ ct₁ bt₁ bst₁ wear₁) where
-    ep-r : pl ≡ planOf p vw
-    ep-r = plan-is r′ er pl found
-
     mk : Makes p b r pl
     mk = rw ep-r all-make
 
     listed : PlanListed p vw pl
     listed = rw ep-r (plan-exactly p b (record { fine = acc .fine; lengths = checks .lengths; tidy = checks .tidy }) r region-in)
 
-    m-r : RoomMade p b r pl v f copied erases chip₁ ct₁ bt₁ bst₁ wear₁
+    pub m-r : RoomMade p b r pl v f copied erases chip₁ ct₁ bt₁ bst₁ wear₁
     m-r = rw er at (m (b .fst) (b .stamps) marks-are)
 
     pub standing : Standing p (boardOf chip₁ ct₁ bt₁ (b .fst) [] [] [] (b .stamps)) q v f

@@ -1,13 +1,14 @@
 -- `write_work::write_orderly`: the search and the plan of the state at entry, the plan's room, the old frame found there, the cluster put there, and the marks
 -- that follow. In each need `d` is the place where the plan is made; from there `entry` is where the call begins, and `room` where room was made.
 -- Assumes nothing.
-use mathlib.Core.Path.{ap, _∙_, _≡_}
-use Rattle.rules.specs.Numbers.{clusterOf, regionOf}
+use mathlib.Core.Path.{ap, _∙_}
+use Rattle.rules.specs.Numbers.{regionOf}
 use Rattle.write_work.proofs.Writes.{
   sectors,
   alpha-few,
   marks-full,
   plan-asked,
+  plan-is,
   room-asked,
   lookup-entry,
   lookup-made,
@@ -52,7 +53,8 @@ make-room-requires c κs =
     let entry = d .before .before .before .before .before .before .before .before .before .before .before .before .before .before .before .before .before .before .before .before in
     let cluster = d .before .before .before .before .before .before .before .before .before .before .cluster-of .ensures in
     let region = d .before .before .before .before .before .before .before .before .before .region-of .ensures ∙ ap (regionOf (entry .args .p)) cluster in
-    room-asked _ _ _ (entry .pre) _ region _ (d .plan-of .ensures)
+    let plan = plan-is _ _ _ (entry .pre) _ region _ (d .plan-of .ensures) in
+    room-asked _ _ _ (entry .pre) _ region _ plan
 
 find-again-requires : tie.Need-find-again-requires
 find-again-requires c κs =
@@ -61,12 +63,13 @@ find-again-requires c κs =
     let entry = d .before .before .before .before .before .before .before .before .before .before .before .before .before .before .before .before .before .before .before .before in
     let cluster = d .before .before .before .before .before .before .before .before .before .before .cluster-of .ensures in
     let region = d .before .before .before .before .before .before .before .before .before .region-of .ensures ∙ ap (regionOf (entry .args .p)) cluster in
+    let plan = plan-is _ _ _ (entry .pre) _ region _ (d .plan-of .ensures) in
     let room = at-make-room .make-room .ensures in
     let found = d .before .before .before .before .before .find-frame .ensures in (
-      lookup-made _ _ _ (entry .pre) _ region _ (d .plan-of .ensures) _ _ _ _ _ _ _ _ _ room _ cluster,
+      lookup-made _ _ _ (entry .pre) _ region _ plan _ _ _ _ _ _ _ _ _ room _ cluster,
       (
-        λ still. stays _ _ _ (entry .pre) _ region _ (d .plan-of .ensures) _ _ _ _ _ _ _ _ _ room _ cluster still _ _ (found .0),
-        λ still. stays-within _ _ _ (entry .pre) _ region _ (d .plan-of .ensures) _ _ _ _ _ _ _ _ _ room _ cluster still _ _ _ _ (found .0) (found .1 .0),
+        λ still. stays _ _ _ (entry .pre) _ region _ plan _ _ _ _ _ _ _ _ _ room _ cluster still _ _ (found .0),
+        λ still. stays-within _ _ _ (entry .pre) _ region _ plan _ _ _ _ _ _ _ _ _ room _ cluster still _ _ _ _ (found .0) (found .1 .0),
       ),
     )
 
@@ -78,8 +81,9 @@ put-cluster-requires c κs =
     let entry = d .before .before .before .before .before .before .before .before .before .before .before .before .before .before .before .before .before .before .before .before in
     let cluster = d .before .before .before .before .before .before .before .before .before .before .cluster-of .ensures in
     let region = d .before .before .before .before .before .before .before .before .before .region-of .ensures ∙ ap (regionOf (entry .args .p)) cluster in
+    let plan = plan-is _ _ _ (entry .pre) _ region _ (d .plan-of .ensures) in
     let room = at-make-room .make-room .ensures in
-    (standing _ _ _ (entry .pre) _ region _ (d .plan-of .ensures) _ _ _ _ _ _ _ _ _ room, rw cluster at (at-find-again .find-again .ensures .0))
+    (standing _ _ _ (entry .pre) _ region _ plan _ _ _ _ _ _ _ _ _ room, rw cluster at (at-find-again .find-again .ensures .0))
 
 keep-marks-requires : tie.Need-keep-marks-requires
 keep-marks-requires c κs =
@@ -89,10 +93,11 @@ keep-marks-requires c κs =
     let entry = d .before .before .before .before .before .before .before .before .before .before .before .before .before .before .before .before .before .before .before .before in
     let cluster = d .before .before .before .before .before .before .before .before .before .before .cluster-of .ensures in
     let region = d .before .before .before .before .before .before .before .before .before .region-of .ensures ∙ ap (regionOf (entry .args .p)) cluster in
+    let plan = plan-is _ _ _ (entry .pre) _ region _ (d .plan-of .ensures) in
     let room = at-make-room .make-room .ensures in
     let old = at-find-again .find-again .ensures in (
-      mark-asked _ _ _ (entry .pre) _ region _ (d .plan-of .ensures) _ _ _ _ _ _ _ _ _ room,
-      old-asked _ _ _ (entry .pre) _ region _ (d .plan-of .ensures) _ _ _ _ _ _ _ _ _ room _ _ cluster _ _ _ (old .0) (old .1),
+      mark-asked _ _ _ (entry .pre) _ region _ plan _ _ _ _ _ _ _ _ _ room,
+      old-asked _ _ _ (entry .pre) _ region _ plan _ _ _ _ _ _ _ _ _ room _ _ cluster _ _ _ (old .0) (old .1),
     )
 
 answered-requires : tie.Need-answered-requires
@@ -102,8 +107,9 @@ answered-requires c κs =
     let entry = d .before .before .before .before .before .before .before .before .before .before .before .before .before .before .before .before .before .before .before .before in
     let cluster = d .before .before .before .before .before .before .before .before .before .before .cluster-of .ensures in
     let region = d .before .before .before .before .before .before .before .before .before .region-of .ensures ∙ ap (regionOf (entry .args .p)) cluster in
+    let plan = plan-is _ _ _ (entry .pre) _ region _ (d .plan-of .ensures) in
     let room = at-make-room .make-room .ensures in
-    (alpha-few _ _ _ (entry .pre), copied-few _ _ _ (entry .pre) _ region _ (d .plan-of .ensures) _ _ _ _ _ _ _ _ _ room)
+    (alpha-few _ _ _ (entry .pre), copied-few _ _ _ (entry .pre) _ region _ plan _ _ _ _ _ _ _ _ _ room)
 
 -- each lent slice comes back as long as it was
 
@@ -157,10 +163,11 @@ returns c =
     let entry = d .before .before .before .before .before .before .before .before .before .before .before .before .before .before .before .before .before .before .before .before in
     let cluster = d .before .before .before .before .before .before .before .before .before .before .cluster-of .ensures in
     let region = d .before .before .before .before .before .before .before .before .before .region-of .ensures ∙ ap (regionOf (entry .args .p)) cluster in
+    let plan = plan-is _ _ _ (entry .pre) _ region _ (d .plan-of .ensures) in
     let room = at-make-room .make-room .ensures in
     let found = d .before .before .before .before .before .find-frame .ensures in
     let old = at-find-again .find-again .ensures in
-    gives _ _ _ (entry .pre) _ region _ (d .plan-of .ensures) _ _ _ _ _ _ _ _ _ room _ _ cluster _ _ _ (old .0) (old .1) _ (found .1 .1) _ _ _ _ _ _
+    gives _ _ _ (entry .pre) _ region _ plan _ _ _ _ _ _ _ _ _ room _ _ cluster _ _ _ (old .0) (old .1) _ (found .1 .1) _ _ _ _ _ _
     (at-put-cluster .put-cluster .ensures) (at-keep-marks .keep-marks .ensures) (c .answered .ensures)
 
 pub write-orderly-spec : {M : Type 1} → statement M
