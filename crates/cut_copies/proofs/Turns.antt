@@ -23,7 +23,7 @@ use Rattle.write_reclaim.proofs.Kept as kept
 use Rattle.cut_copies.specs.Turns.{TurnAsked, TurnMade}
 
 -- the first m operations of a frame are those of its first pages
-take-least : (p : Params) (n f : ℕ) (x : List ℕ) (m k : ℕ) → take m (frameOps p n f x k) ≡ frameOps p n f x (min m k)
+pub take-least : (p : Params) (n f : ℕ) (x : List ℕ) (m k : ℕ) → take m (frameOps p n f x k) ≡ frameOps p n f x (min m k)
 take-least p n f x m k = go (decLe m k)
   where
     go : Dec (m ≤ k) → take m (frameOps p n f x k) ≡ frameOps p n f x (min m k)

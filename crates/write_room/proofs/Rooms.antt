@@ -1,7 +1,7 @@
 -- A plan's room: what each kind of plan leaves is what the rules' operations and tables are.
 -- Assumes nothing.
 use mathlib.Core.Path.{_≡_, ap, refl, sym, _∙_}
-use mathlib.Core.Bool.{Bool}
+use mathlib.Core.Bool.{Bool, true}
 use mathlib.Core.List.{List, [], _∷_, map}
 use Prim.Native.Nat.{ℕ, _+_, _*_, _<_}
 use native.Mathlib.Omega.{arith}
@@ -10,7 +10,7 @@ use lib.ListN.{length, set}
 use lib.Seq.{set-getD}
 use Rattle.lists.proofs.Ranks.{keep-cong}
 use Rattle.rules.specs.declared.Params.{Params}
-use Rattle.rules.specs.Parameters.{frames}
+use Rattle.rules.specs.Parameters.{allowed, frames}
 use Rattle.rules.specs.Tables.{Board, boardOf, none, btAt, btEntry}
 use Rattle.rules.specs.Pages.{block, frame}
 use Rattle.rules.specs.Regions.{view, viewOf, bodyAt, validFrames}
@@ -28,6 +28,14 @@ block-of-view : (p : Params) (chip ct bt fst : List ℕ) (r v : ℕ) → v < p .
 unfolding viewOf bodyAt
 block-of-view p chip ct bt fst r v low ne = rw (lt-ltb v (p .gamma) low, ne-eqb (btAt p bt r v) none ne)
 
+-- the marked frames of a virtual block are the ones that its reclaim copies
+pub copies-are : (p : Params) → allowed p ≡ true → (b : Board) (r v : ℕ) → v < p .gamma → btAt p (b .bt) r v < p .N
+    → markedFrames p (block p (b .chip) (btAt p (b .bt) r v)) (marksOn p b r v) ≡ copies p (view p b r) (reclaims v)
+unfolding copies validFrames marksIn
+copies-are p fine b r v low in-chip =
+    let body = block-of-view p (b .chip) (b .ct) (b .bt) (b .fst) r v low (λ x. omega (arith, x, in-chip, (sizes p fine) .blocks)) in
+    rw body (ap (map (frame p (block p (b .chip) (btAt p (b .bt) r v)))) (keep-cong (frames p) _ _ (λ f h. marked-valid p (view p b r) v f h)))
+
 -- ---- the free block
 
 module _ (p : Params) (bt bst wear : List ℕ) (r v : ℕ) (a : OpenAsked p bt bst wear r v) (n : ℕ) (is : n ≡ freeBlock p bst wear) where
@@ -41,16 +49,6 @@ module _ (p : Params) (bt bst wear : List ℕ) (r v : ℕ) (a : OpenAsked p bt b
   opened bt′ bst′ x y = record { btIs = x ∙ rw is; bstIs = y ∙ rw is }
 
 module _ (p : Params) (chip ct bt bst wear marks : List ℕ) (r v : ℕ) (a : ReclaimReady p chip ct bt bst wear marks r v) where
-  -- the marked frames are the ones that the plan copies
-  copies-are : (fst stamps : List ℕ) → markedFrames p (block p chip (btAt p bt r v)) (marksOn p (boardOf chip ct bt fst bst wear marks stamps) r v) ≡ copies p (viewOf p chip ct bt fst r) (reclaims v)
-  unfolding copies validFrames marksIn
-  copies-are fst stamps =
-      rw (body fst)
-      (ap (map (frame p (block p chip (btAt p bt r v)))) (keep-cong (frames p) _ _ (λ f h. marked-valid p (viewOf p chip ct bt fst r) v f h)))
-    where
-      body : (fst : List ℕ) → (viewOf p chip ct bt fst r) .body v ≡ block p chip (btAt p bt r v)
-      body fst = block-of-view p chip ct bt fst r v (a .taking .low) (λ x. omega (arith, x, a .blocks .between .from, (sizes p (a .taking .pool .fine)) .blocks))
-
   module _ (o n : ℕ) (eo : o ≡ btAt p bt r v) (en : n ≡ freeBlock p bst wear) where
     pub reclaim-asked : ReclaimAsked p chip ct wear marks o n r v
     reclaim-asked = record { blocks = rw (eo, en) (a .blocks); wearLength = a .taking .pool .wearLength; words = a .words }
@@ -115,4 +113,4 @@ pub made-by-marks : (p : Params) (chip ct bt bst wear marks : List ℕ) (r v : �
     → ((m : Marks) → marks ≡ tableOf p m → BlockReclaimed p chip ct bt bst wear r v (markedFrames p (block p chip (btAt p bt r v)) (m r v)) chip′ ct′ bt′ bst′ wear′ k)
     → RoomMade p (boardOf chip ct bt fst bst wear marks stamps) r (reclaims v) v k k 1 chip′ ct′ bt′ bst′ wear′
 made-by-marks p chip ct bt bst wear marks r v a fst stamps e chip′ ct′ bt′ bst′ wear′ k d =
-    made-reclaims p chip ct bt fst bst wear marks stamps r v chip′ ct′ bt′ bst′ wear′ k (rw (copies-are p chip ct bt bst wear marks r v a fst stamps) at (d (marksOn p (boardOf chip ct bt fst bst wear marks stamps)) e))
+    made-reclaims p chip ct bt fst bst wear marks stamps r v chip′ ct′ bt′ bst′ wear′ k (rw (copies-are p (a .words .fine) (boardOf chip ct bt fst bst wear marks stamps) r v (a .taking .low) (a .blocks .between .from)) at (d (marksOn p (boardOf chip ct bt fst bst wear marks stamps)) e))

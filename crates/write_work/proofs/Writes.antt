@@ -3,7 +3,7 @@
 use mathlib.Core.Path.{_≡_, sym, ap, ap₂, _∙_}
 use mathlib.Core.Logic.{_⊎_, inl, inr}
 use mathlib.Core.Bool.{Bool, true, false, not}
-use mathlib.Core.List.{List, []}
+use mathlib.Core.List.{List, [], _++_}
 use Prim.Native.Nat.{ℕ, _+_, _-_, _*_, _≤_, _<_}
 use native.Mathlib.Omega.{arith}
 use native.Mathlib.Nat.{mod-lt}
@@ -20,8 +20,8 @@ use Rattle.rules.specs.Numbers.{regionOf, vblockOf}
 use Rattle.rules.specs.Tables.{Board, boardOf, none, btAt, ctAt, marksLength, stampAt}
 use Rattle.rules.specs.Pages.{block, frame}
 use Rattle.rules.specs.Regions.{View, view, viewOf, assigned, looksAt}
-use Rattle.rules.specs.Traces.{programsIn, erasesIn}
-use Rattle.rules.specs.Write.{Plan, continues, opens, reclaims, hasRoom, lowestUnassigned, planOf, planVBlock, planFrame, eraseOps, freeBlock, planOps, writeOps, written, writtenBy}
+use Rattle.rules.specs.Traces.{erasesIn, frameOps, programsIn, replayChip}
+use Rattle.rules.specs.Write.{Plan, continues, opens, reclaims, hasRoom, lowestUnassigned, planOf, newFrame, nextStamp, planBlock, planVBlock, planFrame, eraseOps, freeBlock, planOps, roomOps, writeOps, written, writtenBy}
 use Rattle.rules.specs.Replies.{replyOf}
 use Rattle.rules.specs.Calls.{Outcome, answerOf, outcomeOf}
 use Rattle.rules.proofs.Sizes.{Sizes}
@@ -98,7 +98,7 @@ module _ (p : Params) (b : Board) (q : Request) (e : replyOf p b (write q) ≡ A
   pub alpha-few : p .alpha ≤ 16
   alpha-few = z .alphaHigh
 
-  marks-are : b .marks ≡ marksOf p b
+  pub marks-are : b .marks ≡ marksOf p b
   marks-are = marks-in p b (checks .lengths) (checks .tidy)
 
   pub marks-full : length (b .marks) ≡ marksLength p
@@ -228,6 +228,12 @@ module _ (p : Params) (b : Board) (q : Request) (e : replyOf p b (write q) ≡ A
 
     pub copied-few : copied < 256
     copied-few = rw (m-r .count) (omega (arith, copies-few p vw pl, mk .base .ready .low, z .short))
+
+    -- the new frame's pages, however many
+    pub pages-made : (m : ℕ) (chip : List ℕ) → chip ≡ replayChip p chip₁ (frameOps p (btAt p bt₁ r v) f
+        (newFrame p (view p (boardOf chip₁ ct₁ bt₁ (b .fst) [] [] [] (b .stamps)) r) q (nextStamp (boardOf chip₁ ct₁ bt₁ (b .fst) [] [] [] (b .stamps)) r) v) m)
+        → chip ≡ replayChip p (b .chip) (roomOps p b r pl ++ frameOps p (planBlock p b r pl) (planFrame p vw pl) (newFrame p vw q (nextStamp b r) (planVBlock pl)) m)
+    pages-made m chip x = x ∙ rw (m-r .chipIs, m-r .ctIs, m-r .btIs, m-r .vblock, m-r .frame) (made.pages-made p b q acc left pl mk m)
 
     board-is : (chip ct fst stamps marks : List ℕ) → ClusterPut p (boardOf chip₁ ct₁ bt₁ (b .fst) [] [] [] (b .stamps)) q v f chip ct fst stamps → marks ≡ (written p b q) .marks
         → boardOf chip ct bt₁ fst bst₁ wear₁ marks stamps ≡ written p b q

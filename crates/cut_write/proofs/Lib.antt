@@ -1,0 +1,4 @@
+pub mod Counts
+pub mod Firsts
+pub mod Leaves
+pub mod Limits

@@ -1,0 +1,187 @@
+// Document 02, T-07, cuts, of a write on a state that is known to be orderly. How many operations it will make is known before the first; where the budget
+// has more, it is the plain write, and else as many are made as the budget has, and the tables are lost.
+ghost use mathlib.Core.Path.{_≡_};
+ghost use mathlib.Core.Bool.{true};
+ghost use mathlib.Core.List.{List, []};
+ghost use Prim.Native.Nat.{ℕ, _-_, _≤_, _<_};
+ghost use lib.ListN.{length, take};
+ghost use Rattle.rules.specs.Parameters.{allowed};
+ghost use Rattle.rules.specs.Tables.{Board, boardOf};
+ghost use Rattle.rules.specs.Lent.{entryBoard, exitBoard};
+ghost use Rattle.rules.specs.Traces.{replayChip};
+ghost use Rattle.rules.specs.Marks.{marksOf};
+ghost use Rattle.rules.specs.Write.{roomOps, writeOps};
+ghost use Rattle.rules.specs.Requests.{write, requestOf};
+ghost use Rattle.rules.specs.Replies.{replyOf};
+ghost use Rattle.rules.specs.Cuts.{cutBoard, limited, stepOutcome};
+ghost use Rattle.outcomes.specs.Claims.{outcome};
+ghost use Rattle.write_plan.specs.Plans.{planIs};
+ghost use Rattle.cut_write.specs.Cut.{CountAsked, CopiesAsked, CutAsked};
+use rules::Answer;
+use rules::Params;
+use rules::Reply;
+use write_plan::Planned;
+
+// What a call with a budget answers, and what is left of the budget: 0 where it was cut.
+pub struct Limited {
+    pub answer: Answer,
+    pub left: u64,
+}
+
+// How many operations make a plan's room: α for each frame that is copied, and the erase;
+// none where nothing is reclaimed.
+fn room_ops(p: Params, marks: &[u64], r: usize, pl: Planned) -> usize
+    requires { ⌜ allowed p ≡ true ⌝ }
+    requires { ⌜ CountAsked p (now marks) r (planIs pl) ⌝ }
+    ensures { λ n. ⌜ ((b : Board) → now (marks .entry) ≡ marksOf p b → n ≡ length (roomOps p b r (planIs pl))) ⌝ }
+    ensures { λ n. ⌜ n ≤ 4097 ⌝ }
+{
+    match pl {
+        Planned::Continues(_, _) => 0,
+        Planned::Opens(_) => 0,
+        Planned::Reclaims(v) => p.alpha * chip_marks::count_marks(p, marks, r, v) + 1,
+    }
+}
+
+// The first k of the operations that make a plan's room, all of which come before the erase:
+// the victim's frames that have a mark are copied until k pages are made.
+fn cut_room(
+    p: Params,
+    chip: &mut [u8],
+    bt: &[u16],
+    bst: &[u8],
+    wear: &[u32],
+    marks: &[u64],
+    r: usize,
+    pl: Planned,
+    k: usize,
+)
+    requires { ⌜ CopiesAsked p (now chip) (now bt) (now bst) (now wear) (now marks) r (planIs pl) ⌝ }
+    ensures { λ _. ⌜ ((ct fst stamps : List ℕ) → now (marks .entry) ≡ marksOf p (boardOf (now (chip .entry)) ct (now (bt .entry)) fst (now (bst .entry)) (now (wear .entry)) (now (marks .entry)) stamps)
+        → k < length (roomOps p (boardOf (now (chip .entry)) ct (now (bt .entry)) fst (now (bst .entry)) (now (wear .entry)) (now (marks .entry)) stamps) r (planIs pl))
+        → now (chip .exit) ≡ replayChip p (now (chip .entry))
+        (take k (roomOps p (boardOf (now (chip .entry)) ct (now (bt .entry)) fst (now (bst .entry)) (now (wear .entry)) (now (marks .entry)) stamps) r (planIs pl)))) ⌝ }
+{
+    match pl {
+        Planned::Continues(_, _) => {}
+        Planned::Opens(_) => {}
+        Planned::Reclaims(v) => {
+            let o = chip_tables::bt_at(p, bt, r, v);
+            let n = write_choose::free_block(p, bst, wear);
+            cut_copies::copy_first(p, chip, marks, o, n, r, v, k);
+        }
+    }
+}
+
+// The first k operations of a write are made, of which `room` make the plan's room; the rest of it and the tables are lost.
+// Behind the room come the new frame's pages, its old sectors read where the old cluster then stands.
+fn cut(
+    p: Params,
+    chip: &mut [u8],
+    ct: &mut [u16],
+    bt: &mut [u16],
+    fst: &mut [u16],
+    bst: &mut [u8],
+    wear: &mut [u32],
+    marks: &mut [u64],
+    stamps: &mut [u32],
+    lba: usize,
+    count: usize,
+    bytes: &[u8],
+    r: usize,
+    pl: Planned,
+    room: usize,
+    k: usize,
+)
+    requires { ⌜ CutAsked p (boardOf (now chip) (now ct) (now bt) (now fst) (now bst) (now wear) (now marks) (now stamps)) (requestOf lba count (now bytes)) r (planIs pl) room k ⌝ }
+    ensures { λ _. ⌜ exitBoard chip ct bt fst bst wear marks stamps ≡ cutBoard p (entryBoard chip ct bt fst bst wear marks stamps)
+        (take k (writeOps p (entryBoard chip ct bt fst bst wear marks stamps) (requestOf lba count (now (bytes .entry))))) ⌝ }
+{
+    if k < room {
+        cut_room(p, chip, bt, bst, wear, marks, r, pl, k);
+        chip_lost::lose(ct, bt, fst, bst, marks, stamps);
+        return;
+    }
+    let made = write_room::make_room(p, chip, ct, bt, bst, wear, marks, r, pl);
+    let old = read_work::find_frame(p, chip, ct, bt, rules::cluster_of(p, lba));
+    let v = made.vblock;
+    let f = made.frame;
+    write_cluster::put_pages(p, chip, bt, stamps, lba, count, bytes, old, v, f, k - room);
+    chip_lost::lose(ct, bt, fst, bst, marks, stamps);
+}
+
+// The work of a write with a budget, once it has passed its checks:
+// the plain write where the budget has more than its operations, and else cut.
+pub fn write_limited(
+    p: Params,
+    chip: &mut [u8],
+    ct: &mut [u16],
+    bt: &mut [u16],
+    fst: &mut [u16],
+    bst: &mut [u8],
+    wear: &mut [u32],
+    marks: &mut [u64],
+    stamps: &mut [u32],
+    lba: usize,
+    count: usize,
+    bytes: &[u8],
+    budget: u64,
+) -> Limited
+    requires { ⌜ replyOf p (boardOf (now chip) (now ct) (now bt) (now fst) (now bst) (now wear) (now marks) (now stamps)) (write (requestOf lba count (now bytes))) ≡ Reply.Accepted ⌝ }
+    ensures { λ l. ⌜ outcome (l .answer) (now (bytes .entry)) [] (exitBoard chip ct bt fst bst wear marks stamps) ≡ stepOutcome p (entryBoard chip ct bt fst bst wear marks stamps)
+        (limited budget (write (requestOf lba count (now (bytes .entry))))) ⌝ }
+    ensures { λ l. ⌜ l .left ≡ budget - length (writeOps p (entryBoard chip ct bt fst bst wear marks stamps) (requestOf lba count (now (bytes .entry)))) ⌝ }
+{
+    let r = rules::region_of(p, rules::cluster_of(p, lba));
+    let pl = write_plan::plan_of(p, chip, bt, fst, marks, r);
+    let room = room_ops(p, marks, r, pl);
+    let ops = (room + p.alpha) as u64;
+    if budget > ops {
+        let answer = write_work::write_orderly(
+            p,
+            chip,
+            ct,
+            bt,
+            fst,
+            bst,
+            wear,
+            marks,
+            stamps,
+            lba,
+            count,
+            bytes,
+        );
+        return Limited {
+            answer,
+            left: budget - ops,
+        };
+    }
+    let k = budget as usize;
+    cut(
+        p,
+        chip,
+        ct,
+        bt,
+        fst,
+        bst,
+        wear,
+        marks,
+        stamps,
+        lba,
+        count,
+        bytes,
+        r,
+        pl,
+        room,
+        k,
+    );
+    Limited {
+        answer: Answer {
+            reply: Reply::Accepted,
+            programs: 0,
+            erases: 0,
+            looks: 0,
+        },
+        left: 0,
+    }
+}
