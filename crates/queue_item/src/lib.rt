@@ -10,7 +10,8 @@ ghost use Rattle.rules.specs.Tables.{boardOf};
 ghost use Rattle.rules.specs.Lent.{entryBoard, exitBoard};
 ghost use Rattle.rules.specs.Requests.{itemOf, lies};
 ghost use Rattle.queue_head.specs.Heads.{Ready};
-ghost use Rattle.queue_item.specs.Items.{ItemIs};
+ghost use Rattle.queue_item.specs.Items.{ItemIs, ItemLimited};
+use cut_write::Limited;
 use rules::Answer;
 use rules::Params;
 
@@ -62,5 +63,55 @@ pub fn item(
         lba as usize,
         count as usize,
         &bytes[from..to],
+    )
+}
+
+// The same with what is left of a budget:
+// where nothing is left of it after the item, the item was cut.
+pub fn item_limited(
+    p: Params,
+    chip: &mut [u8],
+    ct: &mut [u16],
+    bt: &mut [u16],
+    fst: &mut [u16],
+    bst: &mut [u8],
+    wear: &mut [u32],
+    marks: &mut [u64],
+    stamps: &mut [u32],
+    ordered: bool,
+    lba: u32,
+    count: u32,
+    first: u32,
+    bytes: &[u8],
+    budget: u64,
+) -> Limited
+    requires { ⌜ Ready p ordered (boardOf (now chip) (now ct) (now bt) (now fst) (now bst) (now wear) (now marks) (now stamps)) ⌝ }
+    ensures { λ l. ⌜ ItemLimited p ordered (entryBoard chip ct bt fst bst wear marks stamps) (now (bytes .entry)) budget (itemOf lba count first) (l .answer) (l .left)
+        (exitBoard chip ct bt fst bst wear marks stamps) ⌝ }
+{
+    let fits = has_bytes(p, bytes.len(), count, first);
+    let reply = reply_rows::item_reply(p, ordered, stamps, lba, count, fits);
+    if rules::number(reply) != 0 {
+        return Limited {
+            answer: reply_rows::idle(reply),
+            left: budget,
+        };
+    }
+    let from = first as usize;
+    let to = from + count as usize * p.s;
+    cut_write::write_limited(
+        p,
+        chip,
+        ct,
+        bt,
+        fst,
+        bst,
+        wear,
+        marks,
+        stamps,
+        lba as usize,
+        count as usize,
+        &bytes[from..to],
+        budget,
     )
 }
