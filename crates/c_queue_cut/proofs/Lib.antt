@@ -1,2 +1,2 @@
-pub mod Turns
+pub mod Taking
 pub mod Ends

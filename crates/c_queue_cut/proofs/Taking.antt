@@ -1,7 +1,7 @@
 -- The turns of a queue with a budget: what one leaves, and that after i of them what is left to serve comes to the same as the whole.
 -- Assumes nothing.
 use mathlib.Core.Path.{_≡_, refl, sym, ap, _∙_}
-use mathlib.Core.Bool.{Bool, cond}
+use mathlib.Core.Bool.{Bool, true, false, cond}
 use mathlib.Core.List.{List}
 use Prim.Native.Nat.{ℕ, _+_, _*_, _<_, _≤_}
 use native.Mathlib.Omega.{arith}
@@ -10,18 +10,32 @@ use lib.ListN.{drop, getD, length, set, take}
 use borrow.Author.Tests.{eq-eqb, ne-eqb}
 use Rattle.rules.specs.declared.Params.{Params}
 use Rattle.rules.specs.declared.Answer.{Answer}
+use Rattle.rules.specs.declared.Item.{Item}
 use Rattle.rules.specs.Tables.{Board}
-use Rattle.rules.specs.Requests.{itemOf}
+use Rattle.rules.specs.Traces.{programsIn}
+use Rattle.rules.specs.Requests.{itemOf, itemRequest, write}
+use Rattle.rules.specs.Calls.{answerOf, outcomeOf}
+use Rattle.rules.specs.Cuts.{cutOutcome, isCut, limited, stepOutcome}
 use Rattle.queue_turns.specs.Limited.{Stage, itemStep, leftAfter, turnOf, turnsFrom}
 use Rattle.queue_turns.proofs.Limited.{none-taken, one-taken}
 use Rattle.queue_head.specs.Heads.{Ready}
 use Rattle.queue_item.specs.Items.{ItemLimited}
 use Rattle.c_answer.specs.Packed.{packed}
+use Rattle.c_answer.proofs.Counts.{few-programs}
 use Rattle.c_queue.specs.Flat.{TurnAsked, TurnsAsked, itemsOf, requestAt}
 use Rattle.c_queue.proofs.Requests.{items-at}
 use Rattle.c_queue_cut.specs.Cut.{TurnCut, stage}
 
 -- ---- one turn
+
+-- no item programs more pages than have room in its number, with any budget
+pub few-limited : (p : Params) (ordered : Bool) (b : Board) (bytes : List ℕ) (k : ℕ) (it : Item) (a : Answer) (rest : ℕ) (b′ : Board) → ItemLimited p ordered b bytes k it a rest b′ → a .programs < 65536
+unfolding itemStep stepOutcome
+few-limited p ordered b bytes k it a rest b′ h = rw (h .answered) (go (isCut p b (limited k (write (itemRequest p bytes it)))))
+  where
+    go : (t : Bool) → (cond t (cutOutcome p b k (write (itemRequest p bytes it))) (outcomeOf p b (write (itemRequest p bytes it)))) .answer .programs < 65536
+    go true = unfold cutOutcome answerOf programsIn in omega arith
+    go false = few-programs p b (write (itemRequest p bytes it))
 
 module _ (p : Params) (ordered : Bool) (b : Board) (requests bytes answers : List ℕ) (i : ℕ) where
   -- with nothing left nothing is done
@@ -52,6 +66,9 @@ module _ (p : Params) (ordered : Bool) (requests bytes : List ℕ) (n : ℕ) (b�
   module _ (a : TurnsAsked p ordered b₀ requests answers₀ n) where
     pub start : So 0 b₀ answers₀ k₀
     start = record { ready = λ h some. a .ready h; same = refl }
+
+    pub asked : (i : ℕ) → i < n → (answers : List ℕ) → length answers ≡ length answers₀ → TurnAsked requests answers i
+    asked i h answers e = record { asked = omega (arith, a .asked); place = omega (arith, a .places, e) }
 
     pub next : (i : ℕ) → i < n → (b : Board) (answers : List ℕ) (k : ℕ) → So i b answers k
         → (b′ : Board) (answers′ : List ℕ) (k′ : ℕ) → TurnCut p ordered b requests bytes answers i k b′ answers′ k′ → So (i + 1) b′ answers′ k′
