@@ -151,10 +151,8 @@ pub fn write_limited(
             count,
             bytes,
         );
-        return Limited {
-            answer,
-            left: budget - ops,
-        };
+        let left = budget - ops;
+        return Limited { answer, left };
     }
     let k = budget as usize;
     cut(

@@ -43,8 +43,8 @@ add-ops c = omega (arith, c .before .room-ops .ensures .1, alpha-few _ _ _ (c .b
 write-orderly-requires : tie.Need-write-orderly-requires
 write-orderly-requires c κs = search needs
 
-sub-t49 : tie.Need-sub-t49
-sub-t49 c = search needs
+sub-left : tie.Need-sub-left
+sub-left c = search needs
 
 same-length : tie.Need-same-length
 same-length c = search needs
@@ -145,7 +145,7 @@ write-limited-spec =
     room-ops-requires
     add-ops
     write-orderly-requires
-    sub-t49
+    sub-left
     same-length
     same-length-2
     same-length-3
