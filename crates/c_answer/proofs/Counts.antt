@@ -2,7 +2,7 @@
 -- Assumes nothing.
 use mathlib.Core.Path.{_≡_, ap, _∙_}
 use mathlib.Core.Logic.{_⊎_, inl, inr}
-use mathlib.Core.Bool.{false}
+use mathlib.Core.Bool.{Bool, true, false, cond}
 use mathlib.Core.List.{[]}
 use Prim.Native.Nat.{ℕ, _<_}
 use native.Mathlib.Omega.{arith}
@@ -14,6 +14,7 @@ use Rattle.rules.specs.Traces.{programsIn}
 use Rattle.rules.specs.Requests.{Call, format, itemRequests, queue, read, release, start, write}
 use Rattle.rules.specs.Replies.{isAccepted, replyOf}
 use Rattle.rules.specs.Calls.{Work, answerOf, outcomeOf}
+use Rattle.rules.specs.Cuts.{Step, cutOutcome, isCut, limited, plain, stepOutcome}
 use Rattle.rules.proofs.Admitted.{write-checks}
 use Rattle.rules.proofs.Counts.{format-programs, start-counts}
 use Rattle.rules.proofs.Outcomes.{all-answer, call-refused, format-accepted, queue-accepted, read-accepted, release-accepted, reply-cases, start-accepted, write-accepted}
@@ -39,3 +40,13 @@ few-programs p b c = go (reply-cases (replyOf p b c))
     go : (replyOf p b c ≡ Accepted) ⊎ (isAccepted (replyOf p b c) ≡ false) → (outcomeOf p b c) .answer .programs < 65536
     go (inl e) = accepted-few p b c e
     go (inr e) = rw (call-refused p b c e) (omega arith)
+
+-- with any budget
+pub few-step : (p : Params) (b : Board) (s : Step) → (stepOutcome p b s) .answer .programs < 65536
+unfolding stepOutcome
+few-step p b (plain c) = few-programs p b c
+few-step p b (limited k c) = go (isCut p b (limited k c))
+  where
+    go : (t : Bool) → (cond t (cutOutcome p b k c) (outcomeOf p b c)) .answer .programs < 65536
+    go true = unfold cutOutcome answerOf programsIn in omega arith
+    go false = few-programs p b c

@@ -1,7 +1,7 @@
 -- The turns of a queue with a budget: what one leaves, and that after i of them what is left to serve comes to the same as the whole.
 -- Assumes nothing.
 use mathlib.Core.Path.{_≡_, refl, sym, ap, _∙_}
-use mathlib.Core.Bool.{Bool, true, false, cond}
+use mathlib.Core.Bool.{Bool, cond}
 use mathlib.Core.List.{List}
 use Prim.Native.Nat.{ℕ, _+_, _*_, _<_, _≤_}
 use native.Mathlib.Omega.{arith}
@@ -12,16 +12,14 @@ use Rattle.rules.specs.declared.Params.{Params}
 use Rattle.rules.specs.declared.Answer.{Answer}
 use Rattle.rules.specs.declared.Item.{Item}
 use Rattle.rules.specs.Tables.{Board}
-use Rattle.rules.specs.Traces.{programsIn}
 use Rattle.rules.specs.Requests.{itemOf, itemRequest, write}
-use Rattle.rules.specs.Calls.{answerOf, outcomeOf}
-use Rattle.rules.specs.Cuts.{cutOutcome, isCut, limited, stepOutcome}
+use Rattle.rules.specs.Cuts.{limited}
 use Rattle.queue_turns.specs.Limited.{Stage, itemStep, leftAfter, turnOf, turnsFrom}
 use Rattle.queue_turns.proofs.Limited.{none-taken, one-taken}
 use Rattle.queue_head.specs.Heads.{Ready}
 use Rattle.queue_item.specs.Items.{ItemLimited}
 use Rattle.c_answer.specs.Packed.{packed}
-use Rattle.c_answer.proofs.Counts.{few-programs}
+use Rattle.c_answer.proofs.Counts.{few-step}
 use Rattle.c_queue.specs.Flat.{TurnAsked, TurnsAsked, itemsOf, requestAt}
 use Rattle.c_queue.proofs.Requests.{items-at}
 use Rattle.c_queue_cut.specs.Cut.{TurnCut, stage}
@@ -30,12 +28,8 @@ use Rattle.c_queue_cut.specs.Cut.{TurnCut, stage}
 
 -- no item programs more pages than have room in its number, with any budget
 pub few-limited : (p : Params) (ordered : Bool) (b : Board) (bytes : List ℕ) (k : ℕ) (it : Item) (a : Answer) (rest : ℕ) (b′ : Board) → ItemLimited p ordered b bytes k it a rest b′ → a .programs < 65536
-unfolding itemStep stepOutcome
-few-limited p ordered b bytes k it a rest b′ h = rw (h .answered) (go (isCut p b (limited k (write (itemRequest p bytes it)))))
-  where
-    go : (t : Bool) → (cond t (cutOutcome p b k (write (itemRequest p bytes it))) (outcomeOf p b (write (itemRequest p bytes it)))) .answer .programs < 65536
-    go true = unfold cutOutcome answerOf programsIn in omega arith
-    go false = few-programs p b (write (itemRequest p bytes it))
+unfolding itemStep
+few-limited p ordered b bytes k it a rest b′ h = rw (h .answered) (few-step p b (limited k (write (itemRequest p bytes it))))
 
 module _ (p : Params) (ordered : Bool) (b : Board) (requests bytes answers : List ℕ) (i : ℕ) where
   -- with nothing left nothing is done

@@ -3,8 +3,10 @@ ghost use mathlib.Core.Path.{_≡_};
 ghost use mathlib.Core.List.{[]};
 ghost use Rattle.rules.specs.Lent.{entryBoard, exitBoard};
 ghost use Rattle.rules.specs.Calls.{outcomeOf};
+ghost use Rattle.rules.specs.Cuts.{limited, stepOutcome};
 ghost use Rattle.rules.specs.Requests.{format, read, write, release, start, requestOf};
 ghost use Rattle.c_queue.specs.Flat.{flatCall, flatOutcome};
+ghost use Rattle.c_queue_cut.specs.Cut.{flatCut};
 ghost use Rattle.c_answer.specs.Packed.{paramsOf};
 ghost use Rattle.cnftl.specs.Packed.{Given};
 ghost use Rattle.cnftl.specs.Listed.{Listed};
@@ -43,6 +45,33 @@ pub extern "C" fn cnftl_format(
     c_answer::pack(calls::format(p, chip, ct, bt, fst, bst, wear, marks, stamps))
 }
 
+// The same with a budget of erases.
+#[no_mangle]
+pub extern "C" fn cnftl_format_cut(
+    s: u32,
+    alpha: u32,
+    beta: u32,
+    d: u32,
+    mu: u32,
+    gamma: u32,
+    c: u32,
+    n: u32,
+    chip: &mut [u8],
+    ct: &mut [u16],
+    bt: &mut [u16],
+    fst: &mut [u16],
+    bst: &mut [u8],
+    wear: &mut [u32],
+    marks: &mut [u64],
+    stamps: &mut [u32],
+    budget: u64,
+) -> u64
+    ensures { λ word. ⌜ Given (stepOutcome (paramsOf s alpha beta d mu gamma c n) (entryBoard chip ct bt fst bst wear marks stamps) (limited budget format)) word [] (exitBoard chip ct bt fst bst wear marks stamps) ⌝ }
+{
+    let p = c_answer::params(s, alpha, beta, d, mu, gamma, c, n);
+    c_answer::pack(calls::format_cut(p, chip, ct, bt, fst, bst, wear, marks, stamps, budget))
+}
+
 // Document 02's start.
 #[no_mangle]
 pub extern "C" fn cnftl_start(
@@ -67,6 +96,33 @@ pub extern "C" fn cnftl_start(
 {
     let p = c_answer::params(s, alpha, beta, d, mu, gamma, c, n);
     c_answer::pack(calls::start(p, chip, ct, bt, fst, bst, wear, marks, stamps))
+}
+
+// The same with a budget of erases.
+#[no_mangle]
+pub extern "C" fn cnftl_start_cut(
+    s: u32,
+    alpha: u32,
+    beta: u32,
+    d: u32,
+    mu: u32,
+    gamma: u32,
+    c: u32,
+    n: u32,
+    chip: &mut [u8],
+    ct: &mut [u16],
+    bt: &mut [u16],
+    fst: &mut [u16],
+    bst: &mut [u8],
+    wear: &mut [u32],
+    marks: &mut [u64],
+    stamps: &mut [u32],
+    budget: u64,
+) -> u64
+    ensures { λ word. ⌜ Given (stepOutcome (paramsOf s alpha beta d mu gamma c n) (entryBoard chip ct bt fst bst wear marks stamps) (limited budget start)) word [] (exitBoard chip ct bt fst bst wear marks stamps) ⌝ }
+{
+    let p = c_answer::params(s, alpha, beta, d, mu, gamma, c, n);
+    c_answer::pack(calls::start_cut(p, chip, ct, bt, fst, bst, wear, marks, stamps, budget))
 }
 
 // Document 01's read.
@@ -155,6 +211,51 @@ pub extern "C" fn cnftl_write(
     ))
 }
 
+// The same with a budget of programs and erases.
+#[no_mangle]
+pub extern "C" fn cnftl_write_cut(
+    s: u32,
+    alpha: u32,
+    beta: u32,
+    d: u32,
+    mu: u32,
+    gamma: u32,
+    c: u32,
+    n: u32,
+    chip: &mut [u8],
+    ct: &mut [u16],
+    bt: &mut [u16],
+    fst: &mut [u16],
+    bst: &mut [u8],
+    wear: &mut [u32],
+    marks: &mut [u64],
+    stamps: &mut [u32],
+    lba: u32,
+    count: u32,
+    bytes: &[u8],
+    budget: u64,
+) -> u64
+    ensures { λ word. ⌜ Given (stepOutcome (paramsOf s alpha beta d mu gamma c n) (entryBoard chip ct bt fst bst wear marks stamps) (limited budget (write (requestOf lba count (now (bytes .entry))))))
+        word (now (bytes .entry)) (exitBoard chip ct bt fst bst wear marks stamps) ⌝ }
+{
+    let p = c_answer::params(s, alpha, beta, d, mu, gamma, c, n);
+    c_answer::pack(calls::write_cut(
+        p,
+        chip,
+        ct,
+        bt,
+        fst,
+        bst,
+        wear,
+        marks,
+        stamps,
+        lba,
+        count,
+        bytes,
+        budget,
+    ))
+}
+
 // Document 02's queue of writes, from flat lists.
 #[no_mangle]
 pub extern "C" fn cnftl_queue(
@@ -195,6 +296,51 @@ pub extern "C" fn cnftl_queue(
         requests,
         bytes,
         answers,
+    )
+}
+
+// The same with a budget of programs and erases.
+#[no_mangle]
+pub extern "C" fn cnftl_queue_cut(
+    s: u32,
+    alpha: u32,
+    beta: u32,
+    d: u32,
+    mu: u32,
+    gamma: u32,
+    c: u32,
+    n: u32,
+    chip: &mut [u8],
+    ct: &mut [u16],
+    bt: &mut [u16],
+    fst: &mut [u16],
+    bst: &mut [u8],
+    wear: &mut [u32],
+    marks: &mut [u64],
+    stamps: &mut [u32],
+    requests: &[u32],
+    bytes: &[u8],
+    answers: &mut [u64],
+    budget: u64,
+) -> u64
+    ensures { λ word. ⌜ flatOutcome word (now (answers .exit)) (exitBoard chip ct bt fst bst wear marks stamps) ≡ flatCut (paramsOf s alpha beta d mu gamma c n)
+        (entryBoard chip ct bt fst bst wear marks stamps) budget (now (requests .entry)) (now (bytes .entry)) (now (answers .entry)) ⌝ }
+{
+    let p = c_answer::params(s, alpha, beta, d, mu, gamma, c, n);
+    c_queue_cut::queue_cut(
+        p,
+        chip,
+        ct,
+        bt,
+        fst,
+        bst,
+        wear,
+        marks,
+        stamps,
+        requests,
+        bytes,
+        answers,
+        budget,
     )
 }
 
