@@ -1,6 +1,6 @@
 -- A write with a budget, over the numbers that the code has: with more than its operations it is the plain write, and else the cut one.
 -- Assumes nothing.
-use mathlib.Core.Path.{_≡_, refl, sym, ap, _∙_}
+use mathlib.Core.Path.{_≡_, refl, sym, ap, ap₂, _∙_}
 use mathlib.Core.List.{List, []}
 use Prim.Native.Nat.{ℕ, _+_, _-_, _≤_, _<_}
 use native.Mathlib.Omega.{arith}
@@ -11,7 +11,6 @@ use Rattle.rules.specs.declared.Reply.the-variants.{Accepted}
 use Rattle.rules.specs.Numbers.{regionOf}
 use Rattle.rules.specs.Tables.{Board, boardOf}
 use Rattle.rules.specs.Regions.{view, viewOf}
-use Rattle.rules.specs.Traces.{erasesIn, programsIn}
 use Rattle.rules.specs.Marks.{marksOf}
 use Rattle.rules.specs.Write.{Plan, continues, opens, reclaims, planOf, roomOps, writeOps}
 use Rattle.rules.specs.Requests.{Request, requestCluster, requestRegion, write}
@@ -24,10 +23,6 @@ use Rattle.write_room.specs.Rooms.{RoomAsked}
 use Rattle.write_work.proofs.Writes as writes
 use Rattle.cut_write.specs.Cut.{CountAsked, CutAsked}
 use Rattle.cut_write.proofs.Firsts.{ops-length}
-
--- the answer of a call that was cut
-abbrev pub nothing : Answer
-nothing = record { reply = Accepted; programs = 0; erases = 0; looks = 0 }
 
 module _ (p : Params) (b : Board) (q : Request) (e : replyOf p b (write q) ≡ Accepted) (c r : ℕ) (ec : c ≡ requestCluster p q) (er : r ≡ regionOf p c) where
   pub region-is : r ≡ requestRegion p q
@@ -67,9 +62,9 @@ module _ (p : Params) (b : Board) (q : Request) (e : replyOf p b (write q) ≡ A
       whole budget ops eo more o x = x ∙ sym (step-whole p b budget (write q) _ _ _ _ (write-work p b q e) (omega (arith, all-is)))
 
       -- as many or fewer: the cut one
-      pub cut-is : (budget ops : ℕ) → ops ≡ room + p .alpha → budget ≤ ops → (b′ : Board) → b′ ≡ cutBoard p b (take budget (writeOps p b q))
-          → outcome nothing (q .bytes) [] b′ ≡ stepOutcome p b (limited budget (write q))
-      unfolding hasBudget answerOf programsIn erasesIn
-      cut-is budget ops eo few b′ x =
-          ap (outcome nothing (q .bytes) []) x
+      pub cut-is : (budget ops : ℕ) → ops ≡ room + p .alpha → budget ≤ ops → (x : Answer) → x ≡ answerOf Accepted [] 0 → (b′ : Board) → b′ ≡ cutBoard p b (take budget (writeOps p b q))
+          → outcome x (q .bytes) [] b′ ≡ stepOutcome p b (limited budget (write q))
+      unfolding hasBudget
+      cut-is budget ops eo few x ex b′ eb =
+          ap₂ {C = Outcome} (λ (i : Answer) (j : Board). outcome i (q .bytes) [] j) ex eb
           ∙ sym (step-cut p b budget (write q) _ _ _ _ (write-work p b q e) refl (omega (arith, all-is)))

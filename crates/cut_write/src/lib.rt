@@ -13,6 +13,7 @@ ghost use Rattle.rules.specs.Marks.{marksOf};
 ghost use Rattle.rules.specs.Write.{roomOps, writeOps};
 ghost use Rattle.rules.specs.Requests.{write, requestOf};
 ghost use Rattle.rules.specs.Replies.{replyOf};
+ghost use Rattle.rules.specs.Calls.{answerOf};
 ghost use Rattle.rules.specs.Cuts.{cutBoard, limited, stepOutcome};
 ghost use Rattle.outcomes.specs.Claims.{outcome};
 ghost use Rattle.write_plan.specs.Plans.{planIs};
@@ -26,6 +27,23 @@ use write_plan::Planned;
 pub struct Limited {
     pub answer: Answer,
     pub left: u64,
+}
+
+// What a write answers that was cut: reply 0 with counts 0,
+// and nothing is left of its budget.
+fn spent() -> Limited
+    ensures { λ l. ⌜ l .answer ≡ answerOf Reply.Accepted [] 0 ⌝ }
+    ensures { λ l. ⌜ l .left ≡ 0 ⌝ }
+{
+    Limited {
+        answer: Answer {
+            reply: Reply::Accepted,
+            programs: 0,
+            erases: 0,
+            looks: 0,
+        },
+        left: 0,
+    }
 }
 
 // How many operations make a plan's room: α for each frame that is copied, and the erase;
@@ -92,15 +110,17 @@ fn cut(
     pl: Planned,
     room: usize,
     k: usize,
-)
+) -> Limited
     requires { ⌜ CutAsked p (boardOf (now chip) (now ct) (now bt) (now fst) (now bst) (now wear) (now marks) (now stamps)) (requestOf lba count (now bytes)) r (planIs pl) room k ⌝ }
+    ensures { λ l. ⌜ l .answer ≡ answerOf Reply.Accepted [] 0 ⌝ }
+    ensures { λ l. ⌜ l .left ≡ 0 ⌝ }
     ensures { λ _. ⌜ exitBoard chip ct bt fst bst wear marks stamps ≡ cutBoard p (entryBoard chip ct bt fst bst wear marks stamps)
         (take k (writeOps p (entryBoard chip ct bt fst bst wear marks stamps) (requestOf lba count (now (bytes .entry))))) ⌝ }
 {
     if k < room {
         cut_room(p, chip, bt, bst, wear, marks, r, pl, k);
         chip_lost::lose(ct, bt, fst, bst, marks, stamps);
-        return;
+        return spent();
     }
     let made = write_room::make_room(p, chip, ct, bt, bst, wear, marks, r, pl);
     let old = read_work::find_frame(p, chip, ct, bt, rules::cluster_of(p, lba));
@@ -108,6 +128,7 @@ fn cut(
     let f = made.frame;
     write_cluster::put_pages(p, chip, bt, stamps, lba, count, bytes, old, v, f, k - room);
     chip_lost::lose(ct, bt, fst, bst, marks, stamps);
+    spent()
 }
 
 // The work of a write with a budget, once it has passed its checks:
@@ -154,7 +175,6 @@ pub fn write_limited(
         let left = budget - ops;
         return Limited { answer, left };
     }
-    let k = budget as usize;
     cut(
         p,
         chip,
@@ -171,15 +191,6 @@ pub fn write_limited(
         r,
         pl,
         room,
-        k,
-    );
-    Limited {
-        answer: Answer {
-            reply: Reply::Accepted,
-            programs: 0,
-            erases: 0,
-            looks: 0,
-        },
-        left: 0,
-    }
+        budget as usize,
+    )
 }

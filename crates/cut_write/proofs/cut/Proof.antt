@@ -14,6 +14,9 @@ cut-room-requires c κs = copies-asked _ _ _ _ _ _ _ (c .before .before .before 
 lose-requires : tie.Need-lose-requires
 lose-requires c κs = search needs
 
+spent-requires : tie.Need-spent-requires
+spent-requires c κs = search needs
+
 same-length : tie.Need-same-length
 same-length c = search needs
 
@@ -40,11 +43,11 @@ same-length-8 c = search needs
 
 returns : tie.Need-returns
 returns c =
-    let at-lose = c .before .before .before .before .before .before .before .before .before .before .before .before in
+    let at-lose = c .before .before .before .before .before .before .before .before .before .before .before .before .before in
     let at-cut-room = at-lose .before .before .before .before .before .before .before .before .before in
     let at-if1 = at-cut-room .before .before .before .before .before .before in
     let start = at-if1 .before .before .before .before .before .before .before .before .before .before in
-    lost-room _ _ _ _ _ _ _ (start .pre) _ _ _ _ _ _ _ _ _ _ _ _ _ _ (at-lose .lose .ensures) refl refl refl refl refl refl (at-if1 .if1 .taken) refl (at-cut-room .cut-room .ensures)
+    (c .spent .ensures .0, (c .spent .ensures .1, lost-room _ _ _ _ _ _ _ (start .pre) _ _ _ _ _ _ _ _ _ _ _ _ _ _ (at-lose .lose .ensures) refl refl refl refl refl refl (at-if1 .if1 .taken) refl (at-cut-room .cut-room .ensures)))
 
 make-room-requires : tie.Need-make-room-requires
 make-room-requires c κs = room-asked _ _ _ _ _ _ _ (c .before .before .before .before .before .before .before .before .before .before .before .before .before .before .before .before .pre)
@@ -66,23 +69,26 @@ put-pages-requires c κs =
 lose-requires-2 : tie.Need-lose-requires-2
 lose-requires-2 c κs = search needs
 
+spent-requires-2 : tie.Need-spent-requires-2
+spent-requires-2 c κs = search needs
+
 same-length-9 : tie.Need-same-length-9
-same-length-9 c = c .before .before .before .before .before .before .before .before .before .before .before .before .before .before .before .before .before .before .before .before .before .before .chip3 .given ∙ c .before .before .before .before .before .before .before .before .before .before .before .before .before .before .before .before .before .before .before .before .before .before .before .before .before .before .before .before .before .before .before .before .before .before .before .before .before .before .before .before .before .before .chip2 .given
+same-length-9 c = c .before .before .before .before .before .before .before .before .before .before .before .before .before .before .before .before .before .before .before .before .before .before .before .chip3 .given ∙ c .before .before .before .before .before .before .before .before .before .before .before .before .before .before .before .before .before .before .before .before .before .before .before .before .before .before .before .before .before .before .before .before .before .before .before .before .before .before .before .before .before .before .before .chip2 .given
 
 same-length-10 : tie.Need-same-length-10
-same-length-10 c = c .before .before .before .before .before .before .before .before .before .before .before .ct3 .given ∙ c .before .before .before .before .before .before .before .before .before .before .before .before .before .before .before .before .before .before .before .before .before .before .before .before .before .before .before .before .before .before .before .before .before .before .before .before .before .before .before .before .ct2 .given
+same-length-10 c = c .before .before .before .before .before .before .before .before .before .before .before .before .ct3 .given ∙ c .before .before .before .before .before .before .before .before .before .before .before .before .before .before .before .before .before .before .before .before .before .before .before .before .before .before .before .before .before .before .before .before .before .before .before .before .before .before .before .before .before .ct2 .given
 
 same-length-11 : tie.Need-same-length-11
-same-length-11 c = c .before .before .before .before .before .before .before .before .before .bt3 .given ∙ c .before .before .before .before .before .before .before .before .before .before .before .before .before .before .before .before .before .before .before .before .before .before .before .before .before .before .before .before .before .before .before .before .before .before .before .before .before .before .bt2 .given
+same-length-11 c = c .before .before .before .before .before .before .before .before .before .before .bt3 .given ∙ c .before .before .before .before .before .before .before .before .before .before .before .before .before .before .before .before .before .before .before .before .before .before .before .before .before .before .before .before .before .before .before .before .before .before .before .before .before .before .before .bt2 .given
 
 same-length-12 : tie.Need-same-length-12
 same-length-12 c = search needs
 
 same-length-13 : tie.Need-same-length-13
-same-length-13 c = c .before .before .before .before .before .bst3 .given ∙ c .before .before .before .before .before .before .before .before .before .before .before .before .before .before .before .before .before .before .before .before .before .before .before .before .before .before .before .before .before .before .before .before .before .before .before .before .bst2 .given
+same-length-13 c = c .before .before .before .before .before .before .bst3 .given ∙ c .before .before .before .before .before .before .before .before .before .before .before .before .before .before .before .before .before .before .before .before .before .before .before .before .before .before .before .before .before .before .before .before .before .before .before .before .before .bst2 .given
 
 same-length-14 : tie.Need-same-length-14
-same-length-14 c = c .before .before .before .before .before .before .before .before .before .before .before .before .before .before .before .before .before .before .before .before .before .before .before .before .before .before .before .before .before .before .before .before .before .before .wear .given
+same-length-14 c = c .before .before .before .before .before .before .before .before .before .before .before .before .before .before .before .before .before .before .before .before .before .before .before .before .before .before .before .before .before .before .before .before .before .before .before .wear .given
 
 same-length-15 : tie.Need-same-length-15
 same-length-15 c = search needs
@@ -92,16 +98,21 @@ same-length-16 c = search needs
 
 returns-2 : tie.Need-returns-2
 returns-2 c =
-    let at-lose = c .before .before .before .before .before .before .before .before .before .before .before .before in
+    let at-lose = c .before .before .before .before .before .before .before .before .before .before .before .before .before in
     let at-put-pages = at-lose .before .before .before .before .before .before .before .before .before .before .before in
     let at-find-frame = at-put-pages .before .before .before .before .before in
     let at-cluster-of = at-find-frame .before in
     let at-make-room = at-cluster-of .before .before .before .before .before .before .before .before .before .before .before .before .before .before in
     let at-if1 = at-make-room .before .before .before .before .before .before .before in
-    let start = at-if1 .before .before .before .before .before .before .before .before .before .before in
-    lost-pages _ _ _ _ _ _ _ (start .pre) _ _ _ _ _ _ _ _ _ _ _ _ _ _ (at-lose .lose2 .ensures) (c .before .before .before .before .before .before .before .before .before .before .before .before .before .before .before .before .before .before .before .before .before .before .before .before .before .before .before .before .before .before .before .before .before .before .before .before .before .before .before .before .ct2 .given) (c .before .before .before .before .before .before .before .before .before .before .before .before .before .before .before .before .before .before .before .before .before .before .before .before .before .before .before .before .before .before .before .before .before .before .before .before .before .before .bt2 .given) refl (c .before .before .before .before .before .before .before .before .before .before .before .before .before .before .before .before .before .before .before .before .before .before .before .before .before .before .before .before .before .before .before .before .before .before .before .before .bst2 .given) refl
-    (c .before .before .before .before .before .before .before .before .before .before .before .before .before .before .before .before .before .before .before .before .stamps2 .given) (omega (arith, at-if1 .if1 .left)) _ _ _ _ _ _ _ _ _ (at-make-room .make-room .ensures) _ _ (rw (at-cluster-of .cluster-of .ensures) at (at-find-frame .find-frame .ensures .0))
-    (at-put-pages .put-pages .ensures)
+    let start = at-if1 .before .before .before .before .before .before .before .before .before .before in (
+      c .spent2 .ensures .0,
+      (
+        c .spent2 .ensures .1,
+        lost-pages _ _ _ _ _ _ _ (start .pre) _ _ _ _ _ _ _ _ _ _ _ _ _ _ (at-lose .lose2 .ensures) (c .before .before .before .before .before .before .before .before .before .before .before .before .before .before .before .before .before .before .before .before .before .before .before .before .before .before .before .before .before .before .before .before .before .before .before .before .before .before .before .before .before .ct2 .given) (c .before .before .before .before .before .before .before .before .before .before .before .before .before .before .before .before .before .before .before .before .before .before .before .before .before .before .before .before .before .before .before .before .before .before .before .before .before .before .before .bt2 .given) refl (c .before .before .before .before .before .before .before .before .before .before .before .before .before .before .before .before .before .before .before .before .before .before .before .before .before .before .before .before .before .before .before .before .before .before .before .before .before .bst2 .given) refl
+            (c .before .before .before .before .before .before .before .before .before .before .before .before .before .before .before .before .before .before .before .before .before .stamps2 .given) (omega (arith, at-if1 .if1 .left)) _ _ _ _ _ _ _ _ _ (at-make-room .make-room .ensures) _ _ (rw (at-cluster-of .cluster-of .ensures) at (at-find-frame .find-frame .ensures .0))
+            (at-put-pages .put-pages .ensures),
+      ),
+    )
 
 pub cut-spec : {M : Type 1} → statement M
 cut-spec =
@@ -109,6 +120,7 @@ cut-spec =
     (tie.spec
     cut-room-requires
     lose-requires
+    spent-requires
     same-length
     same-length-2
     same-length-3
@@ -123,6 +135,7 @@ cut-spec =
     find-frame-requires
     put-pages-requires
     lose-requires-2
+    spent-requires-2
     same-length-9
     same-length-10
     same-length-11

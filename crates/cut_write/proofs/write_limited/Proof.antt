@@ -1,6 +1,6 @@
 -- `cut_write::write_limited`: the plan's operations are counted, and the budget is compared with them.
 -- Assumes nothing.
-use mathlib.Core.Path.{refl}
+use mathlib.Core.Path.{refl, _∙_}
 use native.Mathlib.Omega.{arith}
 use borrow.Author.Needs.{needs}
 use Rattle.rules.specs.Tables.{Board, boardOf}
@@ -130,8 +130,8 @@ returns-2 c =
     let at-cluster-of = at-region-of .before in
     let start = at-cluster-of .before .before .before .before .before .before .before .before .before .before in (
       cut-is _ (board start) (request start) (start .pre) _ _ (at-cluster-of .cluster-of .ensures) (at-region-of .region-of .ensures) _ (at-plan-of .plan-of .ensures) _
-          (at-room-ops .room-ops .ensures .0) _ _ refl (omega (arith, at-if1 .if1 .left)) _ (at-cut .cut .ensures),
-      none-left _ (board start) (request start) (start .pre) _ _ (at-cluster-of .cluster-of .ensures) (at-region-of .region-of .ensures) _ (at-plan-of .plan-of .ensures) _
+          (at-room-ops .room-ops .ensures .0) _ _ refl (omega (arith, at-if1 .if1 .left)) _ (at-cut .cut .ensures .0) _ (at-cut .cut .ensures .1 .1),
+      at-cut .cut .ensures .1 .0 ∙ none-left _ (board start) (request start) (start .pre) _ _ (at-cluster-of .cluster-of .ensures) (at-region-of .region-of .ensures) _ (at-plan-of .plan-of .ensures) _
           (at-room-ops .room-ops .ensures .0) _ _ refl (omega (arith, at-if1 .if1 .left)),
     )
 
