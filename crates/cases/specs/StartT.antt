@@ -6,6 +6,7 @@ use mathlib.Core.List.{List, [], _∷_, _++_}
 use lib.ListN.{take, getD, set, replicate}
 use Rattle.lists.specs.Below.{joinBelow}
 use Rattle.lists.specs.Parts.{putPart}
+use Rattle.rules.specs.Numbers.{segmentOf}
 use Rattle.rules.specs.Tables.{Board, boardOf, none, wordAt}
 use Rattle.rules.specs.Regions.{sector}
 use Rattle.rules.specs.Pages.{block}
@@ -55,7 +56,7 @@ startSaid =
     ((0 ∷ 0 ∷ 0 ∷ [])
     ∷ (3 ∷ 0 ∷ 1 ∷ none ∷ 2 ∷ none ∷ [])
     ∷ (0 ∷ 2 ∷ 1 ∷ none ∷ [])
-    ∷ (1 ∷ 0 ∷ [])
+    ∷ (segmentOf boardT 0 1 ∷ 0 ∷ [])
     ∷ (1 ∷ 1 ∷ 1 ∷ 0 ∷ 0 ∷ [])
     ∷ (1 ∷ 1 ∷ 1 ∷ 1 ∷ 1 ∷ [])
     ∷ (4 ∷ 1 ∷ [])
