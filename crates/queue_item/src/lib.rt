@@ -90,15 +90,15 @@ pub fn item_limited(
         (exitBoard chip ct bt fst bst wear marks stamps) ⌝ }
 {
     let fits = has_bytes(p, bytes.len(), count, first);
-    let reply = reply_rows::item_reply(p, ordered, stamps, lba, count, fits);
-    if rules::number(reply) != 0 {
+    let refusal = reply_rows::item_reply(p, ordered, stamps, lba, count, fits);
+    if rules::number(refusal) != 0 {
         return Limited {
-            answer: reply_rows::idle(reply),
+            answer: reply_rows::idle(refusal),
             left: budget,
         };
     }
-    let from = first as usize;
-    let to = from + count as usize * p.s;
+    let begin = first as usize;
+    let to = begin + count as usize * p.s;
     cut_write::write_limited(
         p,
         chip,
@@ -111,7 +111,7 @@ pub fn item_limited(
         stamps,
         lba as usize,
         count as usize,
-        &bytes[from..to],
+        &bytes[begin..to],
         budget,
     )
 }
