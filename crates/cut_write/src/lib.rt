@@ -123,10 +123,25 @@ fn cut(
         return spent();
     }
     let made = write_room::make_room(p, chip, ct, bt, bst, wear, marks, r, pl);
-    let old = read_work::find_frame(p, chip, ct, bt, rules::cluster_of(p, lba));
+    let c = rules::cluster_of(p, lba);
+    let old = read_work::find_frame(p, chip, ct, bt, c);
     let v = made.vblock;
     let f = made.frame;
-    write_cluster::put_pages(p, chip, bt, stamps, lba, count, bytes, old, v, f, k - room);
+    write_cluster::put_pages(
+        p,
+        chip,
+        bt,
+        stamps,
+        c,
+        r,
+        lba,
+        count,
+        bytes,
+        old,
+        v,
+        f,
+        k - room,
+    );
     chip_lost::lose(ct, bt, fst, bst, marks, stamps);
     spent()
 }

@@ -1,9 +1,10 @@
 -- `cut_write::cut`: within the room only copies are made; behind it the room is made whole, and pages of the new frame. The tables are lost in either case, so that
 -- only their lengths matter.
 -- Assumes nothing.
-use mathlib.Core.Path.{refl, _∙_}
+use mathlib.Core.Path.{refl, sym, ap, _∙_}
 use native.Mathlib.Omega.{arith}
 use borrow.Author.Needs.{needs}
+use Rattle.rules.specs.Numbers.{regionOf}
 use Rattle.cut_write.proofs.Leaves.{copies-asked, lookup-asked, lost-pages, lost-room, pages-few, put-asked, room-asked, sectors}
 use Rattle.cut_write.proofs.cut.Statement.{statement}
 use Rattle.cut_write.proofs.cut.Tie as tie
@@ -53,17 +54,25 @@ make-room-requires : tie.Need-make-room-requires
 make-room-requires c κs = room-asked _ _ _ _ _ _ _ (c .before .before .before .before .before .before .before .before .before .before .before .before .before .before .before .before .pre)
 
 cluster-of-requires : tie.Need-cluster-of-requires
-cluster-of-requires c κs = sectors _ _ _ _ _ _ _ (c .before .before .before .before .before .before .before .before .before .before .before .before .before .before .before .before .before .before .before .before .before .before .before .before .before .before .before .before .before .before .pre)
+cluster-of-requires c κs = sectors _ _ _ _ _ _ _ (c .before .before .before .before .before .before .before .before .before .before .before .before .before .before .before .before .before .before .before .before .before .before .before .before .before .before .before .pre)
 
 find-frame-requires : tie.Need-find-frame-requires
 find-frame-requires c κs =
-    lookup-asked _ _ _ _ _ _ _ (c .before .before .before .before .before .before .before .before .before .before .before .before .before .before .before .before .before .before .before .before .before .before .before .before .before .before .before .before .before .before .before .pre) _ _ _ _ _ _ _ _ _ (c .before .before .before .before .before .before .before .before .before .before .before .before .before .before .make-room .ensures) _ (c .cluster-of .ensures)
+    lookup-asked _ _ _ _ _ _ _ (c .before .before .before .before .before .before .before .before .before .before .before .before .before .before .before .before .before .before .before .before .before .before .before .before .before .before .before .before .before .before .before .pre) _ _ _ _ _ _ _ _ _ (c .before .before .before .before .before .before .before .before .before .before .before .before .before .before .make-room .ensures) _ (c .before .before .before .cluster-of .ensures)
 
 put-pages-requires : tie.Need-put-pages-requires
 put-pages-requires c κs =
-    let start = c .before .before .before .before .before .before .before .before .before .before .before .before .before .before .before .before .before .before .before .before .before .before .before .before .before .before .before .before .before .before .before .before .before .before .before .before in (
-      put-asked _ _ _ _ _ _ _ (start .pre) _ _ _ _ _ _ _ _ _ (c .before .before .before .before .before .before .before .before .before .before .before .before .before .before .before .before .before .before .before .make-room .ensures) _ _ (rw (c .before .before .before .before .before .cluster-of .ensures) at (c .before .before .before .before .find-frame .ensures .0)),
-      pages-few _ _ _ _ _ _ _ (start .pre),
+    let at-cluster-of = c .before .before .before .before .before .before .before .before in
+    let start = c .before .before .before .before .before .before .before .before .before .before .before .before .before .before .before .before .before .before .before .before .before .before .before .before .before .before .before .before .before .before .before .before .before .before .before .before in
+    let same = at-cluster-of .cluster-of .ensures in (
+      same,
+      (
+        start .pre .region ∙ sym (ap (regionOf (start .args .p)) same),
+        (
+          put-asked _ _ _ _ _ _ _ (start .pre) _ _ _ _ _ _ _ _ _ (c .before .before .before .before .before .before .before .before .before .before .before .before .before .before .before .before .before .before .before .make-room .ensures) _ _ (rw same at (c .before .before .before .before .find-frame .ensures .0)),
+          pages-few _ _ _ _ _ _ _ (start .pre),
+        ),
+      ),
     )
 
 lose-requires-2 : tie.Need-lose-requires-2
@@ -101,8 +110,8 @@ returns-2 c =
     let at-lose = c .before .before .before .before .before .before .before .before .before .before .before .before .before in
     let at-put-pages = at-lose .before .before .before .before .before .before .before .before .before .before .before in
     let at-find-frame = at-put-pages .before .before .before .before .before in
-    let at-cluster-of = at-find-frame .before in
-    let at-make-room = at-cluster-of .before .before .before .before .before .before .before .before .before .before .before .before .before .before in
+    let at-cluster-of = at-find-frame .before .before .before .before in
+    let at-make-room = at-cluster-of .before .before .before .before .before .before .before .before .before .before .before in
     let at-if1 = at-make-room .before .before .before .before .before .before .before in
     let start = at-if1 .before .before .before .before .before .before .before .before .before .before in (
       c .spent2 .ensures .0,
