@@ -13,7 +13,7 @@ use borrow.Author.Tests.{leb-true, ltb-true}
 use Rattle.chip_pages.specs.Asked.{Blank, CopyAsked}
 use Rattle.loops.proofs.Lent.{width}
 use Rattle.chip_frames.specs.Frame.{PageAsked, HostAsked, firstPages, hostPage, pageSector, hostFrame, sectorsOf}
-use Rattle.chip_frames.proofs.Run.{run-length, run-all, run-next, run-other, run-more, page-fits, part-replicate}
+use Rattle.chip_frames.proofs.Run.{run-length, run-next, run-other, run-more, page-fits, part-replicate}
 use Rattle.lists.specs.Below.{joinBelow}
 use Rattle.lists.proofs.Tests.{and-left, and-right, so}
 use Rattle.lists.specs.Parts.{part, putPart}
@@ -141,6 +141,3 @@ module _ (chip : List ℕ) (s n to : ℕ) (kept : Bool) (old off count : ℕ) (b
       → u ≡ putPart (s + 16) (to * n + k) (hostPage s off count bytes (pageSector s kept (old * n + k) l) c k t v) l → u ≡ written (k + 1)
   page-done l u k h e g =
       g ∙ run-more (s + 16) n to sheet chip (f .fits) frame-whole l k _ e (rw (sector-is l k h e) (sym (page-is k h)))
-
-  pub all-done : written n ≡ putPart (n * (s + 16)) to sheet chip
-  all-done = run-all (s + 16) n to sheet chip (f .fits) frame-whole

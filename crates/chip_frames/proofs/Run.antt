@@ -1,14 +1,13 @@
 -- The pages of a frame, programmed one after the other.
 -- Assumes nothing.
-use Rattle.rules.proofs.Chip.{paste-more}
 use mathlib.Core.Path.{_≡_, refl, sym, ap, _∙_}
 use mathlib.Core.List.{List, [], _∷_, _++_, append-assoc}
 use Prim.Native.Nat.{ℕ, zero, suc, _+_, _*_, _-_, _≤_, _<_}
 use native.Mathlib.Numerals.{add-one}
 use native.Mathlib.Omega.{arith}
-use native.Mathlib.Nat.{suc-mul, zero-mul, le-mul-of-pos-right}
-use lib.ListN.{length, take, drop, replicate, length-replicate, replicate-append-replicate}
-use lib.Seq.{take-all, take-at, drop-at, paste, paste-zero}
+use native.Mathlib.Nat.{le-mul-of-pos-right}
+use lib.ListN.{length, replicate, length-replicate, replicate-append-replicate}
+use lib.Seq.{take-at, drop-at}
 use Rattle.chip_pages.specs.Asked.{Blank, CopyAsked}
 use Rattle.chip_frames.specs.Frame.{FrameAsked, firstPages}
 use Rattle.lists.specs.Parts.{part, putPart}
@@ -28,9 +27,6 @@ part-replicate w k m v h =
     )
 
 module _ (w n to : ℕ) (x chip : List ℕ) (fits : to * (n * w) + n * w ≤ length chip) (whole : length x ≡ n * w) where
-  address : (k : ℕ) → (to * n + k) * w ≡ to * (n * w) + k * w
-  address k = omega arith
-
   pub page-fits : (k : ℕ) → k < n → (to * n + k) * w + w ≤ length chip
   page-fits k h = omega (arith, next w k n h)
 
@@ -49,18 +45,6 @@ module _ (w n to : ℕ) (x chip : List ℕ) (fits : to * (n * w) + n * w ≤ len
   run-else q (suc k) h ne =
       put-other w (to * n + k) (part w k x) (firstPages w n to x chip k) (rw (run-length k (omega arith)) (page-fits k h)) (page-whole k h) q (ne k (omega arith))
       ∙ run-else q k (omega arith) (λ j m. ne j (omega arith))
-
-  pub run-is : (k : ℕ) → k ≤ n → firstPages w n to x chip k ≡ paste chip (to * (n * w)) x (k * w)
-  unfolding firstPages putPart part
-  run-is zero h = rw zero-mul (paste-zero chip (to * (n * w)) x)
-  run-is (suc k) h =
-      let i : k * w + w ≤ n * w = next w k n h in
-      rw (run-is k (omega arith), address k, suc-mul k w) (paste-more chip x (to * (n * w)) (k * w) w (omega arith) (omega arith))
-
-  -- all of them
-  pub run-all : firstPages w n to x chip n ≡ putPart (n * w) to x chip
-  unfolding putPart
-  run-all = run-is n (omega arith) ∙ rw (take-all (n * w) x (omega arith))
 
   -- the page before its program, and a page of another frame
   pub run-next : (k : ℕ) → k < n → part w (to * n + k) (firstPages w n to x chip k) ≡ part w k (part (n * w) to chip)
@@ -110,6 +94,3 @@ module _ (w n from to : ℕ) (chip : List ℕ) (f : FrameAsked chip w n from to)
   copy-done l u k h e g =
       g ∙ run-more w n to (part (n * w) from chip) chip (f .fits) frame-whole l k _ e
       (ap (part w (from * n + k)) e ∙ run-other w n to (part (n * w) from chip) chip (f .fits) frame-whole from k k (omega arith) h (f .apart))
-
-  pub copy-all : copied n ≡ putPart (n * w) to (part (n * w) from chip) chip
-  copy-all = run-all w n to (part (n * w) from chip) chip (f .fits) frame-whole
