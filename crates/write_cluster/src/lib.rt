@@ -83,21 +83,8 @@ pub fn put_cluster(
 {
     let c = rules::cluster_of(p, lba);
     let r = rules::region_of(p, c);
-    put_pages(
-        p,
-        chip,
-        bt,
-        stamps,
-        c,
-        r,
-        lba,
-        count,
-        bytes,
-        old,
-        v,
-        f,
-        p.alpha,
-    );
+    let all = p.alpha;
+    put_pages(p, chip, bt, stamps, c, r, lba, count, bytes, old, v, f, all);
     let sg = rules::segment_of(p, v, f);
     chip_tables::set_ct(ct, c, sg);
     chip_tables::set_fst(fst, r, sg);
