@@ -24,6 +24,7 @@
  */
 #include "cnftl.h"
 #include "model.h"
+#include "options.h"
 
 #include <assert.h>
 #include <inttypes.h>
@@ -901,17 +902,6 @@ static int usage(void)
     fprintf(stderr, "use: cuts [--cuts N] [--seed S] [--layer K]\n"
                     "     cuts --layers\n");
     return 2;
-}
-
-/* Reads a decimal number; false if it is none. */
-static bool number(const char *text, uint64_t *value)
-{
-    char *end;
-
-    if (text == NULL || *text < '0' || *text > '9')
-        return false;
-    *value = strtoull(text, &end, 10);
-    return *end == '\0';
 }
 
 /* Reads the options, runs, and reports. */

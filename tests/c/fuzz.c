@@ -21,6 +21,7 @@
  */
 #include "cnftl.h"
 #include "model.h"
+#include "options.h"
 
 #include <assert.h>
 #include <inttypes.h>
@@ -2481,17 +2482,6 @@ static int usage(void)
     fprintf(stderr, "use: fuzz [--calls N] [--seed S] [--mutant K]\n"
                     "     fuzz --mutants\n");
     return 2;
-}
-
-/* Reads a decimal number; false if it is none. */
-static bool number(const char *text, uint64_t *value)
-{
-    char *end;
-
-    if (text == NULL || *text < '0' || *text > '9')
-        return false;
-    *value = strtoull(text, &end, 10);
-    return *end == '\0';
 }
 
 /* Reads the options, runs, and reports. */

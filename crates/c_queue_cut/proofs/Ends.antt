@@ -2,7 +2,7 @@
 -- Assumes nothing.
 use mathlib.Core.Path.{_≡_, refl, sym, ap, ap₂, _∙_}
 use mathlib.Core.Logic.{_⊎_, inl, inr}
-use mathlib.Core.Bool.{Bool, true, false, _||_, cond, true≢false}
+use mathlib.Core.Bool.{true, false, _||_, cond, true≢false}
 use mathlib.Core.List.{List, [], map}
 use Prim.Native.Nat.{ℕ, _/_, _%_, _<_, _≤_}
 use native.Mathlib.Omega.{arith}
@@ -15,9 +15,9 @@ use Rattle.rules.specs.declared.Item.{Item}
 use Rattle.rules.specs.declared.Reply.{Reply}
 use Rattle.rules.specs.declared.Reply.the-variants.{Accepted, WrongLength}
 use Rattle.rules.specs.Tables.{Board, boardOf}
-use Rattle.rules.specs.Traces.{Op, replayChip, replayWear}
+use Rattle.rules.specs.Traces.{Op}
 use Rattle.rules.specs.Requests.{Call, Queue, itemRequests, queue}
-use Rattle.rules.specs.Replies.{badParameter, firstRow, isAccepted, lengthsFit, lentRows, numberOf, queueRows, replyOf, rowsOf, tooFewAnswers, wrongLength}
+use Rattle.rules.specs.Replies.{badParameter, firstRow, isAccepted, lengthsFit, lentRows, numberOf, queueRows, replyOf, rowsOf, wrongLength}
 use Rattle.rules.specs.Calls.{Work, answerOf, answersIn, opsOf, outcomeOf, over, queueWork, workOf, writeAll}
 use Rattle.rules.specs.Cuts.{cutBoard, cutOutcome, finished, hasBudget, isCut, limited, stepOutcome}
 use Rattle.rules.proofs.Admitted.{passed}

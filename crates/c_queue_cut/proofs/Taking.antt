@@ -1,20 +1,19 @@
 -- The turns of a queue with a budget: what one leaves, and that after i of them what is left to serve comes to the same as the whole.
 -- Assumes nothing.
 use mathlib.Core.Path.{_≡_, refl, sym, ap, _∙_}
-use mathlib.Core.Bool.{Bool, cond}
+use mathlib.Core.Bool.{Bool}
 use mathlib.Core.List.{List}
 use Prim.Native.Nat.{ℕ, _+_, _*_, _<_, _≤_}
 use native.Mathlib.Omega.{arith}
-use lib.Dec.{eqb}
 use lib.ListN.{drop, getD, length, set, take}
-use borrow.Author.Tests.{eq-eqb, ne-eqb}
+use borrow.Author.Tests.{ne-eqb}
 use Rattle.rules.specs.declared.Params.{Params}
 use Rattle.rules.specs.declared.Answer.{Answer}
 use Rattle.rules.specs.declared.Item.{Item}
 use Rattle.rules.specs.Tables.{Board}
 use Rattle.rules.specs.Requests.{itemOf, itemRequest, write}
 use Rattle.rules.specs.Cuts.{limited}
-use Rattle.queue_turns.specs.Limited.{Stage, itemStep, leftAfter, turnOf, turnsFrom}
+use Rattle.queue_turns.specs.Limited.{itemStep, turnOf, turnsFrom}
 use Rattle.queue_turns.proofs.Limited.{none-taken, one-taken}
 use Rattle.queue_head.specs.Heads.{Ready}
 use Rattle.queue_item.specs.Items.{ItemLimited}

@@ -3,16 +3,15 @@
 -- Assumes nothing.
 use mathlib.Core.Path.{_≡_, refl, sym, ap, ap₂, _∙_}
 use mathlib.Core.Logic.{_⊎_, inl, inr}
-use mathlib.Core.Bool.{Bool, true, false, cond, _&&_}
+use mathlib.Core.Bool.{Bool, true, false, cond}
 use mathlib.Core.List.{List, [], _∷_, _++_, append-assoc, append-nil, map}
 use Prim.Native.Nat.{ℕ, zero, suc, _+_, _-_, _<_, _≤_}
-use native.Mathlib.Nat.{add-zero, zero-add}
 use native.Mathlib.Omega.{arith}
 use native.Mathlib.Decide.{decLt}
-use lib.Dec.{eqb, leb, ltb}
+use lib.Dec.{leb}
 use lib.ListN.{drop, drop-of-length-le, length, length-append, length-set, set, take, take-append-drop}
 use lib.Seq.{take-all}
-use borrow.Author.Tests.{eq-eqb, le-leb, leb-false, leb-true, le-ltb, lt-leb, lt-ltb, ne-eqb}
+use borrow.Author.Tests.{le-leb, leb-false, leb-true, le-ltb, lt-leb, lt-ltb, ne-eqb}
 use Rattle.lists.proofs.Lists.{take-append}
 use Rattle.rules.specs.declared.Params.{Params}
 use Rattle.rules.specs.declared.Answer.{Answer}
@@ -24,8 +23,8 @@ use Rattle.rules.specs.Regions.{looksAt}
 use Rattle.rules.specs.Requests.{Queue, Request, itemRequest, itemRequests, lent, requestCluster, write}
 use Rattle.rules.specs.Replies.{isAccepted, replyOf}
 use Rattle.rules.specs.Write.{writeOps, written, writtenBy}
-use Rattle.rules.specs.Calls.{Outcome, Part, Work, answerOf, answersIn, opsOf, outcomeOf, over, refuses, single, workOf, writeAll, writeWork}
-use Rattle.rules.specs.Cuts.{cutBoard, cutOutcome, finished, hasBudget, isCut, limited, stepOutcome}
+use Rattle.rules.specs.Calls.{Outcome, Part, Work, answerOf, answersIn, opsOf, over, refuses, single, workOf, writeAll, writeWork}
+use Rattle.rules.specs.Cuts.{cutBoard, finished, hasBudget, limited, stepOutcome}
 use Rattle.rules.proofs.Chip.{replay-append}
 use Rattle.rules.proofs.Erases.{wear-append}
 use Rattle.rules.proofs.Outcomes.{call-refused, reply-cases, work-refused, write-accepted}
