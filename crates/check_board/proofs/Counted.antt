@@ -23,8 +23,8 @@ use Rattle.rules.specs.Pages.{block}
 use Rattle.rules.specs.Parameters.{frames}
 use Rattle.rules.specs.Regions.{view, viewOf}
 use Rattle.rules.specs.Tables.{Board, boardOf, btAt, ctAt, fstAt, none, marksLength, wordAt}
-use Rattle.rules.proofs.Admitted.{nine-region}
-use Rattle.rules.proofs.TableFacts.{nineRules}
+use Rattle.rules.proofs.Admitted.{eight-region}
+use Rattle.rules.proofs.TableFacts.{eightRules}
 use Rattle.rules.proofs.RegionFacts.{Entry, Neat, neat}
 use Rattle.rules.proofs.Sizes.{Sizes, sizes}
 use Rattle.check_rules.specs.Check.{Lengths, Lent, chipOk, clusterOk, clustersOk, fstOk, regionOk, tablesOk, vblockFrames, vblockOk}
@@ -43,8 +43,8 @@ use Rattle.check_board.proofs.Open.{frames-block, frames-of-rule, rule-
 use Rattle.check_board.proofs.Held.{Held, clusterIn, entry-held, frameNamed, held-named, held-ok, held-one, marked-held, vblockNamed}
 
 -- the nine rules of document 01, and that of the marks
-pub ten-is : (p : Params) (b : Board) → tenRules p b ≡ nineRules p b && marksRule p b
-unfolding tenRules nineRules rulesOf allTrue
+pub ten-is : (p : Params) (b : Board) → tenRules p b ≡ eightRules p b && marksRule p b
+unfolding tenRules eightRules rulesOf allTrue
 ten-is p b = simp (and-assoc, and-true)
 
 -- BT's entries, where the tables' rules hold
@@ -145,7 +145,7 @@ module _ (p : Params) (b : Board) (l : Lengths p (b .chip) (b .ct) (b .bt) (b .f
   -- ---- the ten rules hold
   module _ (o : tenRules p b ≡ true) where
     mark-is : (r v f : ℕ) → r < p .mu → v < p .gamma → f < 256 → markIn p (b .marks) r v f ≡ marked p (view p b r) v f
-    mark-is r v f hr hv hf = rw (right p b long (and-right (nineRules p b) (sym (ten-is p b) ∙ o))) (mark-at p b r v f hr hv hf)
+    mark-is r v f hr hv hf = rw (right p b long (and-right (eightRules p b) (sym (ten-is p b) ∙ o))) (mark-at p b r v f hr hv hf)
 
     bit-of-mark : (j : ℕ) → j < bits → bitAt (b .marks) j ≡ markedAt j
     bit-of-mark j h =
@@ -160,7 +160,7 @@ module _ (p : Params) (b : Board) (l : Lengths p (b .chip) (b .ct) (b .bt) (b .f
     entry-of c low e = go (nt .entries c low)
       where
         nt : Neat p (regionOf p c) (view p b (regionOf p c))
-        nt = neat p (regionOf p c) (view p b (regionOf p c)) (nine-region p b (and-left (nineRules p b) _ (sym (ten-is p b) ∙ o)) (regionOf p c) (mod-lt c (z .regions)))
+        nt = neat p (regionOf p c) (view p b (regionOf p c)) (eight-region p b (and-left (eightRules p b) _ (sym (ten-is p b) ∙ o)) (regionOf p c) (mod-lt c (z .regions)))
 
         go : ((view p b (regionOf p c)) .segOf c ≡ none) ⊎ Entry p (view p b (regionOf p c)) c → Entry p (view p b (regionOf p c)) c
         go (inl q) =
@@ -266,7 +266,7 @@ module _ (p : Params) (chip ct bt fst bst marks : List ℕ) (l : Lengths p chip 
       (counts-are ∙ eq-eqb (countBelow (p .C) (named ct)) (countBelow (64 * marksLength p) (bitAt marks)) (omega (arith, no-more p board l long k block o, no-fewer p board l long k block o)))))
     where
       both : tablesOk p bt bst && chipOk p chip ct bt fst bst ≡ true
-      both = check-agrees p chip ct bt fst bst l wear marks stamps ∙ and-left (nineRules p board) _ (sym (ten-is p board) ∙ o)
+      both = check-agrees p chip ct bt fst bst l wear marks stamps ∙ and-left (eightRules p board) _ (sym (ten-is p board) ∙ o)
 
       k : tablesOk p bt bst ≡ true
       k = and-left (tablesOk p bt bst) _ both

@@ -15,11 +15,11 @@ use Rattle.rules.specs.Orderly.{freeRule, orderly, regionStamps, rulesOf, stamp
 use Rattle.rules.specs.Pages.{block}
 use Rattle.rules.specs.Regions.{bodyAt, view, viewOf}
 use Rattle.rules.specs.Tables.{Board, boardOf, btAt, fstAt, marksLength, none, wordAt}
-use Rattle.rules.proofs.Admitted.{nine-region}
+use Rattle.rules.proofs.Admitted.{eight-region}
 use Rattle.rules.proofs.RegionFacts.{neat}
 use Rattle.rules.proofs.Sizes.{sizes}
 use Rattle.rules.proofs.Stamps.{bare-frame, bounded-out, neat-bounded}
-use Rattle.rules.proofs.TableFacts.{nineRules}
+use Rattle.rules.proofs.TableFacts.{eightRules}
 use Rattle.check_rules.specs.Check.{Lengths, tablesOk, vblockFrames, vblockFramesTo, vblockStamps}
 use Rattle.check_rules.proofs.Agree.{same-truth}
 use Rattle.check_board.specs.Order.{blockHeld, blockHeldTo, boundOf, countsOk, entryOk, framesOk, orderOk, orderOkTo, regionHeld, regionHeldTo, tenRules}
@@ -144,4 +144,4 @@ module _ (p : Params) (chip ct bt fst bst marks : List ℕ) (l : Lengths p chip 
           unfold boundOf in
           bounded-out p (view p board r) 4294967295
           (neat-bounded p (sizes p (l .fine)) r (view p board r)
-          (neat p r (view p board r) (nine-region p board (and-left (nineRules p board) _ (sym (ten-is p board) ∙ h)) r hr)))
+          (neat p r (view p board r) (eight-region p board (and-left (eightRules p board) _ (sym (ten-is p board) ∙ h)) r hr)))

@@ -11,7 +11,7 @@ use Rattle.lists.specs.Below.{allTrue}
 use Rattle.rules.specs.declared.Params.{Params}
 use Rattle.rules.specs.Orderly.{marksRule, orderly, rulesOf}
 use Rattle.rules.specs.Tables.{Board}
-use Rattle.rules.proofs.TableFacts.{nineRules}
+use Rattle.rules.proofs.TableFacts.{eightRules}
 use Rattle.check_board.specs.Order.{tenRules}
 use Rattle.check_board.proofs.Counted.{ten-is}
 use Rattle.check_broken.specs.declared.Rule.{Rule}
@@ -67,5 +67,5 @@ end true = refl
 end false = refl
 
 -- where the nine rules before that of the marks hold, a test of the ten is a test of the marks
-pub marks-test : (p : Params) (b : Board) (ok : Bool) → ok ≡ tenRules p b → nineRules p b ≡ true → ok ≡ marksRule p b
+pub marks-test : (p : Params) (b : Board) (ok : Bool) → ok ≡ tenRules p b → eightRules p b ≡ true → ok ≡ marksRule p b
 marks-test p b ok e n = e ∙ ten-is p b ∙ rw n

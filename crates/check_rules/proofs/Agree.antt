@@ -23,12 +23,12 @@ use Rattle.rules.specs.Regions.{assigned, view}
 use Rattle.rules.specs.Replies.{lengthsFit}
 use Rattle.rules.specs.Marks.{marksOf}
 use Rattle.rules.specs.Tables.{Board, boardOf, bstAt, btAt, btEntry, marksLength, none}
-use Rattle.rules.proofs.Admitted.{nine-all, nine-region}
+use Rattle.rules.proofs.Admitted.{eight-all, eight-region}
 use Rattle.rules.proofs.Isolation.{index-low}
 use Rattle.rules.proofs.MarkFacts.{table-length}
 use Rattle.rules.proofs.RegionFacts.{regionOrderly, up-to}
 use Rattle.rules.proofs.Sizes.{Sizes, sizes}
-use Rattle.rules.proofs.TableFacts.{Tables, chip-size, nineRules, tables-nine}
+use Rattle.rules.proofs.TableFacts.{Tables, chip-size, eightRules, tables-eight}
 use Rattle.rules.proofs.Totals.{used-total}
 use Rattle.check_tables.specs.Entries.{differs, usedOk}
 use Rattle.check_rules.specs.Check.{Lengths, chipOk, clusterOk, clustersOk, fstOk, regionOk, tablesOk, vblockOk}
@@ -70,15 +70,15 @@ module _ (p : Params) (b : Board) (fine : Sizes p) (len : lengthsFit p b ≡ tru
   not-none n x h e k = omega (arith, fine .blocks)
 
   -- ---- what is orderly passes the check
-  module _ (o : nineRules p b ≡ true) where
+  module _ (o : eightRules p b ≡ true) where
     t : Tables p b
-    t = tables-nine p b len o
+    t = tables-eight p b len o
 
     nm : Names p b
     nm = names-of (t .names)
 
     region : (r : ℕ) → r < p .mu → regionOrderly p r (view p b r) ≡ true
-    region = nine-region p b o
+    region = eight-region p b o
 
     rule : (r v : ℕ) → r < p .mu → v < p .gamma → (E r v ≡ none → ⊥) → blockRule p r v (block p (b .chip) (E r v)) ≡ true
     unfolding regionOrderly regionBlocks
@@ -125,7 +125,7 @@ module _ (p : Params) (b : Board) (fine : Sizes p) (len : lengthsFit p b ≡ tru
         and-intro (all-below-intro (p .gamma) _ (λ v k. vblock-ok r v h k)) (and-intro (sym (open-same p b nm r h (λ v hv ne. rule r v h hv ne)) ∙ (truths _ (region r h)) .1 .0) (clusters-ok r h))
 
     passes : tablesOk p (b .bt) (b .bst) && chipOk p (b .chip) (b .ct) (b .bt) (b .fst) (b .bst) ≡ true
-    unfolding tablesOk chipOk nineRules rulesOf
+    unfolding tablesOk chipOk eightRules rulesOf
     passes =
         let k = truths _ o in
         and-intro (and-intro (k .0) (and-intro (k .1 .0) (and-intro (k .1 .1 .1 .1 .0) counted)))
@@ -271,12 +271,12 @@ module _ (p : Params) (b : Board) (fine : Sizes p) (len : lengthsFit p b ≡ tru
     opens r h = open-same p b ns r h (λ v hv ne. (vblock r v h hv ne) .2) ∙ and-left (fstOk p (b .chip) (b .bt) (b .fst) r) _
         (and-right (allBelow (p .gamma) (vblockOk p (b .chip) (b .bt) (b .bst) r)) (l₁ r h))
 
-    is-nine : nineRules p b ≡ true
+    is-nine : eightRules p b ≡ true
     unfolding regionOrderly
-    is-nine = nine-all p b fine tables (λ r h. all-true _ (blocks r h, (opens r h, (clusters r h, tt))))
+    is-nine = eight-all p b fine tables (λ r h. all-true _ (blocks r h, (opens r h, (clusters r h, tt))))
 
-  agree : tablesOk p (b .bt) (b .bst) && chipOk p (b .chip) (b .ct) (b .bt) (b .fst) (b .bst) ≡ nineRules p b
-  agree = same-truth (tablesOk p (b .bt) (b .bst) && chipOk p (b .chip) (b .ct) (b .bt) (b .fst) (b .bst)) (nineRules p b)
+  agree : tablesOk p (b .bt) (b .bst) && chipOk p (b .chip) (b .ct) (b .bt) (b .fst) (b .bst) ≡ eightRules p b
+  agree = same-truth (tablesOk p (b .bt) (b .bst) && chipOk p (b .chip) (b .ct) (b .bt) (b .fst) (b .bst)) (eightRules p b)
       (λ h. is-nine (and-left (tablesOk p (b .bt) (b .bst)) _ h) (and-right (tablesOk p (b .bt) (b .bst)) h)) passes
 
 -- lengths that fit, as the check asks for them, and back
@@ -310,13 +310,13 @@ lengths-out p chip ct bt fst bst marks stamps z m t =
     )
 
 -- the nine rules look at no wear, at no mark and at no stamp
-nine-same : (p : Params) (chip ct bt fst bst w w′ m m′ s s′ : List ℕ) → nineRules p (boardOf chip ct bt fst bst w m s) ≡ nineRules p (boardOf chip ct bt fst bst w′ m′ s′)
-unfolding nineRules rulesOf blocksRule fstRule ctRule
+nine-same : (p : Params) (chip ct bt fst bst w w′ m m′ s s′ : List ℕ) → eightRules p (boardOf chip ct bt fst bst w m s) ≡ eightRules p (boardOf chip ct bt fst bst w′ m′ s′)
+unfolding eightRules rulesOf blocksRule fstRule ctRule
 nine-same p chip ct bt fst bst w w′ m m′ s s′ = refl
 
 -- the tables' rules, then the chip's, are the nine rules: where the marks are the board's own, those make an orderly state
 pub check-agrees : (p : Params) (chip ct bt fst bst : List ℕ) → Lengths p chip ct bt fst bst → (wear marks stamps : List ℕ)
-    → tablesOk p bt bst && chipOk p chip ct bt fst bst ≡ nineRules p (boardOf chip ct bt fst bst wear marks stamps)
+    → tablesOk p bt bst && chipOk p chip ct bt fst bst ≡ eightRules p (boardOf chip ct bt fst bst wear marks stamps)
 check-agrees p chip ct bt fst bst z wear marks stamps =
     let own = marksOf p (boardOf chip ct bt fst bst [] [] []) in
     let b = boardOf chip ct bt fst bst bst own fst in

@@ -28,7 +28,7 @@ use Rattle.rules.specs.Format.{bad, badMark, formatted}
 use Rattle.rules.specs.Write.{Plan, planOf, written}
 use Rattle.rules.specs.Replies.{OrderlyBoard, replyOf}
 use Rattle.rules.specs.Requests.{Request, format, requestCluster, requestRegion, write}
-use Rattle.rules.proofs.Admitted.{Admitted, admitted, format-admitted, orderly-region, write-checks, stamp-left}
+use Rattle.rules.proofs.Admitted.{Admitted, admitted, format-admitted, orderly-region, stamp-left, write-checks, write-free}
 use Rattle.rules.proofs.Continues.{Makes}
 use Rattle.rules.proofs.FormatPromise.{format-bad, format-good}
 use Rattle.rules.proofs.Opens.{fresh-all, fresh-size}
@@ -182,6 +182,7 @@ module _ (p : Params) (b : Board) (q : Request) (e : replyOf p b (write q) ≡ A
   room : Makes p b (requestRegion p q) plan
   unfolding plan
   room = makes p (acc .sized) b (acc .tables) (requestRegion p q) region (neat p (requestRegion p q) (view p b (requestRegion p q)) (acc .tidy (requestRegion p q) region))
+      (write-free p b q e)
 
   -- the same blocks are reserved
   pub write-same-reserved : (n : ℕ) → n < p .N → eqb (bstAt (b .bst) n) 2 ≡ eqb (bstAt ((written p b q) .bst) n) 2

@@ -22,10 +22,10 @@ use Rattle.rules.specs.Pages.{block, frame, page}
 use Rattle.rules.specs.Regions.{View, assigned, validFrames, view}
 use Rattle.rules.specs.Traces.{Op, erase, frameOps, framesOps, onChip, program, replayChip}
 use Rattle.rules.specs.Requests.{Request, requestCluster, requestRegion}
-use Rattle.rules.specs.Write.{copies, eraseOps, freeBlock, hasRoom, newFrame, nextStamp, planBlock, planErases, planFrame, planOf, planOps, planVBlock, reclaims, roomOps, writeOps}
+use Rattle.rules.specs.Write.{copies, eraseOps, freeBlock, hasRoom, newFrame, nextStamp, planBlock, planErases, planFrame, planOf, planOps, planVBlock, reclaims, roomOps, takesBlock, writeOps}
 use Rattle.rules.specs.Machine.{withRoom}
 use Rattle.rules.specs.Words.{CopiesStand, PlanListed}
-use Rattle.rules.proofs.Admitted.{admitted, stamp-left, write-checks}
+use Rattle.rules.proofs.Admitted.{admitted, stamp-left, write-checks, write-free}
 use Rattle.rules.proofs.Chip.{block-other, frame-put, replay-append, run-length}
 use Rattle.rules.proofs.Continues.{Makes}
 use Rattle.rules.proofs.Isolation.{index-low}
@@ -35,7 +35,7 @@ use Rattle.rules.proofs.RegionFacts.{Neat, neat}
 use Rattle.rules.proofs.Replays.{Wholes, other-frame}
 use Rattle.rules.proofs.Sizes.{Sizes}
 use Rattle.rules.proofs.TableFacts.{Tables}
-use Rattle.rules.proofs.Views.{body-size, body-some, free-block, free-unnamed, has-block}
+use Rattle.rules.proofs.Views.{body-size, body-some, free-unnamed, has-block}
 use Rattle.rules.proofs.Words.{plan-exactly}
 use Rattle.rules.proofs.WritePromise.{makes}
 
@@ -173,7 +173,7 @@ module _ (p : Params) (z : Sizes p) (b : Board) (t : Tables p b) (r : ℕ) (regi
   -- a block that BT names is not free
   differ : old ≡ new → ⊥
   unfolding old new btAt
-  differ e = free-unnamed p z b t (r * p .gamma + v) (index-low p r v region low) e
+  differ e = free-unnamed p z b t (m .found (unfold takesBlock in refl)) (r * p .gamma + v) (index-low p r v region low) e
 
   -- the copies' programs, the room that they and the erase make, and the programs of the new frame
   copying : List Op
@@ -207,7 +207,7 @@ module _ (p : Params) (z : Sizes p) (b : Board) (t : Tables p b) (r : ℕ) (regi
       ((all-kept p new 0 (take k copying) (b .chip) fits (from-take p new 0 k copying from)) .else old differ)
     where
       fits : new * blockBytes p + blockBytes p ≤ length (b .chip)
-      fits = rw (t .chipLength) (next (blockBytes p) new (p .N) (unfold new in (free-block p z b t) .0))
+      fits = rw (t .chipLength) (next (blockBytes p) new (p .N) (unfold new in (m .found (unfold takesBlock in refl)) .0))
 
       from : AllFrom p new 0 copying
       from =
@@ -232,7 +232,7 @@ module _ (p : Params) (z : Sizes p) (b : Board) (t : Tables p b) (r : ℕ) (regi
       here = unfold making new planBlock planVBlock in m .room .here
 
       fits : new * blockBytes p + blockBytes p ≤ length (replayChip p (b .chip) making)
-      fits = unfold making in rw (m .room .chipLength) (next (blockBytes p) new (p .N) (unfold new in (free-block p z b t) .0))
+      fits = unfold making in rw (m .room .chipLength) (next (blockBytes p) new (p .N) (unfold new in (m .found (unfold takesBlock in refl)) .0))
 
       from : AllFrom p new (length (validFrames p (view p b r) v)) adding
       from = unfold adding in frame-from p new _ (length (validFrames p (view p b r) v)) (newFrame p (view p b r) q (nextStamp b r) v) (omega arith) few whole (p .alpha) (omega arith)
@@ -257,7 +257,7 @@ copies-stand p b q e v is k i l =
     let r = requestRegion p q in
     let region : r < p .mu = mod-lt (requestCluster p q) (z .regions) in
     let nt = neat p r (view p b r) (a .tidy r region) in
-    let m : Makes p b r (reclaims v) = rw is at (makes p z b (a .tables) r region nt) in
+    let m : Makes p b r (reclaims v) = rw is at (makes p z b (a .tables) r region nt (write-free p b q e)) in
     let listed : PlanListed p (view p b r) (reclaims v) = rw is at (plan-exactly p b (record { fine = c .fine; lengths = c .lengths; tidy = c .tidy }) r region) in
     let sh = host-sheet p z (view p b r) (λ u h s. body-size p z b (a .tables) r u region h s) q (a .asked) (nt .entries (requestCluster p q) (a .asked .cluster)) (nextStamp b r) v (stamp-left p b q e) in
     rw is (unfold old new in plan-stands p z b (a .tables) r region nt (no-room p (view p b r) v is) (listed .every) v m q (sh .whole) k i l)

@@ -11,6 +11,7 @@ use lib.Dec.{eqb, ltb}
 use lib.ListN.{length, getD, replicate, length-replicate, getD-replicate, List·getD-eq-default}
 use Rattle.lists.specs.Below.{countBelow, joinBelow}
 use Rattle.lists.proofs.Joins.{tab-at, tab-length}
+use borrow.Author.Tests.{le-leb}
 use Rattle.lists.proofs.Tests.{count-cong, never}
 use Rattle.rules.specs.declared.Params.{Params}
 use Rattle.rules.specs.declared.Reply.the-variants.{Accepted}
@@ -21,7 +22,7 @@ use Rattle.rules.specs.Pages.{block}
 use Rattle.rules.specs.Regions.{assigned, bodyAt, sector, sectorIn, view, viewOf}
 use Rattle.rules.specs.Marks.{marksOf}
 use Rattle.rules.specs.Requests.{format}
-use Rattle.rules.specs.Orderly.{orderly, stampRule}
+use Rattle.rules.specs.Orderly.{enough, orderly, stampRule}
 use Rattle.rules.specs.Traces.{eraseWhere}
 use Rattle.rules.specs.Format.{bad, formatOps, formatted, goodBlocks}
 use Rattle.rules.specs.Replies.{lengthsFit, replyOf}
@@ -96,14 +97,16 @@ module _ (p : Params) (b : Board) (e : replyOf p b format ≡ Accepted) where
         once = λ i j hi hj x ne. absurd (ne (entry i));
         used = λ m h x. absurd ((two (bad p (b .chip) m)) .1 (sym (kind m h) ∙ x));
         usedBack = λ i h m k x. absurd (omega (arith, entry i, x, z .blocks));
-        room = room;
         free = λ m h x. rw (cleared .done m h (ap not ((two (bad p (b .chip) m)) .2 (sym (kind m h) ∙ x)))) (fresh-all p);
       }
-    where
-      room : p .mu * p .gamma + 1 ≤ countBelow (p .N) (λ m. not (eqb (bstAt ((formatted p b) .bst) m) 2))
-      room =
-          rw (count-cong (p .N) (λ m. not (eqb (bstAt ((formatted p b) .bst) m) 2)) (λ m. not (bad p (b .chip) m)) (λ m h. rw (kind m h) ((two (bad p (b .chip) m)) .3)))
-          good-enough
+
+  -- at least μγ+1 blocks are not reserved
+  pub format-enough : enough p (formatted p b) ≡ true
+  unfolding enough
+  format-enough =
+      le-leb (p .mu * p .gamma + 1) (countBelow (p .N) (λ m. not (eqb (bstAt ((formatted p b) .bst) m) 2)))
+      (rw (count-cong (p .N) (λ m. not (eqb (bstAt ((formatted p b) .bst) m) 2)) (λ m. not (bad p (b .chip) m)) (λ m h. rw (kind m h) ((two (bad p (b .chip) m)) .3)))
+      good-enough)
 
   pub lacks : (r v : ℕ) → assigned (view p (formatted p b) r) v ≡ false
   unfolding assigned viewOf bodyAt btAt btEntry

@@ -13,7 +13,6 @@ use Rattle.rules.specs.Orderly.{
   onceRule,
   named,
   usedRule,
-  roomRule,
   freeRule,
   usedPages,
   goodPages,
@@ -71,6 +70,7 @@ use Rattle.rules.specs.Write.{
   victim,
   planOf,
   planVBlock,
+  takesBlock,
   copies,
   planFrame,
   planErases,
@@ -104,11 +104,14 @@ use Rattle.rules.specs.Replies.{
   notStartable,
   tooFewAnswers,
   noStampLeft,
+  noBlockLeft,
   firstRow,
   lentRows,
   accessRows,
   orderRow,
   stampRow,
+  blockRow,
+  earlyRows,
   rowsOf,
   replyOf,
   whyRows,
@@ -121,11 +124,11 @@ unfoldable pub all-rules : Unit {0}
 unfolding allBelow allTrue countBelow firstBelow lastBelow leastBelow mostBelow keepBelow joinBelow listBelow bitsBelow updated part putPart allAre sameList frames pages pageBytes
     frameBytes blockBytes chipBytes perRegion within allowed ctAt btEntry btAt fstAt bstAt wearAt wordAt stampAt block frame page spare le32 bytes32 spareBytes held stampOf vblockIn pageUsed programmed whole holds
     filled isFull lastIn programmedDownTo bodyAt viewOf assigned valid validFrames frameOf sectorIn sector looksIn looksAt regionFrames frameIn stampIn largestStamp wordOf entryOf tableOf marked marksIn bstRule btRule
-    onceRule named usedRule roomRule freeRule usedPages goodPages goodFrame goodUpTo blockRule regionBlocks blocksRule fullRule openRule regionFst fstRule entryRule clusterRule ctRule marksRule stampsTo regionStamps stampRule
+    onceRule named usedRule freeRule usedPages goodPages goodFrame goodUpTo blockRule regionBlocks blocksRule fullRule openRule regionFst fstRule entryRule clusterRule ctRule marksRule stampsTo regionStamps stampRule
     rulesOf orderly onChip onWear replayChip replayWear clean isErase programsIn erasesIn eraseWhere frameOps framesOps lies itemRequest itemRequests lent lentAnswers badMark bad
     goodBlocks formatOps formatted inUse regionNamed vblockNamed sound names namesFull namesOpen fullBlock keptBlock leftOver startOps foundBt foundView soundRule pairRule
-    isOpen openOnce sameStamp stampsApart regionStarts startable foundSegment foundFst started hasRoom lowestUnassigned victim planOf planVBlock copies planFrame planErases newSector newPage newFrame freeBlock planBlock eraseOps
+    isOpen openOnce sameStamp stampsApart regionStarts startable foundSegment foundFst started hasRoom lowestUnassigned victim planOf planVBlock takesBlock copies planFrame planErases newSector newPage newFrame freeBlock planBlock eraseOps
     roomOps planOps followCt planBst nextStamp writtenBy writeOps written released isAccepted lengthsFit badParameter wrongLength badCount badAddress badCluster wrongData tooFewBlocks
-    notOrderly notStartable tooFewAnswers noStampLeft firstRow lentRows accessRows orderRow stampRow rowsOf replyOf whyRows whyReply answerOf single refuses does readBytes writeWork writeAll queueWork workOf
+    notOrderly notStartable tooFewAnswers noStampLeft noBlockLeft firstRow lentRows accessRows orderRow stampRow blockRow earlyRows rowsOf replyOf whyRows whyReply answerOf single refuses does readBytes writeWork writeAll queueWork workOf
     opsOf over answersIn outcomeOf
 all-rules = tt

@@ -31,7 +31,7 @@ use Rattle.rules.proofs.RegionFacts.{Entry, Neat, Open, UpTo, filled-le
 use Rattle.rules.proofs.RegionKept.{Base}
 use Rattle.rules.proofs.Replays.{block-size}
 use Rattle.rules.proofs.TableFacts.{Tables}
-use Rattle.rules.proofs.Views.{free-block, free-unnamed, no-block}
+use Rattle.rules.proofs.Views.{HasFree, free-unnamed, no-block}
 
 pub fresh-frame : (p : Params) (g : ℕ) → allAre 255 (frame p (erasedBlock p) g) ≡ true
 unfolding erasedBlock frame
@@ -136,30 +136,28 @@ module _ (p : Params) (z : Sizes p) (r : ℕ) (vw : View) (neat : Neat p r vw) (
           let f = all-full p z r vw neat no-room u k w in
           rw (body-else u ne) (f, rw f at ((neat .blocks u k w) .1))
 
-pub free-fresh : (p : Params) (z : Sizes p) (b : Board) → Tables p b → block p (b .chip) (freeBlock p (b .bst) (b .wear)) ≡ erasedBlock p
-free-fresh p z b t =
-    let w = free-block p z b t in
+pub free-fresh : (p : Params) (z : Sizes p) (b : Board) → Tables p b → HasFree p b → block p (b .chip) (freeBlock p (b .bst) (b .wear)) ≡ erasedBlock p
+free-fresh p z b t w =
     erased-fresh p (block p (b .chip) (freeBlock p (b .bst) (b .wear)))
     (block-size p (b .chip) (freeBlock p (b .bst) (b .wear)) (rw (t .chipLength) (next (blockBytes p) (freeBlock p (b .bst) (b .wear)) (p .N) (w .0))))
     (t .free (freeBlock p (b .bst) (b .wear)) (w .0) (w .1))
 
 module _ (p : Params) (z : Sizes p) (b : Board) (t : Tables p b) (r : ℕ) (region : r < p .mu) (neat : Neat p r (view p b r)) (no-room : hasRoom p (view p b r) ≡ false)
-    (v : ℕ) (low : v < p .gamma) (lacks : assigned (view p b r) v ≡ false) where
+    (v : ℕ) (low : v < p .gamma) (lacks : assigned (view p b r) v ≡ false) (w : HasFree p b) where
   unnamed : btAt p (b .bt) r v ≡ none
   unnamed = no-block p z b t r v region low (frames-pos p z) lacks
 
   pub open-makes : Makes p b r (opens v)
   unfolding planVBlock planBlock planFrame roomOps framesOps eraseOps copies followCt replayChip planBst clean
   open-makes =
-      let w = free-block p z b t in
       record {
         room =
             record {
               chipLength = t .chipLength;
               low = w .0;
               taken = λ e. omega (arith, w .0, z .blocks);
-              own = λ i h ne k. free-unnamed p z b t i h;
-              here = free-fresh p z b t ∙ sym (body-here p z r (view p b r) neat no-room v low lacks);
+              own = λ i h ne k. free-unnamed p z b t w i h;
+              here = free-fresh p z b t w ∙ sym (body-here p z r (view p b r) neat no-room v low lacks);
               blockElse = λ i h ne k. refl;
               bodyElse = body-else p z r (view p b r) neat no-room v low lacks;
               ctLength = t .ctLength;
@@ -171,6 +169,7 @@ module _ (p : Params) (z : Sizes p) (b : Board) (t : Tables p b) (r : ℕ) (regi
         tidy = refl;
         reads = open-reads p z r (view p b r) neat no-room v low lacks;
         stood = open-stood p z r (view p b r) neat no-room v low lacks;
+        found = λ e. w;
         bstLength = length-set (b .bst) (freeBlock p (b .bst) (b .wear)) 1 ∙ t .bstLength;
         was = λ e. omega (arith, w .1);
         kindHere = getD-set-same (b .bst) (freeBlock p (b .bst) (b .wear)) 1 0 (rw (t .bstLength) (w .0));

@@ -298,7 +298,6 @@ orderly-in p b z l h =
       names = t .names;
       once = λ i j hi hj ne e. t .once i j hi hj e ne;
       used = λ n k. (t .used n k, λ w. t .usedBack (w .0) (w .1) n k (w .2));
-      room = t .room;
       free = t .free;
       regions = λ r k. region-in p z r (view p b r) (neat p r (view p b r) (orderly-region p b h r k));
       marks = marks-in p b l h;
@@ -325,7 +324,6 @@ orderly-back p b z l o = orderly-all p b z tables (λ r k. region-out p z r (vie
           once = λ i j hi hj e ne. o .once i j hi hj ne e;
           used = λ n k. (o .used n k) .0;
           usedBack = λ i k n m e. (o .used n m) .1 (i, k, e);
-          room = o .room;
           free = o .free;
         }
 

@@ -10,7 +10,7 @@ use borrow.Author.Tests.{eq-eqb}
 use Rattle.lists.proofs.Tests.{never}
 use Rattle.rules.specs.declared.Params.{Params}
 use Rattle.rules.specs.declared.Reply.{Reply}
-use Rattle.rules.specs.declared.Reply.the-variants.{Accepted, BadParameter, WrongLength, BadCount, BadAddress, WrongData, TooFewBlocks, NotOrderly, TooFewAnswers, NoStampLeft}
+use Rattle.rules.specs.declared.Reply.the-variants.{Accepted, BadParameter, WrongLength, BadCount, BadAddress, WrongData, TooFewBlocks, NotOrderly, TooFewAnswers, NoStampLeft, NoBlockLeft}
 use Rattle.rules.specs.declared.Answer.{Answer}
 use Rattle.rules.specs.Tables.{Board}
 use Rattle.rules.specs.Regions.{looksAt}
@@ -38,6 +38,7 @@ reply-cases TooFewBlocks = inr refl
 reply-cases NotOrderly = inr refl
 reply-cases TooFewAnswers = inr refl
 reply-cases NoStampLeft = inr refl
+reply-cases NoBlockLeft = inr refl
 
 -- it is accepted if its number is 0
 pub accepted-by : (r : Reply) (n : ℕ) → n ≡ numberOf r → n ≡ 0 → r ≡ Accepted
@@ -48,7 +49,7 @@ accepted-by r n e z = go (reply-cases r)
     go (inl a) = a
     go (inr f) = absurd (never (eq-eqb (numberOf r) 0 (sym e ∙ z)) f)
 
-pub number-low : (r : Reply) → numberOf r < 10
+pub number-low : (r : Reply) → numberOf r < 11
 number-low Accepted = omega arith
 number-low BadParameter = omega arith
 number-low WrongLength = omega arith
@@ -59,6 +60,7 @@ number-low TooFewBlocks = omega arith
 number-low NotOrderly = omega arith
 number-low TooFewAnswers = omega arith
 number-low NoStampLeft = omega arith
+number-low NoBlockLeft = omega arith
 
 pub is-refused : (r : Reply) → (r ≡ Accepted → ⊥) → isAccepted r ≡ false
 is-refused r ne = go (reply-cases r)

@@ -28,10 +28,10 @@ use Rattle.rules.proofs.RegionFacts.{GoodFrame, Neat, neat}
 use Rattle.rules.proofs.Replays.{Ran, erase-clean, erase-ran, frames-clean, frames-ran}
 use Rattle.rules.proofs.TableFacts.{Tables}
 use Rattle.rules.proofs.Victims.{good-at}
-use Rattle.rules.proofs.Views.{block-low, body-size, chip-fits, free-block, free-unnamed, has-block}
+use Rattle.rules.proofs.Views.{HasFree, block-low, body-size, chip-fits, free-unnamed, has-block}
 
 module _ (p : Params) (z : Sizes p) (b : Board) (t : Tables p b) (r : ℕ) (region : r < p .mu) (neat : Neat p r (view p b r)) (no-room : hasRoom p (view p b r) ≡ false)
-    (every : (u : ℕ) → u < p .gamma → assigned (view p b r) u ≡ true) (v : ℕ) (low : v < p .gamma) (few : length (validFrames p (view p b r) v) < frames p) where
+    (every : (u : ℕ) → u < p .gamma → assigned (view p b r) u ≡ true) (v : ℕ) (low : v < p .gamma) (few : length (validFrames p (view p b r) v) < frames p) (w : HasFree p b) where
   sized : (u : ℕ) → u < p .gamma → length ((view p b r) .body u) ≡ blockBytes p
   sized u h = body-size p z b t r u region h (every u h)
 
@@ -45,10 +45,10 @@ module _ (p : Params) (z : Sizes p) (b : Board) (t : Tables p b) (r : ℕ) (regi
   old-used = t .usedBack (r * p .gamma + v) index (btAt p (b .bt) r v) (block-low p z b t r v region low taken) (unfold btAt btEntry in refl)
 
   differ : btAt p (b .bt) r v ≡ freeBlock p (b .bst) (b .wear) → ⊥
-  differ e = omega (arith, old-used, free-block p z b t .1, ap (bstAt (b .bst)) e)
+  differ e = omega (arith, old-used, w .1, ap (bstAt (b .bst)) e)
 
   pub free-fits : freeBlock p (b .bst) (b .wear) * blockBytes p + blockBytes p ≤ length (b .chip)
-  free-fits = rw (t .chipLength) (next (blockBytes p) (freeBlock p (b .bst) (b .wear)) (p .N) (free-block p z b t .0))
+  free-fits = rw (t .chipLength) (next (blockBytes p) (freeBlock p (b .bst) (b .wear)) (p .N) (w .0))
 
   pub whole : (i : ℕ) → i < length (copies p (view p b r) (reclaims v)) → length (getD (copies p (view p b r) (reclaims v)) i []) ≡ frameBytes p
   whole = wholes p z r (view p b r) neat no-room every sized v low few
@@ -75,7 +75,7 @@ module _ (p : Params) (z : Sizes p) (b : Board) (t : Tables p b) (r : ℕ) (regi
 
   block-new : block p (replayChip p (b .chip) (roomOps p b r (reclaims v))) (freeBlock p (b .bst) (b .wear)) ≡ (withRoom p (view p b r) (reclaims v)) .body v
   block-new =
-      erased .else (freeBlock p (b .bst) (b .wear)) (λ e. differ (sym e)) ∙ copied .here ∙ ap (putFrames p 0 (copies p (view p b r) (reclaims v))) (free-fresh p z b t)
+      erased .else (freeBlock p (b .bst) (b .wear)) (λ e. differ (sym e)) ∙ copied .here ∙ ap (putFrames p 0 (copies p (view p b r) (reclaims v))) (free-fresh p z b t w)
       ∙ sym (body-here p z r (view p b r) neat no-room every sized v low few)
 
   block-same : (m : ℕ) → (m ≡ freeBlock p (b .bst) (b .wear) → ⊥) → (m ≡ btAt p (b .bt) r v → ⊥) → block p (replayChip p (b .chip) (roomOps p b r (reclaims v))) m ≡ block p (b .chip) m
@@ -102,22 +102,21 @@ module _ (p : Params) (z : Sizes p) (b : Board) (t : Tables p b) (r : ℕ) (regi
   unfolding roomOps eraseOps planBlock
   tidy =
       clean-append p (b .chip) (framesOps p (freeBlock p (b .bst) (b .wear)) 0 (copies p (view p b r) (reclaims v))) (erase (btAt p (b .bt) r v) ∷ [])
-      (frames-clean p (freeBlock p (b .bst) (b .wear)) (copies p (view p b r) (reclaims v)) 0 (b .chip) free-fits whole fit (λ g a h. rw (free-fresh p z b t) (fresh-frame p g)))
+      (frames-clean p (freeBlock p (b .bst) (b .wear)) (copies p (view p b r) (reclaims v)) 0 (b .chip) free-fits whole fit (λ g a h. rw (free-fresh p z b t w) (fresh-frame p g)))
       (erase-clean p _ (btAt p (b .bt) r v) old-fits)
 
   pub reclaim-makes : Makes p b r (reclaims v)
   unfolding planVBlock planBlock planFrame planBst
   reclaim-makes =
-      let w = free-block p z b t in
       record {
         room =
             record {
               chipLength = erased .size ∙ copied .size ∙ t .chipLength;
               low = w .0;
               taken = λ e. omega (arith, w .0, z .blocks);
-              own = λ i h ne k. free-unnamed p z b t i h;
+              own = λ i h ne k. free-unnamed p z b t w i h;
               here = block-new;
-              blockElse = λ i h ne k. block-same (btEntry (b .bt) i) (free-unnamed p z b t i h) (not-old i h ne k);
+              blockElse = λ i h ne k. block-same (btEntry (b .bt) i) (free-unnamed p z b t w i h) (not-old i h ne k);
               bodyElse = body-else p z r (view p b r) neat no-room every sized v low few;
               ctLength = follow-length p v (copies p (view p b r) (reclaims v)) 0 (b .ct) ∙ t .ctLength;
               segsHere = λ c e. follow-ct p v c (copies p (view p b r) (reclaims v)) 0 (b .ct) ((view p b r) .segOf) held-low (unfold ctAt in segs-in p b r c e)
@@ -129,6 +128,7 @@ module _ (p : Params) (z : Sizes p) (b : Board) (t : Tables p b) (r : ℕ) (regi
         tidy = tidy;
         reads = reclaim-reads p z r (view p b r) neat no-room every sized v low few;
         stood = reclaim-stood p z r (view p b r) neat no-room every sized v low few;
+        found = λ e. w;
         bstLength = length-set (set (b .bst) (freeBlock p (b .bst) (b .wear)) 1) (btAt p (b .bt) r v) 0 ∙ length-set (b .bst) (freeBlock p (b .bst) (b .wear)) 1 ∙ t .bstLength;
         was = λ e. omega (arith, w .1);
         kindHere = getD-set-other (set (b .bst) (freeBlock p (b .bst) (b .wear)) 1) (btAt p (b .bt) r v) (freeBlock p (b .bst) (b .wear)) 0 0 (λ e. differ (sym e)) ∙

@@ -2,11 +2,11 @@
 -- Assumes nothing.
 use mathlib.Core.Path.{refl}
 use Rattle.rules.specs.Requests.{format, queue, read, release, start, write}
-use Rattle.rules.specs.Replies.{accessRows, lentRows, orderRow, queueRows, rowsOf, stampRow, whyRows}
+use Rattle.rules.specs.Replies.{accessRows, blockRow, earlyRows, lentRows, orderRow, queueRows, rowsOf, stampRow, whyRows}
 use Rattle.rules.specs.Refusals.{RowsAsSaid, WhyRowsAsSaid, refusalsOf}
 
 pub rows-as-said : RowsAsSaid
-unfolding rowsOf lentRows accessRows orderRow stampRow queueRows refusalsOf
+unfolding rowsOf lentRows accessRows orderRow stampRow blockRow earlyRows queueRows refusalsOf
 rows-as-said p b format = refl
 rows-as-said p b (read q) = refl
 rows-as-said p b (write q) = refl

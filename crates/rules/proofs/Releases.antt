@@ -146,7 +146,6 @@ module _ (p : Params) (b : Board) (c : ℕ) where
         once = t .once;
         used = t .used;
         usedBack = t .usedBack;
-        room = t .room;
         free = t .free;
       }
 

@@ -78,7 +78,7 @@ neat-bounded p z r vw nt v f hv hf w = go (decLt f (filled p (vw .body v)))
 -- so of the board
 pub stamps-in : (p : Params) (b : Board) → orderly p b ≡ true → (r : ℕ) → r < p .mu → Bounded p (view p b r) (stampAt (b .stamps) r)
 unfolding orderly rulesOf stampRule
-stamps-in p b h r hr = bounded-in p (view p b r) _ (all-at (p .mu) _ ((truths _ h) .1 .1 .1 .1 .1 .1 .1 .1 .1 .1 .0) r hr)
+stamps-in p b h r hr = bounded-in p (view p b r) _ (all-at (p .mu) _ ((truths _ h) .1 .1 .1 .1 .1 .1 .1 .1 .1 .0) r hr)
 
 pub stamps-out : (p : Params) (b : Board) → ((r : ℕ) → r < p .mu → Bounded p (view p b r) (stampAt (b .stamps) r)) → stampRule p b ≡ true
 unfolding stampRule

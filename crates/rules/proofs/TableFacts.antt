@@ -17,7 +17,7 @@ use Rattle.rules.specs.Parameters.{pages, frameBytes, blockBytes, chipBy
 use Rattle.rules.specs.Tables.{Board, bstAt, btEntry, marksLength, none}
 use Rattle.rules.specs.Pages.{block}
 use Rattle.rules.specs.Marks.{marksOf}
-use Rattle.rules.specs.Orderly.{bstRule, btRule, onceRule, named, usedRule, roomRule, freeRule, blocksRule, fstRule, ctRule, marksRule, stampRule, rulesOf, orderly}
+use Rattle.rules.specs.Orderly.{bstRule, btRule, onceRule, named, usedRule, freeRule, blocksRule, fstRule, ctRule, marksRule, stampRule, rulesOf, orderly}
 use Rattle.rules.specs.Replies.{lengthsFit}
 use Rattle.rules.proofs.MarkFacts.{marks-long, right, rule-of}
 
@@ -35,7 +35,6 @@ pub record Tables (p : Params) (b : Board) : Type 0 where
   pub once : (i j : ℕ) → i < p .mu * p .gamma → j < p .mu * p .gamma → btEntry (b .bt) i ≡ btEntry (b .bt) j → (btEntry (b .bt) i ≡ none → ⊥) → i ≡ j
   pub used : (n : ℕ) → n < p .N → bstAt (b .bst) n ≡ 1 → (i : ℕ) × (i < p .mu * p .gamma) × (btEntry (b .bt) i ≡ n)
   pub usedBack : (i : ℕ) → i < p .mu * p .gamma → (n : ℕ) → n < p .N → btEntry (b .bt) i ≡ n → bstAt (b .bst) n ≡ 1
-  pub room : p .mu * p .gamma + 1 ≤ countBelow (p .N) (λ n. not (eqb (bstAt (b .bst) n) 2))
   pub free : (n : ℕ) → n < p .N → bstAt (b .bst) n ≡ 0 → allAre 255 (block p (b .chip) n) ≡ true
 
 -- ---- the rules, one by one
@@ -159,20 +158,20 @@ lengths-in p b l =
       stampsLength = eqb-true _ _ (a .1 .1 .1 .1 .1 .1 .1 .0);
     }
 
--- the nine rules of document 01, which look at no mark and at no last stamp
-unfoldable pub nineRules : Params → Board → Bool
-nineRules p b = allTrue (take 9 (rulesOf p b))
+-- the eight rules that are document 01's, which look at no mark and at no last stamp
+unfoldable pub eightRules : Params → Board → Bool
+eightRules p b = allTrue (take 8 (rulesOf p b))
 
-pub orderly-is : (p : Params) (b : Board) → orderly p b ≡ nineRules p b && (marksRule p b && stampRule p b)
-unfolding orderly nineRules rulesOf allTrue
+pub orderly-is : (p : Params) (b : Board) → orderly p b ≡ eightRules p b && (marksRule p b && stampRule p b)
+unfolding orderly eightRules rulesOf allTrue
 orderly-is p b = simp (and-assoc, and-true)
 
-pub nine-in : (p : Params) (b : Board) → orderly p b ≡ true → nineRules p b ≡ true
-nine-in p b h = and-left (nineRules p b) _ (sym (orderly-is p b) ∙ h)
+pub eight-in : (p : Params) (b : Board) → orderly p b ≡ true → eightRules p b ≡ true
+eight-in p b h = and-left (eightRules p b) _ (sym (orderly-is p b) ∙ h)
 
-pub tables-nine : (p : Params) (b : Board) → lengthsFit p b ≡ true → nineRules p b ≡ true → Tables p b
-unfolding nineRules rulesOf bstRule roomRule
-tables-nine p b l h =
+pub tables-eight : (p : Params) (b : Board) → lengthsFit p b ≡ true → eightRules p b ≡ true → Tables p b
+unfolding eightRules rulesOf bstRule
+tables-eight p b l h =
     let a = lengths-in p b l in
     let t = truths _ h in
     record {
@@ -188,17 +187,16 @@ tables-nine p b l h =
       once = once-in p b (t .1 .1 .0);
       used = λ n k e. named-in p b n (sym (used-in p b (t .1 .1 .1 .0) n k) ∙ eq-eqb _ _ e);
       usedBack = λ i k n m e. eqb-true _ _ (used-in p b (t .1 .1 .1 .0) n m ∙ named-out p b n i k e);
-      room = leb-true _ _ (t .1 .1 .1 .1 .0);
-      free = free-in p b (t .1 .1 .1 .1 .1 .0);
+      free = free-in p b (t .1 .1 .1 .1 .0);
     }
 
 pub tables-in : (p : Params) (b : Board) → lengthsFit p b ≡ true → orderly p b ≡ true → Tables p b
-tables-in p b l h = tables-nine p b l (nine-in p b h)
+tables-in p b l h = tables-eight p b l (eight-in p b h)
 
 -- of an orderly board the marks are its own
 pub marks-in : (p : Params) (b : Board) → lengthsFit p b ≡ true → orderly p b ≡ true → b .marks ≡ marksOf p b
 unfolding orderly rulesOf
-marks-in p b l h = right p b ((lengths-in p b l) .marksLength) ((truths _ h) .1 .1 .1 .1 .1 .1 .1 .1 .1 .0)
+marks-in p b l h = right p b ((lengths-in p b l) .marksLength) ((truths _ h) .1 .1 .1 .1 .1 .1 .1 .1 .0)
 
 pub lengths-out : (p : Params) (b : Board) → Tables p b → b .marks ≡ marksOf p b → lengthsFit p b ≡ true
 unfolding lengthsFit
@@ -214,10 +212,10 @@ lengths-out p b t m =
       ),
     )
 
--- the tables' rules, and those of the used blocks, FST and CT, are the nine rules
-pub nine-out : (p : Params) (b : Board) → Tables p b → blocksRule p b ≡ true → fstRule p b ≡ true → ctRule p b ≡ true → nineRules p b ≡ true
-unfolding nineRules rulesOf bstRule roomRule
-nine-out p b t u f c =
+-- the tables' rules, and those of the used blocks, FST and CT, are the eight rules
+pub eight-out : (p : Params) (b : Board) → Tables p b → blocksRule p b ≡ true → fstRule p b ≡ true → ctRule p b ≡ true → eightRules p b ≡ true
+unfolding eightRules rulesOf bstRule
+eight-out p b t u f c =
     all-true _ (
       all-below-intro (p .N) _ (λ n k. le-leb _ _ (t .kinds n k)),
       (
@@ -226,12 +224,12 @@ nine-out p b t u f c =
           once-out p b (t .once),
           (
             used-out p b (t .used) (t .usedBack),
-            (le-leb _ _ (t .room), (free-out p b (t .free), (u, (f, (c, tt))))),
+            (free-out p b (t .free), (u, (f, (c, tt)))),
           ),
         ),
       ),
     )
 
 -- with marks that are the board's own, and the stamps' rule, they make an orderly state
-pub orderly-nine : (p : Params) (b : Board) → nineRules p b ≡ true → b .marks ≡ marksOf p b → stampRule p b ≡ true → orderly p b ≡ true
-orderly-nine p b h m s = orderly-is p b ∙ and-intro h (and-intro (rule-of p b m) s)
+pub orderly-eight : (p : Params) (b : Board) → eightRules p b ≡ true → b .marks ≡ marksOf p b → stampRule p b ≡ true → orderly p b ≡ true
+orderly-eight p b h m s = orderly-is p b ∙ and-intro h (and-intro (rule-of p b m) s)

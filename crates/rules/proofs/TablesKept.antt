@@ -152,5 +152,4 @@ module _ (p : Params) (z : Sizes p) (b b′ : Board) (t : Tables p b) (k n : ℕ
         used = used;
         usedBack = usedBack;
         free = free;
-        room = rw (sym (count-cong (p .N) (λ m. not (eqb (bstAt (b .bst) m) 2)) (λ m. not (eqb (bstAt (b′ .bst) m) 2)) (λ m h. ap not (reserved m h)))) (t .room);
       }

@@ -26,7 +26,7 @@ use Rattle.rules.specs.Regions.{View, assigned, validFrames, view}
 use Rattle.rules.specs.Traces.{Op, erase, onWear, program, replayWear}
 use Rattle.rules.specs.Format.{bad, badMark}
 use Rattle.rules.specs.Write.{continues, freeBlock, hasRoom, lowestUnassigned, opens, planOf, reclaims, victim}
-use Rattle.rules.specs.Words.{Allowed, AllowedExactly, BadExactly, BadListed, ContinuesListed, FreeExactly, Full, PlanExactly, PlanListed, SpareListed, SparesExactly, WearAfter, erasesOf, fifth}
+use Rattle.rules.specs.Words.{Allowed, AllowedExactly, BadExactly, BadListed, ContinuesListed, FreeExactly, FreeListed, Full, PlanExactly, PlanListed, SpareListed, SparesExactly, WearAfter, erasesOf, fifth}
 use Rattle.rules.proofs.Admitted.{orderly-region}
 use Rattle.rules.proofs.Continues.{open-low, open-of}
 use Rattle.rules.proofs.Frames.{erased-not, le-bytes, right-programmed}
@@ -35,7 +35,6 @@ use Rattle.rules.proofs.RegionFacts.{Neat, Open, neat}
 use Rattle.rules.proofs.Sizes.{Sizes, sizes, some-page, within-true}
 use Rattle.rules.proofs.TableFacts.{tables-in}
 use Rattle.rules.proofs.Victims.{victim-fewest, victim-lowest}
-use Rattle.rules.proofs.Views.{free-block}
 
 -- ---- parameters
 
@@ -340,18 +339,18 @@ pub free-exactly : FreeExactly
 unfolding freeBlock
 free-exactly p b h =
     let z = sizes p (h .fine) in
-    let f = free-block p z b (tables-in p b (h .lengths) (h .tidy)) in
-    record {
-      low = f .0;
-      free = f .1;
-      least = λ m k e. least z (f .0) (f .1) m k e (least-spec (wearAt (b .wear)) notFound (p .N) (λ n. eqb (bstAt (b .bst) n) 0) (z .blocks));
-      lowest = λ m k e. least-lowest (wearAt (b .wear)) notFound (p .N) (λ n. eqb (bstAt (b .bst) n) 0) (z .blocks) m (omega (arith, k, f .0)) k (eq-eqb _ _ e);
-    }
+    go z (least-spec (wearAt (b .wear)) notFound (p .N) (λ n. eqb (bstAt (b .bst) n) 0) (z .blocks))
   where
-    least : Sizes p → freeBlock p (b .bst) (b .wear) < p .N → bstAt (b .bst) (freeBlock p (b .bst) (b .wear)) ≡ 0 → (m : ℕ) → m < p .N → bstAt (b .bst) m ≡ 0
+    go : Sizes p
         → ((freeBlock p (b .bst) (b .wear) ≡ notFound) × ((i : ℕ) → i < p .N → eqb (bstAt (b .bst) i) 0 ≡ false))
         ⊎ ((freeBlock p (b .bst) (b .wear) < p .N) × (eqb (bstAt (b .bst) (freeBlock p (b .bst) (b .wear))) 0 ≡ true)
         × ((i : ℕ) → i < p .N → eqb (bstAt (b .bst) i) 0 ≡ true → wearAt (b .wear) (freeBlock p (b .bst) (b .wear)) ≤ wearAt (b .wear) i))
-        → wearAt (b .wear) (freeBlock p (b .bst) (b .wear)) ≤ wearAt (b .wear) m
-    least z l f m k e (inl w) = absurd (never (eq-eqb _ _ e) (w .1 m k))
-    least z l f m k e (inr w) = w .2 m k (eq-eqb _ _ e)
+        → ((freeBlock p (b .bst) (b .wear) ≡ 65535) × ((m : ℕ) → m < p .N → bstAt (b .bst) m ≡ 0 → ⊥)) ⊎ FreeListed p b (freeBlock p (b .bst) (b .wear))
+    go z (inl w) = inl (w .0, λ m k e. never (eq-eqb _ _ e) (w .1 m k))
+    go z (inr w) =
+        inr (record {
+          low = w .0;
+          free = eqb-true _ _ (w .1);
+          least = λ m k e. w .2 m k (eq-eqb _ _ e);
+          lowest = λ m k e. least-lowest (wearAt (b .wear)) notFound (p .N) (λ n. eqb (bstAt (b .bst) n) 0) (z .blocks) m (omega (arith, k, w .0)) k (eq-eqb _ _ e);
+        })

@@ -35,6 +35,7 @@ use Rattle.rules.specs.Write.{
   planVBlock,
   reclaims,
   roomOps,
+  takesBlock,
   writeOps,
   written,
   writtenBy,
@@ -42,7 +43,7 @@ use Rattle.rules.specs.Write.{
 use Rattle.rules.specs.Replies.{lengthsFit, replyOf}
 use Rattle.rules.specs.Requests.{Request, write, requestCluster, requestRegion}
 use Rattle.rules.specs.Machine.{viewAfter}
-use Rattle.rules.proofs.Admitted.{admitted, stamp-left, write-checks}
+use Rattle.rules.proofs.Admitted.{admitted, stamp-left, write-checks, write-free}
 use Rattle.rules.proofs.Continues.{Makes, continue-base, continue-makes, is-open}
 use Rattle.rules.proofs.Sizes.{Sizes}
 use Rattle.rules.proofs.Opens.{open-makes}
@@ -50,24 +51,25 @@ use Rattle.rules.proofs.PlanCases.{Case, goes-on, plan-case, renews, ta
 use Rattle.rules.proofs.Reclaims.{reclaim-makes}
 use Rattle.rules.proofs.RegionFacts.{Neat, neat}
 use Rattle.rules.proofs.TableFacts.{Tables, lengths-out}
-use Rattle.rules.proofs.Views.{body-size}
+use Rattle.rules.proofs.Views.{HasFree, body-size}
 use Rattle.rules.proofs.Writes.{others-same, own-is, reads-else, reads-given, reads-rest, tables-after, write-clean, write-orderly, write-marks}
 
 -- ---- every plan makes room
 
-module _ (p : Params) (z : Sizes p) (b : Board) (t : Tables p b) (r : ℕ) (region : r < p .mu) (nt : Neat p r (view p b r)) where
+module _ (p : Params) (z : Sizes p) (b : Board) (t : Tables p b) (r : ℕ) (region : r < p .mu) (nt : Neat p r (view p b r))
+    (free : takesBlock (planOf p (view p b r)) ≡ true → HasFree p b) where
   to-continue : hasRoom p (view p b r) ≡ true → Makes p b r (continues (vblockOf p ((view p b r) .lastSeg)) (filled p ((view p b r) .body (vblockOf p ((view p b r) .lastSeg)))))
   to-continue h =
       let s : (u : ℕ) → u < p .gamma → assigned (view p b r) u ≡ true → length ((view p b r) .body u) ≡ blockBytes p = λ u k a. body-size p z b t r u region k a in
       continue-makes p z b t r region nt _ _ (continue-base p z r (view p b r) nt s h) ((is-open p z r (view p b r) nt s h) .has)
 
   pub makes : Makes p b r (planOf p (view p b r))
-  makes = go (planOf p (view p b r)) (plan-case p z r (view p b r) nt)
+  makes = go (planOf p (view p b r)) (plan-case p z r (view p b r) nt) free
     where
-      go : (pl : Plan) → Case p (view p b r) pl → Makes p b r pl
-      go pl (goes-on h e) = rw e (to-continue h)
-      go pl (takes h v low lacks e) = rw e (open-makes p z b t r region nt h v low lacks)
-      go pl (renews h every v low few e) = rw e (reclaim-makes p z b t r region nt h every v low few)
+      go : (pl : Plan) → Case p (view p b r) pl → (takesBlock pl ≡ true → HasFree p b) → Makes p b r pl
+      go pl (goes-on h e) has = rw e (to-continue h)
+      go pl (takes h v low lacks e) has = rw e (open-makes p z b t r region nt h v low lacks (has (rw e (unfold takesBlock in refl))))
+      go pl (renews h every v low few e) has = rw e (reclaim-makes p z b t r region nt h every v low few (has (rw e (unfold takesBlock in refl))))
 
 -- ---- the counts
 
@@ -158,7 +160,7 @@ write-promise p b q e =
     let r = regionOf p (requestCluster p q) in
     let low : r < p .mu = mod-lt (requestCluster p q) (acc .sized .regions) in
     let pl = planOf p (view p b r) in
-    let m : Makes p b r pl = makes p (acc .sized) b (acc .tables) r low (neat p r (view p b r) (acc .tidy r low)) in
+    let m : Makes p b r pl = makes p (acc .sized) b (acc .tables) r low (neat p r (view p b r) (acc .tidy r low)) (write-free p b q e) in
     record {
       orderlyLeft = write-orderly p b q acc r refl pl m left;
       lengths = lengths-out p (writtenBy p b r q pl) (tables-after p b q acc r refl pl m left) (write-marks p b r q pl);

@@ -1,4 +1,4 @@
--- Document 01, "When a state is orderly", and document 02's rules of the marks and of the stamps: eleven rules, each a test with a name, in the documents' order.
+-- Document 01, "When a state is orderly", and document 02's rules of the marks and of the stamps: ten rules, each a test with a name, in the documents' order.
 -- Assumes nothing.
 use Prim.Native.Nat.{ℕ, _+_, _-_, _*_}
 use mathlib.Core.Bool.{Bool, true, not, _&&_, _||_, Bool·beq, cond}
@@ -35,10 +35,6 @@ named p bt n = not (allBelow (p .mu * p .gamma) (λ i. not (eqb (btEntry bt i) n
 -- "a block is used exactly if BT names it"
 unfoldable pub usedRule : Params → List ℕ → List ℕ → Bool
 usedRule p bt bst = allBelow (p .N) (λ n. Bool·beq (eqb (bstAt bst n) 1) (named p bt n))
-
--- "At least μγ+1 blocks are not reserved"
-unfoldable pub roomRule : Params → List ℕ → Bool
-roomRule p bst = leb (p .mu * p .gamma + 1) (countBelow (p .N) (λ n. not (eqb (bstAt bst n) 2)))
 
 -- "Free blocks are erased throughout. Reserved blocks may hold anything"
 unfoldable pub freeRule : Params → List ℕ → List ℕ → Bool
@@ -126,14 +122,13 @@ regionStamps p t vw = allBelow (p .gamma) (λ v. stampsTo p t (vw .body v))
 unfoldable pub stampRule : Params → Board → Bool
 stampRule p b = allBelow (p .mu) (λ r. regionStamps p (stampAt (b .stamps) r) (view p b r))
 
--- the eleven rules in order
+-- the ten rules in order. T-12: "An orderly state no longer asks for μγ+1 good blocks"
 unfoldable pub rulesOf : Params → Board → List Bool
 rulesOf p b =
     bstRule p (b .bst)
     ∷ btRule p (b .bt)
     ∷ onceRule p (b .bt)
     ∷ usedRule p (b .bt) (b .bst)
-    ∷ roomRule p (b .bst)
     ∷ freeRule p (b .chip) (b .bst)
     ∷ blocksRule p b
     ∷ fstRule p b
@@ -144,3 +139,7 @@ rulesOf p b =
 
 unfoldable pub orderly : Params → Board → Bool
 orderly p b = allTrue (rulesOf p b)
+
+-- what document 01 asked for here, and T-12 for condition 1's last sentence and for condition 3 alone: "at least μγ+1 blocks are not reserved"
+unfoldable pub enough : Params → Board → Bool
+enough p b = leb (p .mu * p .gamma + 1) (countBelow (p .N) (λ n. not (eqb (bstAt (b .bst) n) 2)))

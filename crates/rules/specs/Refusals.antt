@@ -11,14 +11,14 @@ use Rattle.rules.specs.Requests.{Call, format, read, write, release, que
 use Rattle.rules.specs.Replies.{Row, numberOf, rowsOf, whyRows}
 
 -- the column "by" of document 01's table: 1 and 2 all; 3, 4, 5 and 7 read and write; 6 format. T-03: "Refusals: 1, 2, then 4 .. then 7". T-01: "Refusals: 8,
--- after 2 .. 1, 2 and 8 are for the whole call". T-07: "9, after 7", and "1, 2, 6 and 7 for the start"
+-- after 2 .. 1, 2 and 8 are for the whole call". T-07: "9, after 7", and "1, 2, 6 and 7 for the start", which with T-12 "no longer" gives 6; T-12: "10, after 9"
 unfoldable pub refusalsOf : Call → List ℕ
 refusalsOf format = 1 ∷ 2 ∷ 6 ∷ []
 refusalsOf (read q) = 1 ∷ 2 ∷ 3 ∷ 4 ∷ 5 ∷ 7 ∷ []
-refusalsOf (write q) = 1 ∷ 2 ∷ 3 ∷ 4 ∷ 5 ∷ 7 ∷ 9 ∷ []
+refusalsOf (write q) = 1 ∷ 2 ∷ 3 ∷ 4 ∷ 5 ∷ 7 ∷ 9 ∷ 10 ∷ []
 refusalsOf (release c) = 1 ∷ 2 ∷ 4 ∷ 7 ∷ []
 refusalsOf (queue l) = 1 ∷ 2 ∷ 8 ∷ []
-refusalsOf start = 1 ∷ 2 ∷ 6 ∷ 7 ∷ []
+refusalsOf start = 1 ∷ 2 ∷ 7 ∷ []
 
 -- "Checked in this order"
 abbrev pub RowsAsSaid : Type 0

@@ -2,23 +2,25 @@
 -- Assumes nothing.
 use Prim.Native.Nat.{ℕ, _+_, _*_}
 use mathlib.Core.Path.{_≡_}
-use mathlib.Core.Bool.{Bool, true, not, _||_, cond}
+use mathlib.Core.Bool.{Bool, true, not, _&&_, _||_, cond}
 use mathlib.Core.List.{List, [], _∷_, _++_}
 use lib.ListN.{length}
 use lib.Dec.{leb, ltb, eqb}
 use Rattle.lists.specs.Below.{allTrue}
 use Rattle.rules.specs.declared.Params.{Params}
 use Rattle.rules.specs.declared.Reply.{Reply}
-use Rattle.rules.specs.declared.Reply.the-variants.{Accepted, BadParameter, WrongLength, BadCount, BadAddress, WrongData, TooFewBlocks, NotOrderly, TooFewAnswers, NoStampLeft}
+use Rattle.rules.specs.declared.Reply.the-variants.{Accepted, BadParameter, WrongLength, BadCount, BadAddress, WrongData, TooFewBlocks, NotOrderly, TooFewAnswers, NoStampLeft, NoBlockLeft}
 use Rattle.rules.specs.Parameters.{chipBytes, allowed}
 use Rattle.rules.specs.Numbers.{sectorOf}
-use Rattle.rules.specs.Tables.{Board, marksLength, stampAt}
+use Rattle.rules.specs.Tables.{Board, marksLength, notFound, stampAt}
+use Rattle.rules.specs.Regions.{view}
 use Rattle.rules.specs.Orderly.{orderly}
 use Rattle.rules.specs.Requests.{Request, requestRegion, Call, format, read, write, release, queue, start}
 use Rattle.rules.specs.Format.{goodBlocks}
 use Rattle.rules.specs.Start.{startable}
+use Rattle.rules.specs.Write.{freeBlock, planOf, takesBlock}
 
--- the documents' number of each reply; 8 is T-01's, 9 T-07's
+-- the documents' number of each reply; 8 is T-01's, 9 T-07's, 10 T-12's
 abbrev pub numberOf : Reply → ℕ
 numberOf Accepted = 0
 numberOf BadParameter = 1
@@ -30,6 +32,7 @@ numberOf TooFewBlocks = 6
 numberOf NotOrderly = 7
 numberOf TooFewAnswers = 8
 numberOf NoStampLeft = 9
+numberOf NoBlockLeft = 10
 
 unfoldable pub isAccepted : Reply → Bool
 isAccepted r = eqb (numberOf r) 0
@@ -100,6 +103,10 @@ tooFewAnswers items answers = ltb answers items
 unfoldable pub noStampLeft : ℕ → Bool
 noStampLeft t = leb 4294967295 t
 
+-- T-12: 10 "exactly when a write needs a free block and there is none": one to region r
+unfoldable pub noBlockLeft : Params → Board → ℕ → Bool
+noBlockLeft p b r = takesBlock (planOf p (view p b r)) && eqb (freeBlock p (b .bst) (b .wear)) notFound
+
 -- ---- the table
 
 -- what is given where the row applies
@@ -125,22 +132,29 @@ accessRows p q = row (badCount p q) BadCount ∷ row (badAddress p (q .lba)) Bad
 unfoldable pub orderRow : Params → Board → List (Row Reply)
 orderRow p b = row (notOrderly p b) NotOrderly ∷ []
 
--- T-07: "9, after 7"
-unfoldable pub stampRow : Params → Board → Request → List (Row Reply)
-stampRow p b q = row (noStampLeft (stampAt (b .stamps) (requestRegion p q))) NoStampLeft ∷ []
+-- T-07: "9, after 7", and T-12: "10, after 9", of a write to region r
+unfoldable pub stampRow : Params → Board → ℕ → List (Row Reply)
+stampRow p b r = row (noStampLeft (stampAt (b .stamps) r)) NoStampLeft ∷ []
+
+unfoldable pub blockRow : Params → Board → ℕ → List (Row Reply)
+blockRow p b r = row (noBlockLeft p b r) NoBlockLeft ∷ []
+
+-- the rows of a write but the last, which are told before its plan is made
+unfoldable pub earlyRows : Params → Board → Request → List (Row Reply)
+earlyRows p b q = lentRows p b ++ (accessRows p q ++ (orderRow p b ++ stampRow p b (requestRegion p q)))
 
 -- T-01: "8, after 2"; "1, 2 and 8 are for the whole call"; by the lengths of both lists
 unfoldable pub queueRows : Params → Board → ℕ → ℕ → List (Row Reply)
 queueRows p b items answers = lentRows p b ++ (row (tooFewAnswers items answers) TooFewAnswers ∷ [])
 
--- the rows of a call. T-03: "1, 2, then 4 for a cluster not below C, then 7". T-07: "1, 2, 6 and 7 for the start"
+-- the rows of a call. T-03: "1, 2, then 4 for a cluster not below C, then 7". T-07: "1, 2, 6 and 7 for the start", and T-12: it "no longer" gives 6
 unfoldable pub rowsOf : Params → Board → Call → List (Row Reply)
 rowsOf p b format = lentRows p b ++ (row (tooFewBlocks p b) TooFewBlocks ∷ [])
 rowsOf p b (read q) = lentRows p b ++ (accessRows p q ++ orderRow p b)
-rowsOf p b (write q) = lentRows p b ++ (accessRows p q ++ (orderRow p b ++ stampRow p b q))
+rowsOf p b (write q) = earlyRows p b q ++ blockRow p b (requestRegion p q)
 rowsOf p b (release c) = lentRows p b ++ (row (badCluster p c) BadAddress ∷ orderRow p b)
 rowsOf p b (queue l) = queueRows p b (length (l .items)) (length (l .answers))
-rowsOf p b start = lentRows p b ++ (row (tooFewBlocks p b) TooFewBlocks ∷ row (notStartable p b) NotOrderly ∷ [])
+rowsOf p b start = lentRows p b ++ (row (notStartable p b) NotOrderly ∷ [])
 
 unfoldable pub replyOf : Params → Board → Call → Reply
 replyOf p b c = firstRow Accepted (rowsOf p b c)

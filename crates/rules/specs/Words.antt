@@ -129,14 +129,13 @@ pub record RegionListed (p : Params) (r : ℕ) (vw : View) : Type 0 where
   pub fst : (((v : ℕ) → v < p .gamma → assigned vw v ≡ false) × (vw .lastSeg ≡ 65535)) ⊎ OpenListed p vw
   pub ct : (c : ℕ) → c < p .C → c % p .mu ≡ r → (vw .segOf c ≡ 65535) ⊎ EntryListed p vw c
 
--- the five bullets, in their order, T-06's "each mark equals the validity rule", and T-07's "no page of an orderly region has a larger" stamp than the region's
+-- the five bullets, in their order, without "At least μγ+1 blocks are not reserved", which T-12 takes out; T-06's "each mark equals the validity rule", and T-07's "no page of an orderly region has a larger" stamp than the region's
 -- last: a frame's pages have the one that its first page has
 pub record OrderlyListed (p : Params) (b : Board) : Type 0 where
   pub kinds : (n : ℕ) → n < p .N → (bstAt (b .bst) n ≡ 0) ⊎ ((bstAt (b .bst) n ≡ 1) ⊎ (bstAt (b .bst) n ≡ 2))
   pub names : (i : ℕ) → i < p .mu * p .gamma → (btEntry (b .bt) i ≡ 65535) ⊎ (btEntry (b .bt) i < p .N)
   pub once : (i j : ℕ) → i < p .mu * p .gamma → j < p .mu * p .gamma → (btEntry (b .bt) i ≡ 65535 → ⊥) → btEntry (b .bt) i ≡ btEntry (b .bt) j → i ≡ j
   pub used : (n : ℕ) → n < p .N → (bstAt (b .bst) n ≡ 1) ↔ ((i : ℕ) × (i < p .mu * p .gamma) × (btEntry (b .bt) i ≡ n))
-  pub room : p .mu * p .gamma + 1 ≤ countBelow (p .N) (λ n. not (eqb (bstAt (b .bst) n) 2))
   pub free : (n : ℕ) → n < p .N → bstAt (b .bst) n ≡ 0 → erased (block p (b .chip) n) ≡ true
   pub regions : (r : ℕ) → r < p .mu → RegionListed p r (view p b r)
   pub marks : b .marks ≡ marksOf p b
@@ -205,8 +204,11 @@ pub record FreeListed (p : Params) (b : Board) (n : ℕ) : Type 0 where
   pub least : (m : ℕ) → m < p .N → bstAt (b .bst) m ≡ 0 → wearAt (b .wear) n ≤ wearAt (b .wear) m
   pub lowest : (m : ℕ) → m < n → bstAt (b .bst) m ≡ 0 → wearAt (b .wear) n < wearAt (b .wear) m
 
+-- or 65,535, where none is free
 abbrev pub FreeExactly : Type 0
-FreeExactly = (p : Params) (b : Board) → OrderlyBoard p b → FreeListed p b (freeBlock p (b .bst) (b .wear))
+FreeExactly =
+    (p : Params) (b : Board) → OrderlyBoard p b
+    → ((freeBlock p (b .bst) (b .wear) ≡ 65535) × ((m : ℕ) → m < p .N → bstAt (b .bst) m ≡ 0 → ⊥)) ⊎ FreeListed p b (freeBlock p (b .bst) (b .wear))
 
 -- ---- T-07: a frame with only its first pages programmed
 

@@ -2,7 +2,7 @@
 -- alone; on the board it is a trace and the tables that follow it.
 -- Assumes nothing.
 use Prim.Native.Nat.{ℕ, suc, _+_, _-_, _*_}
-use mathlib.Core.Bool.{Bool, true, not, _&&_, cond}
+use mathlib.Core.Bool.{Bool, true, false, not, _&&_, cond}
 use mathlib.Core.List.{List, [], _∷_, _++_, map}
 use lib.ListN.{length, set}
 use lib.Dec.{leb, ltb, eqb}
@@ -51,6 +51,12 @@ unfoldable pub planVBlock : Plan → ℕ
 planVBlock (continues v f) = v
 planVBlock (opens v) = v
 planVBlock (reclaims v) = v
+
+-- the plan takes a free block
+unfoldable pub takesBlock : Plan → Bool
+takesBlock (continues v f) = false
+takesBlock (opens v) = true
+takesBlock (reclaims v) = true
 
 -- "The victim's valid frames, the old frame of the cluster being written included, are copied"
 unfoldable pub copies : Params → View → Plan → List (List ℕ)

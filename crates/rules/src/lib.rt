@@ -59,7 +59,7 @@ pub struct Label {
     pub vblock: u8,
 }
 
-// Why a call is refused, or that it is accepted. `numberOf` gives the number of each: document 01's, and 8 and 9, which are document 02's.
+// Why a call is refused, or that it is accepted. `numberOf` gives the number of each: document 01's, and 8, 9 and 10, which are document 02's.
 pub enum Reply {
     Accepted,
     BadParameter,
@@ -71,6 +71,7 @@ pub enum Reply {
     NotOrderly,
     TooFewAnswers,
     NoStampLeft,
+    NoBlockLeft,
 }
 
 // One record that holds the reply, both counts of document 01, and T-08's third: how many spare areas the search for the cluster's valid frame looks at.
@@ -103,6 +104,7 @@ pub fn number(r: Reply) -> u32
         Reply::NotOrderly => 7,
         Reply::TooFewAnswers => 8,
         Reply::NoStampLeft => 9,
+        Reply::NoBlockLeft => 10,
     }
 }
 

@@ -10,7 +10,7 @@ use Rattle.lists.specs.Below.{allBelow, allTrue}
 use Rattle.rules.specs.Numbers.{regionOf}
 use Rattle.rules.specs.Orderly.{blocksRule, btRule, ctRule, fstRule, marksRule, rulesOf, stampRule}
 use Rattle.rules.specs.Tables.{Board, boardOf}
-use Rattle.rules.proofs.TableFacts.{nineRules}
+use Rattle.rules.proofs.TableFacts.{eightRules}
 use Rattle.check_rules.specs.Check.{Lent, clusterOk, fstOk}
 use Rattle.check_broken.specs.declared.Rule.{Rule}
 use Rattle.check_broken.specs.declared.Rule.the-variants.{BstValues, BtRange, Ct, FreeErased, Fst, Marks, NamedTwice, Stamps, TooFewLeft, UsedBlock, UsedIfNamed}
@@ -316,8 +316,8 @@ module _ (c : tie.Else9) where
   cts : (wear : List ℕ) → c .before .cts-ok .result ≡ ctRule (a .args .p) (board a wear)
   cts = ct-entries a _ _ (at-if2 .before .bt-ok .ensures) (at-if2 .if2 .left) (c .before .cts-ok .ensures)
 
-  nine : (wear : List ℕ) → nineRules (a .args .p) (board a wear) ≡ true
-  unfolding nineRules rulesOf allTrue
+  nine : (wear : List ℕ) → eightRules (a .args .p) (board a wear) ≡ true
+  unfolding eightRules rulesOf allTrue
   nine wear =
       rw (
         passed _ _ (at-if1 .before .bst-ok .ensures) (at-if1 .if1 .left),
