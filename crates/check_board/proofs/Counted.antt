@@ -1,4 +1,4 @@
--- The check says exactly that the first ten rules hold, that of the marks included. Where there are as many marks as CT entries, each entry is met
+-- The check says exactly that the first nine rules hold, that of the marks included. Where there are as many marks as CT entries, each entry is met
 -- by the cluster of a marked frame, so its segment holds it; and a valid frame has the cluster of one of these, so it is that one.
 -- Assumes nothing.
 use mathlib.Core.Path.{_≡_, ap, ap₂, refl, sym, _∙_}
@@ -36,16 +36,16 @@ use Rattle.rules.specs.Marks.{marked, marksOf}
 use Rattle.rules.proofs.MarkFacts.{right, rule-of}
 use Rattle.marks.proofs.Tables.{mark-at, marks-are}
 use Rattle.check_marks.specs.Shown.{marksValid}
-use Rattle.check_board.specs.Order.{bitAt, blockHeld, countsOk, entryOk, framesOk, named, orderOk, regionHeld, tenRules}
+use Rattle.check_board.specs.Order.{bitAt, blockHeld, countsOk, entryOk, framesOk, named, orderOk, regionHeld, nineRules}
 use Rattle.check_board.proofs.Blocks.{rule-of-block}
 use Rattle.check_board.proofs.Places.{bit-frame, bit-here, bit-in, bit-is, bit-mark, bit-region, bit-vblock, bitOf, frameAt, marks-in, marks-out, region-in, regionAt, vblock-in, vblockAt}
 use Rattle.check_board.proofs.Open.{frames-block, frames-of-rule, rule-of-frames}
 use Rattle.check_board.proofs.Held.{Held, clusterIn, entry-held, frameNamed, held-named, held-ok, held-one, marked-held, vblockNamed}
 
 -- the nine rules of document 01, and that of the marks
-pub ten-is : (p : Params) (b : Board) → tenRules p b ≡ eightRules p b && marksRule p b
-unfolding tenRules eightRules rulesOf allTrue
-ten-is p b = simp (and-assoc, and-true)
+pub nine-is : (p : Params) (b : Board) → nineRules p b ≡ eightRules p b && marksRule p b
+unfolding nineRules eightRules rulesOf allTrue
+nine-is p b = simp (and-assoc, and-true)
 
 -- BT's entries, where the tables' rules hold
 pub lent-in : (p : Params) (chip ct bt fst bst : List ℕ) → Lengths p chip ct bt fst bst → tablesOk p bt bst ≡ true → Lent p chip bt
@@ -142,10 +142,10 @@ module _ (p : Params) (b : Board) (l : Lengths p (b .chip) (b .ct) (b .bt) (b .f
     marks-right : ((k : ℕ) → k < marksLength p → wordAt (b .marks) k < 2 ^ 64) → b .marks ≡ marksOf p b
     marks-right small = marks-are p b (b .marks) long small mark-same
 
-  -- ---- the ten rules hold
-  module _ (o : tenRules p b ≡ true) where
+  -- ---- the nine rules hold
+  module _ (o : nineRules p b ≡ true) where
     mark-is : (r v f : ℕ) → r < p .mu → v < p .gamma → f < 256 → markIn p (b .marks) r v f ≡ marked p (view p b r) v f
-    mark-is r v f hr hv hf = rw (right p b long (and-right (eightRules p b) (sym (ten-is p b) ∙ o))) (mark-at p b r v f hr hv hf)
+    mark-is r v f hr hv hf = rw (right p b long (and-right (eightRules p b) (sym (nine-is p b) ∙ o))) (mark-at p b r v f hr hv hf)
 
     bit-of-mark : (j : ℕ) → j < bits → bitAt (b .marks) j ≡ markedAt j
     bit-of-mark j h =
@@ -160,7 +160,7 @@ module _ (p : Params) (b : Board) (l : Lengths p (b .chip) (b .ct) (b .bt) (b .f
     entry-of c low e = go (nt .entries c low)
       where
         nt : Neat p (regionOf p c) (view p b (regionOf p c))
-        nt = neat p (regionOf p c) (view p b (regionOf p c)) (eight-region p b (and-left (eightRules p b) _ (sym (ten-is p b) ∙ o)) (regionOf p c) (mod-lt c (z .regions)))
+        nt = neat p (regionOf p c) (view p b (regionOf p c)) (eight-region p b (and-left (eightRules p b) _ (sym (nine-is p b) ∙ o)) (regionOf p c) (mod-lt c (z .regions)))
 
         go : ((view p b (regionOf p c)) .segOf c ≡ none) ⊎ Entry p (view p b (regionOf p c)) c → Entry p (view p b (regionOf p c)) c
         go (inl q) =
@@ -211,10 +211,10 @@ module _ (p : Params) (chip ct bt fst bst marks : List ℕ) (l : Lengths p chip 
   unfolding countsOk
   counts-are = rw (l .ctLength, long)
 
-  passes : orderOk p chip ct bt fst bst marks ≡ true → tenRules p board ≡ true
+  passes : orderOk p chip ct bt fst bst marks ≡ true → nineRules p board ≡ true
   unfolding orderOk
   passes h =
-      ten-is p board ∙ and-intro
+      nine-is p board ∙ and-intro
       (sym (check-agrees p chip ct bt fst bst l wear marks stamps) ∙ and-intro k (unfold chipOk in and-intro free (all-below-intro (p .mu) _ region)))
       (rule-of p board (marks-right p board l long k block sub few small))
     where
@@ -257,7 +257,7 @@ module _ (p : Params) (chip ct bt fst bst marks : List ℕ) (l : Lengths p chip 
           and-intro (all-below-intro (p .gamma) _ (λ v hv. block r v hr hv))
           (and-intro (entry r hr) (clusters-ok p board l long k block sub few r))
 
-  fails-not : tenRules p board ≡ true → orderOk p chip ct bt fst bst marks ≡ true
+  fails-not : nineRules p board ≡ true → orderOk p chip ct bt fst bst marks ≡ true
   unfolding orderOk
   fails-not o =
       and-intro k
@@ -266,7 +266,7 @@ module _ (p : Params) (chip ct bt fst bst marks : List ℕ) (l : Lengths p chip 
       (counts-are ∙ eq-eqb (countBelow (p .C) (named ct)) (countBelow (64 * marksLength p) (bitAt marks)) (omega (arith, no-more p board l long k block o, no-fewer p board l long k block o)))))
     where
       both : tablesOk p bt bst && chipOk p chip ct bt fst bst ≡ true
-      both = check-agrees p chip ct bt fst bst l wear marks stamps ∙ and-left (eightRules p board) _ (sym (ten-is p board) ∙ o)
+      both = check-agrees p chip ct bt fst bst l wear marks stamps ∙ and-left (eightRules p board) _ (sym (nine-is p board) ∙ o)
 
       k : tablesOk p bt bst ≡ true
       k = and-left (tablesOk p bt bst) _ both
@@ -295,6 +295,6 @@ module _ (p : Params) (chip ct bt fst bst marks : List ℕ) (l : Lengths p chip 
       region : (r : ℕ) → r < p .mu → regionHeld p chip ct bt fst bst marks r ≡ true
       region r hr = unfold regionHeld in and-intro ((frames-right r hr) .0) (all-below-intro (p .gamma) _ (λ v hv. held r v hr hv))
 
-  -- the tables, the free blocks, the regions and the counts are right exactly where the ten rules hold
-  pub order-agrees : orderOk p chip ct bt fst bst marks ≡ tenRules p board
-  order-agrees = same-truth (orderOk p chip ct bt fst bst marks) (tenRules p board) passes fails-not
+  -- the tables, the free blocks, the regions and the counts are right exactly where the nine rules hold
+  pub order-agrees : orderOk p chip ct bt fst bst marks ≡ nineRules p board
+  order-agrees = same-truth (orderOk p chip ct bt fst bst marks) (nineRules p board) passes fails-not

@@ -1,4 +1,4 @@
--- The check with a bound on the stamps of each region says that the ten rules hold and that no stamp is above its bound: a block whose stamps are not right counts
+-- The check with a bound on the stamps of each region says that the nine rules hold and that no stamp is above its bound: a block whose stamps are not right counts
 -- as one without a programmed frame, which no rule allows.
 -- Assumes nothing.
 use mathlib.Core.Path.{_≡_, refl, sym, _∙_}
@@ -22,8 +22,8 @@ use Rattle.rules.proofs.Stamps.{bare-frame, bounded-out, neat-bounded}
 use Rattle.rules.proofs.TableFacts.{eightRules}
 use Rattle.check_rules.specs.Check.{Lengths, tablesOk, vblockFrames, vblockFramesTo, vblockStamps}
 use Rattle.check_rules.proofs.Agree.{same-truth}
-use Rattle.check_board.specs.Order.{blockHeld, blockHeldTo, boundOf, countsOk, entryOk, framesOk, orderOk, orderOkTo, regionHeld, regionHeldTo, tenRules}
-use Rattle.check_board.proofs.Counted.{order-agrees, ten-is}
+use Rattle.check_board.specs.Order.{blockHeld, blockHeldTo, boundOf, countsOk, entryOk, framesOk, orderOk, orderOkTo, regionHeld, regionHeldTo, nineRules}
+use Rattle.check_board.proofs.Counted.{order-agrees, nine-is}
 use Rattle.check_board.proofs.Open.{framed}
 
 -- ---- one block
@@ -69,7 +69,7 @@ module _ (p : Params) (chip ct bt fst bst marks : List ℕ) (l : Lengths p chip 
     abbrev unbounded : Bool
     unbounded = allBelow (p .mu) (regionHeld p chip ct bt fst bst marks)
 
-    passes : orderOkTo p chip ct bt fst bst marks last ≡ true → tenRules p board && bounded ≡ true
+    passes : orderOkTo p chip ct bt fst bst marks last ≡ true → nineRules p board && bounded ≡ true
     unfolding orderOkTo
     passes h = and-intro (sym (order-agrees p chip ct bt fst bst marks l long small wear stamps) ∙ all) (all-below-intro (p .mu) _ bound)
       where
@@ -94,7 +94,7 @@ module _ (p : Params) (chip ct bt fst bst marks : List ℕ) (l : Lengths p chip 
         bound : (r : ℕ) → r < p .mu → regionStamps p (last r) (view p board r) ≡ true
         bound r hr = unfold regionStamps in all-below-intro (p .gamma) _ (λ v hv. sym (stamps-same r v (last r) hv) ∙ (held r v hr hv) .1)
 
-    fails-not : tenRules p board && bounded ≡ true → orderOkTo p chip ct bt fst bst marks last ≡ true
+    fails-not : nineRules p board && bounded ≡ true → orderOkTo p chip ct bt fst bst marks last ≡ true
     unfolding orderOk
     fails-not h =
         unfold orderOkTo in
@@ -102,13 +102,13 @@ module _ (p : Params) (chip ct bt fst bst marks : List ℕ) (l : Lengths p chip 
         (and-intro (and-left (freeRule p chip bst) _ (and-right (tablesOk p bt bst) all)) (and-intro (all-below-intro (p .mu) _ region) (and-right unbounded rest)))
       where
         all : orderOk p chip ct bt fst bst marks ≡ true
-        all = order-agrees p chip ct bt fst bst marks l long small wear stamps ∙ and-left (tenRules p board) _ h
+        all = order-agrees p chip ct bt fst bst marks l long small wear stamps ∙ and-left (nineRules p board) _ h
 
         rest : unbounded && countsOk ct marks ≡ true
         rest = and-right (freeRule p chip bst) (and-right (tablesOk p bt bst) all)
 
         within : (r : ℕ) → r < p .mu → allBelow (p .gamma) (λ v. stampsTo p (last r) ((view p board r) .body v)) ≡ true
-        within r hr = unfold regionStamps in all-at (p .mu) (λ r. regionStamps p (last r) (view p board r)) (and-right (tenRules p board) h) r hr
+        within r hr = unfold regionStamps in all-at (p .mu) (λ r. regionStamps p (last r) (view p board r)) (and-right (nineRules p board) h) r hr
 
         stamped : (r v : ℕ) → r < p .mu → v < p .gamma → vblockStamps p chip bt (last r) r v ≡ true
         stamped r v hr hv = stamps-same r v (last r) hv ∙ all-at (p .gamma) _ (within r hr) v hv
@@ -124,24 +124,24 @@ module _ (p : Params) (chip ct bt fst bst marks : List ℕ) (l : Lengths p chip 
         region : (r : ℕ) → r < p .mu → regionHeldTo p chip ct bt fst bst marks (last r) r ≡ true
         region r hr = unfold regionHeldTo in and-intro (and-left (entryOk p bt r (fstAt fst r)) _ (was r hr)) (blocks r hr)
 
-    to-agrees : orderOkTo p chip ct bt fst bst marks last ≡ tenRules p board && bounded
-    to-agrees = same-truth (orderOkTo p chip ct bt fst bst marks last) (tenRules p board && bounded) passes fails-not
+    to-agrees : orderOkTo p chip ct bt fst bst marks last ≡ nineRules p board && bounded
+    to-agrees = same-truth (orderOkTo p chip ct bt fst bst marks last) (nineRules p board && bounded) passes fails-not
 
   -- with the last stamps as bounds it is the rules' test
   pub in-order-is : orderOkTo p chip ct bt fst bst marks (boundOf true stamps) ≡ orderly p board
   unfolding boundOf
   in-order-is = to-agrees (boundOf true stamps) ∙ whole
     where
-      whole : tenRules p board && allBelow (p .mu) (λ r. regionStamps p (boundOf true stamps r) (view p board r)) ≡ orderly p board
-      whole = unfold orderly tenRules rulesOf allTrue stampRule boundOf in simp (and-assoc, and-true)
+      whole : nineRules p board && allBelow (p .mu) (λ r. regionStamps p (boundOf true stamps r) (view p board r)) ≡ orderly p board
+      whole = unfold orderly nineRules rulesOf allTrue stampRule boundOf in simp (and-assoc, and-true)
 
-  -- and with none it is the first ten rules
-  pub ten-rules-is : orderOkTo p chip ct bt fst bst marks (boundOf false stamps) ≡ tenRules p board
-  ten-rules-is = to-agrees (boundOf false stamps) ∙ same-truth _ (tenRules p board) (λ h. and-left (tenRules p board) _ h) (λ h. and-intro h (all-below-intro (p .mu) _ (any h)))
+  -- and with none it is the first nine rules
+  pub nine-rules-is : orderOkTo p chip ct bt fst bst marks (boundOf false stamps) ≡ nineRules p board
+  nine-rules-is = to-agrees (boundOf false stamps) ∙ same-truth _ (nineRules p board) (λ h. and-left (nineRules p board) _ h) (λ h. and-intro h (all-below-intro (p .mu) _ (any h)))
     where
-      any : tenRules p board ≡ true → (r : ℕ) → r < p .mu → regionStamps p (boundOf false stamps r) (view p board r) ≡ true
+      any : nineRules p board ≡ true → (r : ℕ) → r < p .mu → regionStamps p (boundOf false stamps r) (view p board r) ≡ true
       any h r hr =
           unfold boundOf in
           bounded-out p (view p board r) 4294967295
           (neat-bounded p (sizes p (l .fine)) r (view p board r)
-          (neat p r (view p board r) (eight-region p board (and-left (eightRules p board) _ (sym (ten-is p board) ∙ h)) r hr)))
+          (neat p r (view p board r) (eight-region p board (and-left (eightRules p board) _ (sym (nine-is p board) ∙ h)) r hr)))

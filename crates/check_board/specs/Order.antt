@@ -63,9 +63,9 @@ unfoldable pub orderOkTo : Params → List ℕ → List ℕ → List ℕ → Lis
 orderOkTo p chip ct bt fst bst marks last =
     tablesOk p bt bst && (freeRule p chip bst && (allBelow (p .mu) (λ r. regionHeldTo p chip ct bt fst bst marks (last r) r) && countsOk ct marks))
 
--- the first ten rules, all but that of the stamps
-unfoldable pub tenRules : Params → Board → Bool
-tenRules p b = allTrue (take 10 (rulesOf p b))
+-- the first nine rules, all but that of the stamps
+unfoldable pub nineRules : Params → Board → Bool
+nineRules p b = allTrue (take 9 (rulesOf p b))
 
 -- the bound of region r: its last stamp, or none where the stamps are not held to the table
 unfoldable pub boundOf : Bool → List ℕ → ℕ → ℕ

@@ -11,7 +11,7 @@ ghost use Rattle.rules.specs.Orderly.{orderly};
 ghost use Rattle.rules.specs.Parameters.{allowed, frames};
 ghost use Rattle.rules.specs.Tables.{boardOf, marksLength};
 ghost use Rattle.check_rules.specs.Check.{Lengths};
-ghost use Rattle.check_board.specs.Order.{BlocksAsked, bitAt, blockHeldTo, boundOf, countsOk, entryOk, framesOk, orderOkTo, regionHeldTo, tenRules};
+ghost use Rattle.check_board.specs.Order.{BlocksAsked, bitAt, blockHeldTo, boundOf, countsOk, entryOk, framesOk, orderOkTo, regionHeldTo, nineRules};
 use rules::Params;
 use rules::Segment;
 use rules::VBlock;
@@ -252,7 +252,7 @@ pub fn in_order(
     checked(p, chip, ct, bt, fst, bst, marks, stamps, true)
 }
 
-// True if its first ten rules hold, all but that of the stamps.
+// True if its first nine rules hold, all but that of the stamps.
 pub fn in_order_but_stamps(
     p: Params,
     chip: &[u8],
@@ -266,7 +266,7 @@ pub fn in_order_but_stamps(
     requires { ⌜ Lengths p (now chip) (now ct) (now bt) (now fst) (now bst) ⌝ }
     requires { ⌜ length (now marks) ≡ marksLength p ⌝ }
     requires { ⌜ length (now stamps) ≡ p .mu ⌝ }
-    ensures { λ ok. ⌜ ((wear : List ℕ) → ok ≡ tenRules p (boardOf (now (chip .entry)) (now (ct .entry)) (now (bt .entry)) (now (fst .entry)) (now (bst .entry)) wear
+    ensures { λ ok. ⌜ ((wear : List ℕ) → ok ≡ nineRules p (boardOf (now (chip .entry)) (now (ct .entry)) (now (bt .entry)) (now (fst .entry)) (now (bst .entry)) wear
         (now (marks .entry)) (now (stamps .entry)))) ⌝ }
 {
     checked(p, chip, ct, bt, fst, bst, marks, stamps, false)

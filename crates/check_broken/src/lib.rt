@@ -19,7 +19,6 @@ pub enum Rule {
     BtRange,
     NamedTwice,
     UsedIfNamed,
-    TooFewLeft,
     FreeErased,
     UsedBlock,
     Fst,
@@ -28,7 +27,7 @@ pub enum Rule {
     Stamps,
 }
 
-// The place of a rule in that order, from 1 to 11.
+// The number of a rule, from 1 to 11; 5 was that of enough blocks, which T-12 took out, and is never told.
 pub fn rule_number(r: Rule) -> u32
     ensures { λ n. ⌜ n ≡ ruleNumber r ⌝ }
 {
@@ -37,7 +36,6 @@ pub fn rule_number(r: Rule) -> u32
         Rule::BtRange => 2,
         Rule::NamedTwice => 3,
         Rule::UsedIfNamed => 4,
-        Rule::TooFewLeft => 5,
         Rule::FreeErased => 6,
         Rule::UsedBlock => 7,
         Rule::Fst => 8,
@@ -95,7 +93,7 @@ fn blocks_ok(p: Params, chip: &[u8], bt: &[u16]) -> bool
 }
 
 // The first rule that does not hold, of a state that is not orderly: each is looked at only where those before it hold.
-// The last, that of the stamps, needs no look of its own: where the ten others hold it is the one.
+// The last, that of the stamps, needs no look of its own: where the nine others hold it is the one.
 pub fn broken_rule(
     p: Params,
     chip: &[u8],
@@ -123,9 +121,6 @@ pub fn broken_rule(
     }
     if !check_names::used_ok(p, bt, bst) {
         return Rule::UsedIfNamed;
-    }
-    if !check_tables::room_ok(p, bst) {
-        return Rule::TooFewLeft;
     }
     if !check_blocks::frees_ok(p, chip, bst) {
         return Rule::FreeErased;

@@ -16,7 +16,7 @@ use Rattle.lists.proofs.Tests.{all-at, all-below-intro, all-true, and-intro, an
 use Rattle.lists.proofs.Counts.{each-met}
 use Rattle.rules.specs.declared.Params.{Params}
 use Rattle.rules.specs.Numbers.{regionOf}
-use Rattle.rules.specs.Orderly.{blockRule, blocksRule, bstRule, btRule, clusterRule, ctRule, entryRule, freeRule, fstRule, regionBlocks, regionFst, roomRule, rulesOf}
+use Rattle.rules.specs.Orderly.{blockRule, blocksRule, bstRule, btRule, clusterRule, ctRule, entryRule, freeRule, fstRule, regionBlocks, regionFst, rulesOf}
 use Rattle.rules.specs.Pages.{block, erased, filled, frame, held}
 use Rattle.rules.specs.Parameters.{allowed}
 use Rattle.rules.specs.Regions.{assigned, view}
@@ -128,8 +128,8 @@ module _ (p : Params) (b : Board) (fine : Sizes p) (len : lengthsFit p b ≡ tru
     unfolding tablesOk chipOk eightRules rulesOf
     passes =
         let k = truths _ o in
-        and-intro (and-intro (k .0) (and-intro (k .1 .0) (and-intro (k .1 .1 .1 .1 .0) counted)))
-        (and-intro (k .1 .1 .1 .1 .1 .0) (all-below-intro (p .mu) _ region-ok))
+        and-intro (and-intro (k .0) (and-intro (k .1 .0) counted))
+        (and-intro (k .1 .1 .1 .1 .0) (all-below-intro (p .mu) _ region-ok))
 
   -- ---- what passes the check is orderly
   module _ (k : tablesOk p (b .bt) (b .bst) ≡ true) (l : chipOk p (b .chip) (b .ct) (b .bt) (b .fst) (b .bst) ≡ true) where
@@ -141,13 +141,9 @@ module _ (p : Params) (b : Board) (fine : Sizes p) (len : lengthsFit p b ≡ tru
     unfolding tablesOk
     k₁ = and-left (btRule p (b .bt)) _ (and-right (bstRule p (b .bst)) k)
 
-    k₂ : roomRule p (b .bst) ≡ true
+    k₂ : usedOk p (b .bt) (b .bst) ≡ true
     unfolding tablesOk
-    k₂ = and-left (roomRule p (b .bst)) _ (and-right (btRule p (b .bt)) (and-right (bstRule p (b .bst)) k))
-
-    k₃ : usedOk p (b .bt) (b .bst) ≡ true
-    unfolding tablesOk
-    k₃ = and-right (roomRule p (b .bst)) (and-right (btRule p (b .bt)) (and-right (bstRule p (b .bst)) k))
+    k₂ = and-right (btRule p (b .bt)) (and-right (bstRule p (b .bst)) k)
 
     l₀ : freeRule p (b .chip) (b .bst) ≡ true
     unfolding chipOk
@@ -218,7 +214,7 @@ module _ (p : Params) (b : Board) (fine : Sizes p) (len : lengthsFit p b ≡ tru
         each-met (p .mu * p .gamma) (p .N) (λ i. not (eqb (btEntry (b .bt) i) none)) (λ n. eqb (bstAt (b .bst) n) 1) (btEntry (b .bt))
         (λ i k s. let x = low i (entries i k) s in (x, eq-eqb _ _ (usedBack i k (btEntry (b .bt) i) x refl)))
         (λ i j k m s u q. once i j k m q (eqb-false _ _ (not-true _ s)))
-        (omega (arith, eqb-true (countBelow (p .N) (λ n. eqb (bstAt (b .bst) n) 1)) _ k₃)) n h (eq-eqb _ _ e) in
+        (omega (arith, eqb-true (countBelow (p .N) (λ n. eqb (bstAt (b .bst) n) 1)) _ k₂)) n h (eq-eqb _ _ e) in
         (w .0, w .1, w .3)
       where
         low : (i : ℕ) → (btEntry (b .bt) i ≡ none) ⊎ (btEntry (b .bt) i < p .N) → not (eqb (btEntry (b .bt) i) none) ≡ true → btEntry (b .bt) i < p .N
@@ -226,7 +222,7 @@ module _ (p : Params) (b : Board) (fine : Sizes p) (len : lengthsFit p b ≡ tru
         low i (inr q) s = q
 
     tables : Tables p b
-    unfolding bstRule roomRule freeRule lengthsFit
+    unfolding bstRule freeRule lengthsFit
     tables =
         record {
           chipLength = eqb-true _ _ ((truths _ len) .0) ∙ chip-size p;
@@ -241,7 +237,6 @@ module _ (p : Params) (b : Board) (fine : Sizes p) (len : lengthsFit p b ≡ tru
           once = once;
           used = used;
           usedBack = usedBack;
-          room = leb-true _ _ k₂;
           free = λ n h e. rw (eq-eqb (bstAt (b .bst) n) 0 e) at (all-at (p .N) (λ n. not (eqb (bstAt (b .bst) n) 0) || erased (block p (b .chip) n)) l₀ n h);
         }
 

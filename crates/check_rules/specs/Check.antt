@@ -9,7 +9,7 @@ use lib.ListN.{length}
 use Rattle.lists.specs.Below.{allBelow}
 use Rattle.rules.specs.declared.Params.{Params}
 use Rattle.rules.specs.Numbers.{placeOf, regionOf, segmentOf, vblockOf}
-use Rattle.rules.specs.Orderly.{blockRule, bstRule, btRule, freeRule, roomRule, stampsTo}
+use Rattle.rules.specs.Orderly.{blockRule, bstRule, btRule, freeRule, stampsTo}
 use Rattle.rules.specs.Pages.{block, filled, frame, lastIn, programmed}
 use Rattle.rules.specs.Parameters.{allowed, chipBytes, frames}
 use Rattle.rules.specs.Tables.{bstAt, btAt, ctAt, fstAt, none}
@@ -70,7 +70,7 @@ regionOk p chip ct bt fst bst r = allBelow (p .gamma) (vblockOk p chip bt bst r)
 -- the rules of the tables that look at no byte of the chip, and as many blocks used as named: each block that BT names is used and is named once, so
 -- then each used block is named
 unfoldable pub tablesOk : Params → List ℕ → List ℕ → Bool
-tablesOk p bt bst = bstRule p bst && (btRule p bt && (roomRule p bst && usedOk p bt bst))
+tablesOk p bt bst = bstRule p bst && (btRule p bt && usedOk p bt bst)
 
 -- the rules that look at the chip
 unfoldable pub chipOk : Params → List ℕ → List ℕ → List ℕ → List ℕ → List ℕ → Bool

@@ -6,7 +6,7 @@ use mathlib.Core.List.{List}
 use lib.Dec.{eqb}
 use Rattle.lists.specs.Below.{allBelow, countBelow}
 use Rattle.rules.specs.declared.Params.{Params}
-use Rattle.rules.specs.Orderly.{bstRule, roomRule}
+use Rattle.rules.specs.Orderly.{bstRule}
 use Rattle.rules.specs.Tables.{none, bstAt, btAt, btEntry}
 
 -- no lower virtual block of region r has the block of virtual block v
@@ -23,4 +23,4 @@ usedOk p bt bst = eqb (countBelow (p .N) (λ n. eqb (bstAt bst n) 1)) (countBelo
 
 -- the rules of BST, where BT names this many blocks
 unfoldable pub kindsOk : Params → List ℕ → ℕ → Bool
-kindsOk p bst named = bstRule p bst && (roomRule p bst && eqb (countBelow (p .N) (λ n. eqb (bstAt bst n) 1)) named)
+kindsOk p bst named = bstRule p bst && eqb (countBelow (p .N) (λ n. eqb (bstAt bst n) 1)) named

@@ -7,7 +7,7 @@ ghost use lib.Dec.{eqb, ltb};
 ghost use Rattle.lists.specs.Below.{countBelow};
 ghost use Rattle.rules.specs.Parameters.{allowed};
 ghost use Rattle.rules.specs.Tables.{none, btEntry, bstAt};
-ghost use Rattle.rules.specs.Orderly.{bstRule, btRule, roomRule};
+ghost use Rattle.rules.specs.Orderly.{bstRule, btRule};
 ghost use Rattle.check_tables.specs.Entries.{differs, emptyAt, kindsOk};
 use rules::PBlock;
 use rules::Params;
@@ -26,32 +26,6 @@ pub fn bst_ok(p: Params, bst: &[u8]) -> bool
         n += 1;
     }
     true
-}
-
-// How many blocks are not reserved.
-fn not_reserved(bst: &[u8]) -> usize
-    ensures { λ k. ⌜ k ≡ countBelow (length (now (bst .entry))) (λ n. not (eqb (bstAt (now (bst .entry)) n) 2)) ⌝ }
-{
-    let mut k = 0;
-    let mut n = 0;
-    while n < bst.len() {
-        if chip_tables::bst_at(bst, PBlock(n)) != rules::RESERVED {
-            k += 1;
-        }
-        n += 1;
-    }
-    k
-}
-
-// At least μγ+1 blocks are not reserved.
-pub fn room_ok(p: Params, bst: &[u8]) -> bool
-    requires { ⌜ allowed p ≡ true ⌝ }
-    requires { ⌜ length (now bst) ≡ p .N ⌝ }
-    ensures { λ ok. ⌜ ok ≡ roomRule p (now (bst .entry)) ⌝ }
-{
-    let least = p.mu * p.gamma + 1;
-    let k = not_reserved(bst);
-    least <= k
 }
 
 // Entry i of BT is none or names a block.
@@ -93,14 +67,12 @@ fn one_if(ok: bool) -> usize
     0
 }
 
-// BST holds 0, 1 or 2, at least μγ+1 blocks are not reserved, and as many are used as BT names: one pass.
+// BST holds 0, 1 or 2, and as many blocks are used as BT names: one pass.
 pub fn kinds_ok(p: Params, bst: &[u8], named: usize) -> bool
-    requires { ⌜ allowed p ≡ true ⌝ }
     requires { ⌜ length (now bst) ≡ p .N ⌝ }
     ensures { λ ok. ⌜ ok ≡ kindsOk p (now (bst .entry)) named ⌝ }
 {
     let mut used = 0;
-    let mut kept = 0;
     let mut n = 0;
     while n < bst.len() {
         let s = chip_tables::bst_at(bst, PBlock(n));
@@ -108,10 +80,9 @@ pub fn kinds_ok(p: Params, bst: &[u8], named: usize) -> bool
             return false;
         }
         used += one_if(s == rules::USED);
-        kept += one_if(s != rules::RESERVED);
         n += 1;
     }
-    (p.mu * p.gamma + 1 <= kept) & (used == named)
+    used == named
 }
 
 // No lower virtual block of region r has the block of virtual block v.

@@ -7,23 +7,20 @@ use Prim.Native.Nat.{ℕ, suc, _+_, _<_}
 use native.Mathlib.Nat.{add-zero}
 use native.Mathlib.Omega.{arith}
 use native.Mathlib.Decide.{ℕ-discrete, decLt}
-use mathlib.Core.Bool.{Bool, true, false, not, _&&_, cond}
+use mathlib.Core.Bool.{Bool, true, false, _&&_, cond}
 use mathlib.Core.List.{List, [], _∷_}
 use lib.Dec.{eqb, ltb}
 use lib.ListN.{length, getD}
-use borrow.Author.Tests.{eq-eqb, eqb-false, eqb-true, le-ltb, lt-ltb, ne-eqb, not-false, not-true}
+use borrow.Author.Tests.{eq-eqb, le-ltb, lt-ltb, ne-eqb}
 use Rattle.lists.specs.Below.{updated}
 use Rattle.lists.proofs.Joins.{updated-other, updated-same}
-use Rattle.lists.proofs.Searches.{first-spec}
-use Rattle.lists.proofs.Tests.{so}
 use Rattle.rules.specs.declared.Params.{Params}
 use Rattle.rules.specs.Numbers.{segmentOf, vblockOf}
 use Rattle.rules.specs.Pages.{frame, held}
 use Rattle.rules.specs.Parameters.{blockBytes, frames}
 use Rattle.rules.specs.Regions.{View, assigned, valid, validFrames, view}
-use Rattle.rules.specs.Tables.{Board, none}
-use Rattle.rules.specs.Write.{Plan, continues, copies, hasRoom, lowestUnassigned, opens, planFrame, planOf, planVBlock, reclaims}
-use Rattle.rules.proofs.Continues.{Makes}
+use Rattle.rules.specs.Tables.{Board}
+use Rattle.rules.specs.Write.{Plan, continues, copies, hasRoom, opens, planOf, reclaims}
 use Rattle.rules.proofs.Frames.{erased-not, seg-vblock}
 use Rattle.rules.proofs.Opens.{fresh-all}
 use Rattle.rules.proofs.ReclaimView.{body-else, copies-length, copy-at, copy-valid, nth-spec, nthValid, reclaim-base, seg-is}
@@ -32,7 +29,7 @@ use Rattle.rules.proofs.Sizes.{Sizes}
 use Rattle.rules.proofs.TableFacts.{Tables}
 use Rattle.rules.proofs.Victims.{valid-out}
 use Rattle.rules.proofs.Views.{body-size}
-use Rattle.rules.proofs.WritePromise.{makes}
+use Rattle.rules.proofs.PlanCases.{Case, goes-on, plan-case, renews, takes}
 use Rattle.marks.specs.Kept.{firstMarks, roomMarks}
 use Rattle.rules.specs.Machine.{follow, withRoom}
 use Rattle.rules.specs.Marks.{Marks, marked}
@@ -120,36 +117,16 @@ opens-marks p vw v lacks u g = ap (λ (t : Bool). ltb g (frames p) && t) (go (�
 
 -- ---- the region's plan
 
--- what the rules for the choice of a plan say of it
-abbrev Fits : Params → View → Plan → Type 0
-Fits p vw (continues v f) = Unit {0}
-Fits p vw (opens v) = assigned vw v ≡ false
-Fits p vw (reclaims v) = (hasRoom p vw ≡ false) × ((u : ℕ) → u < p .gamma → assigned vw u ≡ true)
-
-fits : (p : Params) → Sizes p → (vw : View) → Fits p vw (planOf p vw)
-unfolding planOf lowestUnassigned
-fits p z vw = go (so (hasRoom p vw)) (so (eqb (lowestUnassigned p vw) none)) (first-spec none (p .gamma) (λ v. not (assigned vw v)) (omega (arith, z .gammaHigh)))
-  where
-    go : (hasRoom p vw ≡ true) ⊎ (hasRoom p vw ≡ false) → (eqb (lowestUnassigned p vw) none ≡ true) ⊎ (eqb (lowestUnassigned p vw) none ≡ false)
-        → ((lowestUnassigned p vw ≡ none) × ((i : ℕ) → i < p .gamma → not (assigned vw i) ≡ false))
-        ⊎ ((lowestUnassigned p vw < p .gamma) × (not (assigned vw (lowestUnassigned p vw)) ≡ true)) → Fits p vw (planOf p vw)
-    go (inl h) s w = rw h tt
-    go (inr h) (inl s) (inl w) = rw (h, s) (h, λ u k. not-false _ (w .1 u k))
-    go (inr h) (inl s) (inr w) = absurd (omega (arith, eqb-true (lowestUnassigned p vw) none s, w .0, z .gammaHigh))
-    go (inr h) (inr s) (inl w) = absurd (eqb-false _ _ s (w .0))
-    go (inr h) (inr s) (inr w) = rw (h, s) (not-true _ (w .1))
-
 module _ (p : Params) (z : Sizes p) (b : Board) (t : Tables p b) (r : ℕ) (region : r < p .mu) (nt : Neat p r (view p b r)) where
   pub room-marks : (m : Marks) (v f : ℕ) → m r v f ≡ marked p (view p b r) v f
       → roomMarks p (view p b r) r (planOf p (view p b r)) m r v f ≡ marked p (withRoom p (view p b r) (planOf p (view p b r))) v f
-  room-marks m v f is = go (planOf p (view p b r)) (fits p z (view p b r)) (makes p z b t r region nt)
+  room-marks m v f is = go (planOf p (view p b r)) (plan-case p z r (view p b r) nt)
     where
-      go : (pl : Plan) → Fits p (view p b r) pl → Makes p b r pl → roomMarks p (view p b r) r pl m r v f ≡ marked p (withRoom p (view p b r) pl) v f
-      go (continues u g) k mk = unfold roomMarks withRoom in is
-      go (opens u) k mk = rw (opens-marks p (view p b r) u k v f) (unfold roomMarks in is)
-      go (reclaims u) k mk =
-          rw (reclaim-marks p z r (view p b r) nt (k .0) (k .1) (λ w h. body-size p z b t r w region h (k .1 w h)) u (unfold planVBlock in mk .base .ready .mine)
-          (unfold planFrame in mk .base .ready .low) v f)
+      go : (pl : Plan) → Case p (view p b r) pl → roomMarks p (view p b r) r pl m r v f ≡ marked p (withRoom p (view p b r) pl) v f
+      go pl (goes-on h e) = rw e (unfold roomMarks withRoom in is)
+      go pl (takes h u low lacks e) = rw (e, opens-marks p (view p b r) u lacks v f) (unfold roomMarks in is)
+      go pl (renews h every u low few e) =
+          rw (e, reclaim-marks p z r (view p b r) nt h every (λ w k. body-size p z b t r w region k (every w k)) u low few v f)
           (unfold roomMarks firstMarks in rw (eq-eqb r r refl, is))
 
 -- the marks of another region stay

@@ -12,7 +12,7 @@ use Rattle.rules.specs.Regions.{View, view}
 use Rattle.rules.specs.Replies.{replyOf}
 use Rattle.rules.specs.Tables.{Board}
 use Rattle.rules.specs.Write.{Plan, newFrame, planFrame, planOf, planVBlock, written, nextStamp}
-use Rattle.rules.proofs.Admitted.{Admitted, admitted, write-checks, stamp-left}
+use Rattle.rules.proofs.Admitted.{Admitted, admitted, stamp-left, write-checks, write-free}
 use Rattle.rules.proofs.Continues.{Makes}
 use Rattle.rules.proofs.FramePut.{Sheet}
 use Rattle.rules.proofs.NewFrames.{host-sheet}
@@ -49,7 +49,7 @@ module _ (p : Params) (b : Board) (q : Request) (e : replyOf p b (write q) ≡ A
   tidy = neat p r vw (acc .tidy r region)
 
   makes-room : Makes p b r pl
-  makes-room = makes p (acc .sized) b (acc .tables) r region tidy
+  makes-room = makes p (acc .sized) b (acc .tables) r region tidy (write-free p b q e)
 
   sheet : Sheet p (planVBlock pl) (requestCluster p q) (newFrame p vw q (nextStamp b r) (planVBlock pl))
   sheet = host-sheet p (acc .sized) vw (λ v h a. body-size p (acc .sized) b (acc .tables) r v region h a) q (acc .asked) (tidy .entries (requestCluster p q) (acc .asked .cluster))

@@ -3,7 +3,7 @@
 -- Assumes nothing.
 use mathlib.Core.Path.{_≡_, refl, sym, ap, _∙_}
 use mathlib.Core.Logic.{_⊎_, inl, inr}
-use Prim.Native.Nat.{ℕ, zero, suc, _+_, _-_, _*_, _/_, _%_, _≤_, _<_}
+use Prim.Native.Nat.{ℕ, zero, suc, _-_, _/_, _≤_, _<_}
 use native.Mathlib.Nat.{div-lt-iff-lt-mul}
 use native.Mathlib.Omega.{arith}
 use native.Mathlib.Decide.{ℕ-discrete, decLt}
@@ -12,11 +12,10 @@ use mathlib.Core.List.{List}
 use lib.ListN.{drop, getD}
 use lib.Dec.{eqb}
 use borrow.Author.Tests.{eq-eqb, eqb-true}
-use Rattle.lists.specs.Parts.{allAre}
 use Rattle.lists.proofs.Searches.{last-found}
-use Rattle.lists.proofs.Tests.{and-intro, and-left, count-is, count-le, never, so}
+use Rattle.lists.proofs.Tests.{and-intro, and-left, count-is, count-le, never}
 use Rattle.rules.specs.declared.Params.{Params}
-use Rattle.rules.specs.Parameters.{allowed, frames}
+use Rattle.rules.specs.Parameters.{frames}
 use Rattle.rules.specs.Numbers.{placeOf, regionOf, segmentOf, vblockOf}
 use Rattle.rules.specs.Tables.{Board, bstAt, none, notFound}
 use Rattle.rules.specs.Pages.{filled, frame, held, holds, lastIn, page, pageUsed, programmed, spare, spareBytes, whole, stampOf}

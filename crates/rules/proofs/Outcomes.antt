@@ -1,10 +1,10 @@
 -- What a call leaves, by its reply: accepted with its work done, or refused.
 -- Assumes nothing.
-use mathlib.Core.Path.{_≡_, refl, sym, ap, _∙_}
+use mathlib.Core.Path.{_≡_, refl, sym, _∙_}
 use mathlib.Core.Logic.{_⊎_, inl, inr}
 use Prim.Native.Nat.{ℕ, _<_}
 use native.Mathlib.Omega.{arith}
-use mathlib.Core.Bool.{Bool, true, false, cond}
+use mathlib.Core.Bool.{false}
 use mathlib.Core.List.{List, [], _∷_}
 use borrow.Author.Tests.{eq-eqb}
 use Rattle.lists.proofs.Tests.{never}
@@ -21,7 +21,7 @@ use Rattle.rules.specs.Write.{writeOps, written}
 use Rattle.rules.specs.Release.{released}
 use Rattle.rules.specs.Start.{startOps, started}
 use Rattle.rules.specs.Replies.{isAccepted, numberOf, replyOf}
-use Rattle.rules.specs.Calls.{Outcome, Work, answerOf, answersIn, does, opsOf, outcomeOf, over, queueWork, readBytes, refuses, single, workOf, writeAll, writeWork}
+use Rattle.rules.specs.Calls.{answerOf, answersIn, does, outcomeOf, over, queueWork, readBytes, refuses, single, workOf, writeAll, writeWork}
 
 -- ---- replies
 

@@ -2,14 +2,14 @@
 -- Assumes nothing.
 use mathlib.Core.Path.{_≡_, refl, sym, _∙_}
 use mathlib.Core.Logic.{_⊎_, inl, inr}
-use Prim.Native.Nat.{ℕ, _+_, _-_, _*_, _≤_, _<_}
+use Prim.Native.Nat.{ℕ, _-_, _*_, _≤_, _<_}
 use native.Mathlib.Omega.{arith}
 use native.Mathlib.Decide.{ℕ-discrete}
 use mathlib.Core.Bool.{Bool, true, false, not, _&&_, _||_, Bool·beq, and-assoc, and-true, false≢true}
 use lib.Dec.{eqb, ltb, leb}
 use borrow.Author.Tests.{eqb-true, eq-eqb, ne-eqb, lt-ltb, ltb-true, leb-true, le-leb, not-true, not-false}
 use lib.ListN.{length, take}
-use Rattle.lists.specs.Below.{allBelow, allTrue, countBelow}
+use Rattle.lists.specs.Below.{allBelow, allTrue}
 use Rattle.lists.specs.Parts.{allAre}
 use Rattle.lists.proofs.Tests.{all-at, all-below-intro, all-true, and-intro, and-left, never, or-cases, or-right, so, some-fails, truths}
 use Rattle.rules.specs.declared.Params.{Params}

@@ -5,12 +5,11 @@ use mathlib.Core.Logic.{_⊎_, inr}
 use Prim.Native.Nat.{ℕ, _-_, _*_, _≤_, _<_}
 use native.Mathlib.Omega.{arith}
 use native.Mathlib.Decide.{ℕ-discrete}
-use mathlib.Core.Bool.{true, not}
+use mathlib.Core.Bool.{true}
 use lib.Dec.{eqb}
 use borrow.Author.Tests.{ne-eqb}
 use lib.ListN.{length}
 use Rattle.lists.specs.Parts.{allAre}
-use Rattle.lists.proofs.Tests.{count-cong}
 use Rattle.rules.specs.declared.Params.{Params}
 use Rattle.rules.specs.Parameters.{blockBytes}
 use Rattle.rules.specs.Tables.{Board, bstAt, btEntry, none}

@@ -6,10 +6,10 @@ use mathlib.Core.Logic.{_⊎_, inl, inr}
 use Prim.Native.Nat.{ℕ, zero, suc, _+_, _-_, _*_, _/_, _%_, _≤_, _<_, min}
 use native.Mathlib.Nat.{div-add-mod', div-div-eq-div-mul, div-lt-iff-lt-mul, mod-lt}
 use native.Mathlib.Omega.{arith}
-use native.Mathlib.Decide.{ℕ-discrete, decLt}
-use mathlib.Core.Bool.{Bool, true, false, not, _&&_, _||_, cond}
+use native.Mathlib.Decide.{ℕ-discrete}
+use mathlib.Core.Bool.{Bool, true, false, not, _&&_, cond}
 use mathlib.Core.List.{List, [], _∷_}
-use lib.Dec.{eqb, leb, ltb}
+use lib.Dec.{eqb, leb}
 use borrow.Author.Tests.{eqb-true, eqb-false, eq-eqb, ne-eqb, le-leb, leb-true, ltb-true, not-true, not-false}
 use lib.ListN.{length, getD, drop, take, set, getD-replicate, length-set}
 use lib.Seq.{ext-getD, getD-drop, getD-take, getD-set-other, getD-set-same}
@@ -20,20 +20,19 @@ use Rattle.lists.proofs.Tests.{all-true, and-intro, and-left, and-right, never,
 use Rattle.rules.specs.declared.Params.{Params}
 use Rattle.rules.specs.Parameters.{allowed, blockBytes, frameBytes, frames, pageBytes, pages, perRegion, within}
 use Rattle.rules.specs.Numbers.{vblockOf}
-use Rattle.rules.specs.Tables.{Board, bstAt, none, notFound, wearAt}
+use Rattle.rules.specs.Tables.{bstAt, none, notFound, wearAt}
 use Rattle.rules.specs.Pages.{block, bytes32, filled, frame, page, spare, spareBytes}
 use Rattle.rules.specs.Regions.{View, assigned, validFrames, view}
-use Rattle.rules.specs.Traces.{Op, erase, onWear, program, replayWear}
+use Rattle.rules.specs.Traces.{erase, onWear, program, replayWear}
 use Rattle.rules.specs.Format.{bad, badMark}
-use Rattle.rules.specs.Write.{continues, freeBlock, hasRoom, lowestUnassigned, opens, planOf, reclaims, victim}
+use Rattle.rules.specs.Write.{freeBlock, hasRoom, lowestUnassigned, planOf, victim}
 use Rattle.rules.specs.Words.{Allowed, AllowedExactly, BadExactly, BadListed, ContinuesListed, FreeExactly, FreeListed, Full, PlanExactly, PlanListed, SpareListed, SparesExactly, WearAfter, erasesOf, fifth}
 use Rattle.rules.proofs.Admitted.{orderly-region}
 use Rattle.rules.proofs.Continues.{open-low, open-of}
-use Rattle.rules.proofs.Frames.{erased-not, le-bytes, right-programmed}
+use Rattle.rules.proofs.Frames.{erased-not, le-bytes}
 use Rattle.rules.proofs.Opens.{all-full}
 use Rattle.rules.proofs.RegionFacts.{Neat, Open, neat}
 use Rattle.rules.proofs.Sizes.{Sizes, sizes, some-page, within-true}
-use Rattle.rules.proofs.TableFacts.{tables-in}
 use Rattle.rules.proofs.Victims.{victim-fewest, victim-lowest}
 
 -- ---- parameters

@@ -1,7 +1,7 @@
 -- Document 01, "When a state is orderly", and document 02's rules of the marks and of the stamps: ten rules, each a test with a name, in the documents' order.
 -- Assumes nothing.
 use Prim.Native.Nat.{ℕ, _+_, _-_, _*_}
-use mathlib.Core.Bool.{Bool, true, not, _&&_, _||_, Bool·beq, cond}
+use mathlib.Core.Bool.{Bool, not, _&&_, _||_, Bool·beq, cond}
 use mathlib.Core.List.{List, [], _∷_}
 use lib.Dec.{leb, ltb, eqb}
 use Rattle.lists.specs.Below.{allBelow, allTrue, countBelow}

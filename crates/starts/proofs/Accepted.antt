@@ -20,18 +20,17 @@ use Rattle.starts.specs.Admitted.{StartAdmitted}
 use Rattle.starts.proofs.Again.{again-admitted, again-ops, again-same}
 
 pub start-admitted : (p : Params) (b : Board) → replyOf p b start ≡ Accepted → StartAdmitted p b
-unfolding replyOf rowsOf lentRows firstRow badParameter wrongLength tooFewBlocks notStartable
+unfolding replyOf rowsOf lentRows firstRow badParameter wrongLength notStartable
 start-admitted p b e =
     let a = passed (badParameter p) _ _ (λ x. omega arith) e in
     let l = passed (wrongLength p b) _ _ (λ x. omega arith) (a .1) in
-    let g = passed (tooFewBlocks p b) _ _ (λ x. omega arith) (l .1) in
-    let s = passed (notStartable p b) _ _ (λ x. omega arith) (g .1) in
-    record { fine = not-false _ (a .0); lengths = not-false _ (l .0); enough = ltb-false _ _ (g .0); starts = not-false _ (s .0) }
+    let s = passed (notStartable p b) _ _ (λ x. omega arith) (l .1) in
+    record { fine = not-false _ (a .0); lengths = not-false _ (l .0); starts = not-false _ (s .0) }
 
 -- and where all that is found, it is accepted
 pub admitted-start : (p : Params) (b : Board) → StartAdmitted p b → replyOf p b start ≡ Accepted
-unfolding replyOf rowsOf lentRows firstRow badParameter wrongLength tooFewBlocks notStartable
-admitted-start p b a = rw (a .fine, a .lengths, le-ltb (goodBlocks p (b .chip)) (p .mu * p .gamma + 1) (a .enough), a .starts)
+unfolding replyOf rowsOf lentRows firstRow badParameter wrongLength notStartable
+admitted-start p b a = rw (a .fine, a .lengths, a .starts)
 
 -- a second start finds nothing to erase, and the same tables
 pub start-again : (p : Params) (b : Board) → StartAdmitted p b

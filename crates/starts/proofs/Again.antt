@@ -80,10 +80,6 @@ module _ (p : Params) (b : Board) (acc : StartAdmitted p b) where
           blank-good p ((started p b) .chip) n z (rw is (fresh-size p)) (rw is (fresh-all p)) ∙ sym (use-good p (b .chip) n (was e))
       go (inr e) = bytes-bad p (b .chip) ((started p b) .chip) n ((swept p b acc) .kept n e)
 
-  pub good-same : goodBlocks p ((started p b) .chip) ≡ goodBlocks p (b .chip)
-  unfolding goodBlocks
-  good-same = count-cong (p .N) (λ n. not (bad p ((started p b) .chip) n)) (λ n. not (bad p (b .chip) n)) (λ n h. ap not (bad-same n h))
-
   -- a block that is bad is reserved, and a reserved one is bad
   pub bad-reserved : (n : ℕ) → n < p .N → bad p (b .chip) n ≡ true → bstAt ((started p b) .bst) n ≡ 2
   bad-reserved n h e = rw (kind p b acc n h, e)
@@ -150,4 +146,4 @@ module _ (p : Params) (b : Board) (acc : StartAdmitted p b) where
 
   -- and neither is refused
   pub again-admitted : StartAdmitted p (started p b)
-  again-admitted = record { fine = acc .fine; lengths = start-lengths p b acc; enough = rw good-same (acc .enough); starts = again-startable }
+  again-admitted = record { fine = acc .fine; lengths = start-lengths p b acc; starts = again-startable }

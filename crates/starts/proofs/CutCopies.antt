@@ -30,7 +30,7 @@ use Rattle.rules.proofs.Sizes.{Sizes, sizes}
 use Rattle.rules.proofs.TableFacts.{Tables}
 use Rattle.rules.proofs.ValidFrames.{valid-holds}
 use Rattle.rules.proofs.Victims.{Valid}
-use Rattle.rules.proofs.Views.{body-size, body-some, free-block}
+use Rattle.rules.proofs.Views.{HasFree, body-size, body-some}
 use Rattle.starts.specs.Stands.{Stands}
 use Rattle.starts.proofs.PartCopies.{cut-ran, good-sheet, part-holds, part-open, part-rule, partBlock}
 use Rattle.starts.proofs.Shows.{LeftOver, Shows}
@@ -39,7 +39,7 @@ use Rattle.starts.proofs.UsedGood.{names-region, names-vblock, used-in-
 
 -- i copies are whole, and k pages, one at least, of the next
 module _ (p : Params) (b : Board) (st : Stands p b) (r : ℕ) (region : r < p .mu) (no-room : hasRoom p (view p b r) ≡ false) (every : (u : ℕ) → u < p .gamma → assigned (view p b r) u ≡ true)
-    (v : ℕ) (low : v < p .gamma) (few : length (validFrames p (view p b r) v) < frames p)
+    (v : ℕ) (low : v < p .gamma) (few : length (validFrames p (view p b r) v) < frames p) (w : HasFree p b)
     (i k : ℕ) (copies-left : i < length (copies p (view p b r) (reclaims v))) (some : 0 < k) (most : k ≤ p .alpha) where
   z : Sizes p
   z = sizes p (st .fine)
@@ -57,10 +57,10 @@ module _ (p : Params) (b : Board) (st : Stands p b) (r : ℕ) (region : r < p .m
   copy-length = copies-length p z r (view p b r) neat no-room every sized v low few
 
   copy-sizes : Wholes p (copies p (view p b r) (reclaims v))
-  copy-sizes = whole p z b t r region neat no-room every v low few
+  copy-sizes = whole p z b t r region neat no-room every v low few w
 
   copy-good : (j : ℕ) → j < length (copies p (view p b r) (reclaims v)) → GoodFrame p r v (getD (copies p (view p b r) (reclaims v)) j [])
-  copy-good = good-copy p z b t r region neat no-room every v low few
+  copy-good = good-copy p z b t r region neat no-room every v low few w
 
   -- a copy is a valid frame of the victim
   copy-is : (j : ℕ) → j < length (copies p (view p b r) (reclaims v))
@@ -91,10 +91,10 @@ module _ (p : Params) (b : Board) (st : Stands p b) (r : ℕ) (region : r < p .m
   held-part = partBlock p z r v (copies p (view p b r) (reclaims v)) copy-sizes fit copy-good copy-sheet i k copies-left most
 
   to-fits : to * blockBytes p + blockBytes p ≤ length (b .chip)
-  to-fits = free-fits p z b t r region neat no-room every v low few
+  to-fits = free-fits p z b t r region neat no-room every v low few w
 
   ran-cut : Ran p (b .chip) cut to held-part
-  ran-cut = cut-ran p z r v (copies p (view p b r) (reclaims v)) copy-sizes fit copy-good copy-sheet i k copies-left most (b .chip) to to-fits (free-fresh p z b t)
+  ran-cut = cut-ran p z r v (copies p (view p b r) (reclaims v)) copy-sizes fit copy-good copy-sheet i k copies-left most (b .chip) to to-fits (free-fresh p z b t w)
 
   -- ---- the block that is left over
 
@@ -112,7 +112,7 @@ module _ (p : Params) (b : Board) (st : Stands p b) (r : ℕ) (region : r < p .m
   left-sound = rw (left-region, left-vblock) (and-intro (lt-ltb v (p .gamma) low) left-rule)
 
   has : btAt p (b .bt) r v ≡ none → ⊥
-  has = taken p z b t r region neat no-room every v low few
+  has = taken p z b t r region neat no-room every v low few w
 
   -- the victim is full
   victim-full : isFull p (block p (b .chip) (btAt p (b .bt) r v)) ≡ true
@@ -134,9 +134,9 @@ module _ (p : Params) (b : Board) (st : Stands p b) (r : ℕ) (region : r < p .m
       record {
         size = ran-cut .size ∙ t .chipLength;
         else = λ m h ne. ran-cut .else m ne;
-        free = free-block p z b t .1;
+        free = w .1;
         here = λ h. inr left-over;
-        marked = λ m h e. bytes-bad p (b .chip) cut m (ran-cut .else m (λ x. omega (arith, e, ap (bstAt (b .bst)) x, free-block p z b t .1))) ∙ st .marked m h e;
+        marked = λ m h e. bytes-bad p (b .chip) cut m (ran-cut .else m (λ x. omega (arith, e, ap (bstAt (b .bst)) x, w .1))) ∙ st .marked m h e;
         rule = steady-rule p z b (stands-steady p b st);
       }
 

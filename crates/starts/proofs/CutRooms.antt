@@ -31,6 +31,7 @@ use Rattle.rules.specs.Write.{
   planVBlock,
   reclaims,
   roomOps,
+  takesBlock,
 }
 use Rattle.rules.specs.Machine.{erasedBlock, follow, withRoom}
 use Rattle.rules.proofs.Continues.{Makes}
@@ -97,7 +98,7 @@ module _ (p : Params) (b : Board) (st : Stands p b) (r : ℕ) (region : r < p .m
     no-copies = nil (copies p (view p b r) (reclaims v)) (copied ∙ nothing)
 
     has : btAt p (b .bt) r v ≡ none → ⊥
-    has = taken p z b t r region nt no-room every v low few
+    has = taken p z b t r region nt no-room every v low few (makes .found (unfold takesBlock in refl))
 
     ops-are : roomOps p b r (reclaims v) ≡ erase (btAt p (b .bt) r v) ∷ []
     unfolding roomOps eraseOps framesOps
@@ -176,7 +177,7 @@ module _ (p : Params) (b : Board) (st : Stands p b) (r : ℕ) (region : r < p .m
       let lm : (k - 1) % p .alpha < p .alpha = mod-lt (k - 1) (z .sectors) in
       let li : i < length (copies p (view p b r) (reclaims v)) = div-lt-iff-lt-mul (z .sectors) .1 (omega arith) in
       rw (← e) (reads-old b (freeBlock p (b .bst) (b .wear)) (stands-steady p b st)
-      (cut-copies p b st r region no-room every v low few i m li (omega arith) (omega (arith, lm))) (old-refl p b))
+      (cut-copies p b st r region no-room every v low few (makes .found (unfold takesBlock in refl)) i m li (omega arith) (omega (arith, lm))) (old-refl p b))
 
   -- the operations that make room
   pub room-form : (k : ℕ) → k ≤ length (roomOps p b r (reclaims v)) → ReadsOld p b (replayChip p (b .chip) (take k (roomOps p b r (reclaims v))))

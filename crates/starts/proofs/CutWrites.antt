@@ -33,7 +33,7 @@ use Rattle.rules.specs.Write.{
   written,
   writtenBy,
 }
-use Rattle.rules.proofs.Admitted.{Admitted, admitted, stamp-left, write-checks}
+use Rattle.rules.proofs.Admitted.{Admitted, admitted, stamp-left, write-checks, write-free}
 use Rattle.rules.proofs.Chip.{replay-append}
 use Rattle.rules.proofs.Continues.{Makes}
 use Rattle.rules.proofs.PlanCases.{Case, goes-on, plan-case, renews, takes}
@@ -119,4 +119,4 @@ module _ (p : Params) (b : Board) (st : Stands p b) (q : Request) (ok : replyOf 
 
   pub cut-form : (k : ℕ) → k ≤ length (writeOps p b q) → CutForm p b q (replayChip p (b .chip) (take k (writeOps p b q)))
   unfolding writeOps
-  cut-form k low = plan-form (planOf p (view p b r₀)) refl (plan-case p z r₀ (view p b r₀) (stands-neat p b st r₀ region₀)) (makes p z b t r₀ region₀ (stands-neat p b st r₀ region₀)) k low
+  cut-form k low = plan-form (planOf p (view p b r₀)) refl (plan-case p z r₀ (view p b r₀) (stands-neat p b st r₀ region₀)) (makes p z b t r₀ region₀ (stands-neat p b st r₀ region₀) (write-free p b q ok)) k low

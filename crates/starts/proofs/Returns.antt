@@ -87,10 +87,6 @@ module _ (p : Params) (fine : allowed p ≡ true) (b₀ b : Board) (x : ℕ) (le
       go (suc (suc zero)) e l = s .marked n h e
       go (suc (suc (suc k))) e l = absurd (omega arith)
 
-  enough : p .mu * p .gamma + 1 ≤ goodBlocks p (b₀ .chip)
-  unfolding goodBlocks
-  enough = rw (count-cong (p .N) (λ n. not (bad p (b₀ .chip) n)) (λ n. not (eqb (bstAt (b .bst) n) 2)) (λ n h. ap not (bad-is n h))) (t .room)
-
   pub steady-fronts : (r : ℕ) → r < p .mu → Fronts p r (view p b r)
   steady-fronts r h v k a = (st .blocks r v h k a) .1
 
@@ -107,7 +103,7 @@ module _ (p : Params) (fine : allowed p ≡ true) (b₀ b : Board) (x : ℕ) (le
   starts = shows-startable p z (b₀ .chip) b t x s (st .once) (λ r h. timely-apart p z (view p b r) (st .timely r h) (whole-holds r h))
 
   pub returns-admitted : StartAdmitted p b₀
-  returns-admitted = record { fine = fine; lengths = lengths; enough = enough; starts = starts }
+  returns-admitted = record { fine = fine; lengths = lengths; starts = starts }
 
   -- ---- the views that it leaves
 

@@ -116,7 +116,6 @@ module _ (p : Params) (b : Board) (acc : StartAdmitted p b) where
         once = once;
         used = λ n h e. named-in p (started p b) n ((three (bad p (b .chip) n) (named p (foundBt p (b .chip)) n)) .1 (sym (kind n h) ∙ e));
         usedBack = used-back;
-        room = room;
         free = free;
       }
     where
@@ -126,8 +125,3 @@ module _ (p : Params) (b : Board) (acc : StartAdmitted p b) where
           go : Dec (btEntry (foundBt p (b .chip)) i ≡ none) → (btEntry (foundBt p (b .chip)) i ≡ none) ⊎ (btEntry (foundBt p (b .chip)) i < p .N)
           go (yes e) = inl e
           go (no e) = inr ((entry-names i h e) .0)
-
-      room : p .mu * p .gamma + 1 ≤ countBelow (p .N) (λ m. not (eqb (bstAt ((started p b) .bst) m) 2))
-      room =
-          rw (count-cong (p .N) (λ m. not (eqb (bstAt ((started p b) .bst) m) 2)) (λ m. not (bad p (b .chip) m)) (λ m h. rw (kind m h) ((three (bad p (b .chip) m) (named p (foundBt p (b .chip)) m)) .3)))
-          (unfold goodBlocks in acc .enough)

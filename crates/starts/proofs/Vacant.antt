@@ -103,7 +103,6 @@ module _ (p : Params) (z : Sizes p) (b : Board) (t : Tables p b) (marked : (n : 
             let a = is-else i (λ x. omega (arith, x, e, h, z .blocks)) in
             let was : btEntry (b .bt) i ≡ n = sym (entry-else i a) ∙ e in
             kind-else n (λ x. not-old i hi a (was ∙ x)) ∙ t .usedBack i hi n h was;
-        room = rw (sym (count-cong (p .N) (λ m. not (eqb (bstAt (b .bst) m) 2)) (λ m. not (eqb (bstAt ((vacantBoard p b r v chip′) .bst) m) 2)) (λ m h. ap not (reserved m (ℕ-discrete m (btAt p (b .bt) r v)))))) (t .room);
         free = λ n h e. free n h e (ℕ-discrete n (btAt p (b .bt) r v));
       }
     where

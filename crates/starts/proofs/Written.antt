@@ -15,7 +15,7 @@ use Rattle.rules.specs.Requests.{Request, requestCluster, requestRegion, write}
 use Rattle.rules.specs.Write.{Plan, newFrame, nextStamp, planFrame, planOf, planVBlock, written}
 use Rattle.rules.specs.Machine.{viewAfter, withRoom}
 use Rattle.rules.specs.Replies.{replyOf}
-use Rattle.rules.proofs.Admitted.{Admitted, admitted, stamp-left, write-checks}
+use Rattle.rules.proofs.Admitted.{Admitted, admitted, stamp-left, write-checks, write-free}
 use Rattle.rules.proofs.Continues.{Makes}
 use Rattle.rules.proofs.FramePut.{Sheet, seg-new, seg-old}
 use Rattle.rules.proofs.Frames.{seg-low}
@@ -52,7 +52,7 @@ module _ (p : Params) (b : Board) (q : Request) (e : replyOf p b (write q) ≡ A
   room = withRoom p here plan
 
   made : Makes p b region plan
-  made = makes p (acc .sized) b (acc .tables) region low in-order
+  made = makes p (acc .sized) b (acc .tables) region low in-order (write-free p b q e)
 
   carried : Carries p here room
   carried = carries p (acc .sized) b (acc .tables) region low in-order plan (plan-case p (acc .sized) region here in-order) made

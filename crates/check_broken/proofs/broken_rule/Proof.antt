@@ -13,7 +13,7 @@ use Rattle.rules.specs.Tables.{Board, boardOf}
 use Rattle.rules.proofs.TableFacts.{eightRules}
 use Rattle.check_rules.specs.Check.{Lent, clusterOk, fstOk}
 use Rattle.check_broken.specs.declared.Rule.{Rule}
-use Rattle.check_broken.specs.declared.Rule.the-variants.{BstValues, BtRange, Ct, FreeErased, Fst, Marks, NamedTwice, Stamps, TooFewLeft, UsedBlock, UsedIfNamed}
+use Rattle.check_broken.specs.declared.Rule.the-variants.{BstValues, BtRange, Ct, FreeErased, Fst, Marks, NamedTwice, Stamps, UsedBlock, UsedIfNamed}
 use Rattle.check_broken.specs.Broken.{brokenRule, firstOf, ruleNames}
 use Rattle.check_broken.specs.Tests.{regionBlocksOk}
 use Rattle.check_broken.proofs.Chip.{blocks-same, cts-same, fsts-same}
@@ -114,8 +114,8 @@ returns-4 c =
     (here _ _ _ _ _ (c .before .used-ok .ensures) (c .if4 .taken)))) in
     told
 
-room-ok-requires : tie.Need-room-ok-requires
-room-ok-requires c κs = search needs
+frees-ok-requires : tie.Need-frees-ok-requires
+frees-ok-requires c κs = search needs
 
 returns-5 : tie.Need-returns-5
 unfolding brokenRule rulesOf ruleNames
@@ -129,54 +129,26 @@ returns-5 c =
     let at-bst-ok = at-if1 .before in
     let a = at-bst-ok .before .before .before .before .before .before .before .before in
     λ wear.
-    let told : TooFewLeft ≡ brokenRule (a .args .p) (board a wear) =
-    skip _ _ _ _ _ _ (at-bst-ok .bst-ok .ensures) (at-if1 .if1 .left)
-    (skip _ _ _ _ _ _ (at-bt-ok .bt-ok .ensures) (at-if2 .if2 .left)
-    (skip _ _ _ _ _ _ (at-once-ok .once-ok .ensures) (at-if3 .if3 .left)
-    (skip _ _ _ _ _ _ (at-used-ok .used-ok .ensures) (c .before .before .if4 .left)
-    (here _ _ _ _ _ (c .before .room-ok .ensures) (c .if5 .taken))))) in
-    told
-
-frees-ok-requires : tie.Need-frees-ok-requires
-frees-ok-requires c κs = search needs
-
-returns-6 : tie.Need-returns-6
-unfolding brokenRule rulesOf ruleNames
-returns-6 c =
-    let at-room-ok = c .before .before .before in
-    let at-if4 = at-room-ok .before in
-    let at-used-ok = at-if4 .before in
-    let at-if3 = at-used-ok .before in
-    let at-once-ok = at-if3 .before in
-    let at-if2 = at-once-ok .before in
-    let at-bt-ok = at-if2 .before in
-    let at-if1 = at-bt-ok .before in
-    let at-bst-ok = at-if1 .before in
-    let a = at-bst-ok .before .before .before .before .before .before .before .before in
-    λ wear.
     let told : FreeErased ≡ brokenRule (a .args .p) (board a wear) =
     skip _ _ _ _ _ _ (at-bst-ok .bst-ok .ensures) (at-if1 .if1 .left)
     (skip _ _ _ _ _ _ (at-bt-ok .bt-ok .ensures) (at-if2 .if2 .left)
     (skip _ _ _ _ _ _ (at-once-ok .once-ok .ensures) (at-if3 .if3 .left)
-    (skip _ _ _ _ _ _ (at-used-ok .used-ok .ensures) (at-if4 .if4 .left)
-    (skip _ _ _ _ _ _ (at-room-ok .room-ok .ensures) (c .before .before .if5 .left)
-    (here _ _ _ _ _ (c .before .frees-ok .ensures) (c .if6 .taken)))))) in
+    (skip _ _ _ _ _ _ (at-used-ok .used-ok .ensures) (c .before .before .if4 .left)
+    (here _ _ _ _ _ (c .before .frees-ok .ensures) (c .if5 .taken))))) in
     told
 
 blocks-ok-requires : tie.Need-blocks-ok-requires
 blocks-ok-requires c κs =
-    let at-if2 = c .before .before .before .before .before .before .before .before in
+    let at-if2 = c .before .before .before .before .before .before in
     let at-bt-ok = at-if2 .before in
     let start = at-bt-ok .before .before .before .before .before .before .before .before .before .before in
     lent start (at-bt-ok .bt-ok .result) (at-bt-ok .bt-ok .ensures) (at-if2 .if2 .left)
 
-returns-7 : tie.Need-returns-7
+returns-6 : tie.Need-returns-6
 unfolding brokenRule rulesOf ruleNames
-returns-7 c =
+returns-6 c =
     let at-frees-ok = c .before .before .before in
-    let at-if5 = at-frees-ok .before in
-    let at-room-ok = at-if5 .before in
-    let at-if4 = at-room-ok .before in
+    let at-if4 = at-frees-ok .before in
     let at-used-ok = at-if4 .before in
     let at-if3 = at-used-ok .before in
     let at-once-ok = at-if3 .before in
@@ -191,27 +163,24 @@ returns-7 c =
     (skip _ _ _ _ _ _ (at-bt-ok .bt-ok .ensures) (at-if2 .if2 .left)
     (skip _ _ _ _ _ _ (at-once-ok .once-ok .ensures) (at-if3 .if3 .left)
     (skip _ _ _ _ _ _ (at-used-ok .used-ok .ensures) (at-if4 .if4 .left)
-    (skip _ _ _ _ _ _ (at-room-ok .room-ok .ensures) (at-if5 .if5 .left)
-    (skip _ _ _ _ _ _ (at-frees-ok .frees-ok .ensures) (c .before .before .if6 .left)
-    (here _ _ _ _ _ (used-blocks a _ _ (at-bt-ok .bt-ok .ensures) (at-if2 .if2 .left) (c .before .blocks-ok .ensures) wear) (c .if7 .taken))))))) in
+    (skip _ _ _ _ _ _ (at-frees-ok .frees-ok .ensures) (c .before .before .if5 .left)
+    (here _ _ _ _ _ (used-blocks a _ _ (at-bt-ok .bt-ok .ensures) (at-if2 .if2 .left) (c .before .blocks-ok .ensures) wear) (c .if6 .taken)))))) in
     told
 
 fsts-ok-requires : tie.Need-fsts-ok-requires
 fsts-ok-requires c κs =
-    let at-if2 = c .before .before .before .before .before .before .before .before .before .before in
+    let at-if2 = c .before .before .before .before .before .before .before .before in
     let at-bt-ok = at-if2 .before in
     let start = at-bt-ok .before .before .before .before .before .before .before .before .before .before in
     (lent start (at-bt-ok .bt-ok .result) (at-bt-ok .bt-ok .ensures) (at-if2 .if2 .left), start .pre .0 .fstLength)
 
-returns-8 : tie.Need-returns-8
+returns-7 : tie.Need-returns-7
 unfolding brokenRule rulesOf ruleNames
-returns-8 c =
+returns-7 c =
     let at-blocks-ok = c .before .before .before in
-    let at-if6 = at-blocks-ok .before in
-    let at-frees-ok = at-if6 .before in
-    let at-if5 = at-frees-ok .before in
-    let at-room-ok = at-if5 .before in
-    let at-if4 = at-room-ok .before in
+    let at-if5 = at-blocks-ok .before in
+    let at-frees-ok = at-if5 .before in
+    let at-if4 = at-frees-ok .before in
     let at-used-ok = at-if4 .before in
     let at-if3 = at-used-ok .before in
     let at-once-ok = at-if3 .before in
@@ -226,31 +195,28 @@ returns-8 c =
     (skip _ _ _ _ _ _ (at-bt-ok .bt-ok .ensures) (at-if2 .if2 .left)
     (skip _ _ _ _ _ _ (at-once-ok .once-ok .ensures) (at-if3 .if3 .left)
     (skip _ _ _ _ _ _ (at-used-ok .used-ok .ensures) (at-if4 .if4 .left)
-    (skip _ _ _ _ _ _ (at-room-ok .room-ok .ensures) (at-if5 .if5 .left)
-    (skip _ _ _ _ _ _ (at-frees-ok .frees-ok .ensures) (at-if6 .if6 .left)
-    (skip _ _ _ _ _ _ (used-blocks a _ _ (at-bt-ok .bt-ok .ensures) (at-if2 .if2 .left) (at-blocks-ok .blocks-ok .ensures) wear) (c .before .before .if7 .left)
-    (here _ _ _ _ _ (fst-entries a _ _ _ (at-bt-ok .bt-ok .ensures) (at-if2 .if2 .left) (at-blocks-ok .blocks-ok .ensures) (c .before .before .if7 .left)
-    (c .before .fsts-ok .ensures) wear) (c .if8 .taken)))))))) in
+    (skip _ _ _ _ _ _ (at-frees-ok .frees-ok .ensures) (at-if5 .if5 .left)
+    (skip _ _ _ _ _ _ (used-blocks a _ _ (at-bt-ok .bt-ok .ensures) (at-if2 .if2 .left) (at-blocks-ok .blocks-ok .ensures) wear) (c .before .before .if6 .left)
+    (here _ _ _ _ _ (fst-entries a _ _ _ (at-bt-ok .bt-ok .ensures) (at-if2 .if2 .left) (at-blocks-ok .blocks-ok .ensures) (c .before .before .if6 .left)
+    (c .before .fsts-ok .ensures) wear) (c .if7 .taken))))))) in
     told
 
 cts-ok-requires : tie.Need-cts-ok-requires
 cts-ok-requires c κs =
-    let at-if2 = c .before .before .before .before .before .before .before .before .before .before .before .before in
+    let at-if2 = c .before .before .before .before .before .before .before .before .before .before in
     let at-bt-ok = at-if2 .before in
     let start = at-bt-ok .before .before .before .before .before .before .before .before .before .before in
     (lent start (at-bt-ok .bt-ok .result) (at-bt-ok .bt-ok .ensures) (at-if2 .if2 .left), start .pre .0 .ctLength)
 
-returns-9 : tie.Need-returns-9
+returns-8 : tie.Need-returns-8
 unfolding brokenRule rulesOf ruleNames
-returns-9 c =
+returns-8 c =
     let at-fsts-ok = c .before .before .before in
-    let at-if7 = at-fsts-ok .before in
-    let at-blocks-ok = at-if7 .before in
-    let at-if6 = at-blocks-ok .before in
-    let at-frees-ok = at-if6 .before in
-    let at-if5 = at-frees-ok .before in
-    let at-room-ok = at-if5 .before in
-    let at-if4 = at-room-ok .before in
+    let at-if6 = at-fsts-ok .before in
+    let at-blocks-ok = at-if6 .before in
+    let at-if5 = at-blocks-ok .before in
+    let at-frees-ok = at-if5 .before in
+    let at-if4 = at-frees-ok .before in
     let at-used-ok = at-if4 .before in
     let at-if3 = at-used-ok .before in
     let at-once-ok = at-if3 .before in
@@ -265,24 +231,20 @@ returns-9 c =
     (skip _ _ _ _ _ _ (at-bt-ok .bt-ok .ensures) (at-if2 .if2 .left)
     (skip _ _ _ _ _ _ (at-once-ok .once-ok .ensures) (at-if3 .if3 .left)
     (skip _ _ _ _ _ _ (at-used-ok .used-ok .ensures) (at-if4 .if4 .left)
-    (skip _ _ _ _ _ _ (at-room-ok .room-ok .ensures) (at-if5 .if5 .left)
-    (skip _ _ _ _ _ _ (at-frees-ok .frees-ok .ensures) (at-if6 .if6 .left)
-    (skip _ _ _ _ _ _ (used-blocks a _ _ (at-bt-ok .bt-ok .ensures) (at-if2 .if2 .left) (at-blocks-ok .blocks-ok .ensures) wear) (at-if7 .if7 .left)
-    (skip _ _ _ _ _ _ (fst-entries a _ _ _ (at-bt-ok .bt-ok .ensures) (at-if2 .if2 .left) (at-blocks-ok .blocks-ok .ensures) (at-if7 .if7 .left) (at-fsts-ok .fsts-ok .ensures)
-    wear) (c .before .before .if8 .left)
-    (here _ _ _ _ _ (ct-entries a _ _ (at-bt-ok .bt-ok .ensures) (at-if2 .if2 .left) (c .before .cts-ok .ensures) wear) (c .if9 .taken))))))))) in
+    (skip _ _ _ _ _ _ (at-frees-ok .frees-ok .ensures) (at-if5 .if5 .left)
+    (skip _ _ _ _ _ _ (used-blocks a _ _ (at-bt-ok .bt-ok .ensures) (at-if2 .if2 .left) (at-blocks-ok .blocks-ok .ensures) wear) (at-if6 .if6 .left)
+    (skip _ _ _ _ _ _ (fst-entries a _ _ _ (at-bt-ok .bt-ok .ensures) (at-if2 .if2 .left) (at-blocks-ok .blocks-ok .ensures) (at-if6 .if6 .left) (at-fsts-ok .fsts-ok .ensures)
+    wear) (c .before .before .if7 .left)
+    (here _ _ _ _ _ (ct-entries a _ _ (at-bt-ok .bt-ok .ensures) (at-if2 .if2 .left) (c .before .cts-ok .ensures) wear) (c .if8 .taken)))))))) in
     told
 
 in-order-but-stamps-requires : tie.Need-in-order-but-stamps-requires
 in-order-but-stamps-requires c κs = search needs
 
--- the nine tests before that of the marks have passed
-module _ (c : tie.Else9) where
-  abbrev at-if8 : tie.Else8
-  at-if8 = c .before .before
-
+-- the eight tests before that of the marks have passed
+module _ (c : tie.Else8) where
   abbrev at-if7 : tie.Else7
-  at-if7 = at-if8 .before .before
+  at-if7 = c .before .before
 
   abbrev at-if6 : tie.Else6
   at-if6 = at-if7 .before .before
@@ -305,30 +267,29 @@ module _ (c : tie.Else9) where
   abbrev a : tie.Start
   a = at-if1 .before .before .before .before .before .before .before .before .before
 
-  used : (wear : List ℕ) → at-if7 .before .blocks-ok .result ≡ blocksRule (a .args .p) (board a wear)
-  used = used-blocks a _ _ (at-if2 .before .bt-ok .ensures) (at-if2 .if2 .left) (at-if7 .before .blocks-ok .ensures)
+  used : (wear : List ℕ) → at-if6 .before .blocks-ok .result ≡ blocksRule (a .args .p) (board a wear)
+  used = used-blocks a _ _ (at-if2 .before .bt-ok .ensures) (at-if2 .if2 .left) (at-if6 .before .blocks-ok .ensures)
 
-  fsts : (wear : List ℕ) → at-if8 .before .fsts-ok .result ≡ fstRule (a .args .p) (board a wear)
+  fsts : (wear : List ℕ) → at-if7 .before .fsts-ok .result ≡ fstRule (a .args .p) (board a wear)
   fsts =
-      fst-entries a _ _ _ (at-if2 .before .bt-ok .ensures) (at-if2 .if2 .left) (at-if7 .before .blocks-ok .ensures) (at-if7 .if7 .left)
-      (at-if8 .before .fsts-ok .ensures)
+      fst-entries a _ _ _ (at-if2 .before .bt-ok .ensures) (at-if2 .if2 .left) (at-if6 .before .blocks-ok .ensures) (at-if6 .if6 .left)
+      (at-if7 .before .fsts-ok .ensures)
 
   cts : (wear : List ℕ) → c .before .cts-ok .result ≡ ctRule (a .args .p) (board a wear)
   cts = ct-entries a _ _ (at-if2 .before .bt-ok .ensures) (at-if2 .if2 .left) (c .before .cts-ok .ensures)
 
-  nine : (wear : List ℕ) → eightRules (a .args .p) (board a wear) ≡ true
+  eight : (wear : List ℕ) → eightRules (a .args .p) (board a wear) ≡ true
   unfolding eightRules rulesOf allTrue
-  nine wear =
+  eight wear =
       rw (
         passed _ _ (at-if1 .before .bst-ok .ensures) (at-if1 .if1 .left),
         passed _ _ (at-if2 .before .bt-ok .ensures) (at-if2 .if2 .left),
         passed _ _ (at-if3 .before .once-ok .ensures) (at-if3 .if3 .left),
         passed _ _ (at-if4 .before .used-ok .ensures) (at-if4 .if4 .left),
-        passed _ _ (at-if5 .before .room-ok .ensures) (at-if5 .if5 .left),
-        passed _ _ (at-if6 .before .frees-ok .ensures) (at-if6 .if6 .left),
-        passed _ _ (used wear) (at-if7 .if7 .left),
-        passed _ _ (fsts wear) (at-if8 .if8 .left),
-        passed _ _ (cts wear) (c .if9 .left),
+        passed _ _ (at-if5 .before .frees-ok .ensures) (at-if5 .if5 .left),
+        passed _ _ (used wear) (at-if6 .if6 .left),
+        passed _ _ (fsts wear) (at-if7 .if7 .left),
+        passed _ _ (cts wear) (c .if8 .left),
       )
 
   past : (wear : List ℕ) (told : Rule)
@@ -340,27 +301,26 @@ module _ (c : tie.Else9) where
       (skip _ _ _ _ _ told (at-if2 .before .bt-ok .ensures) (at-if2 .if2 .left)
       (skip _ _ _ _ _ told (at-if3 .before .once-ok .ensures) (at-if3 .if3 .left)
       (skip _ _ _ _ _ told (at-if4 .before .used-ok .ensures) (at-if4 .if4 .left)
-      (skip _ _ _ _ _ told (at-if5 .before .room-ok .ensures) (at-if5 .if5 .left)
-      (skip _ _ _ _ _ told (at-if6 .before .frees-ok .ensures) (at-if6 .if6 .left)
-      (skip _ _ _ _ _ told (used wear) (at-if7 .if7 .left)
-      (skip _ _ _ _ _ told (fsts wear) (at-if8 .if8 .left)
-      (skip _ _ _ _ _ told (cts wear) (c .if9 .left)
-      h))))))))
+      (skip _ _ _ _ _ told (at-if5 .before .frees-ok .ensures) (at-if5 .if5 .left)
+      (skip _ _ _ _ _ told (used wear) (at-if6 .if6 .left)
+      (skip _ _ _ _ _ told (fsts wear) (at-if7 .if7 .left)
+      (skip _ _ _ _ _ told (cts wear) (c .if8 .left)
+      h)))))))
+
+returns-9 : tie.Need-returns-9
+returns-9 c =
+    let at-if8 = c .before .before in
+    λ wear.
+    let told : Marks ≡ brokenRule (a at-if8 .args .p) (board (a at-if8) wear) =
+    past at-if8 wear Marks (here _ _ _ _ _ (marks-test _ _ _ (c .before .in-order-but-stamps .ensures wear) (eight at-if8 wear)) (c .if9 .taken)) in
+    told
 
 returns-10 : tie.Need-returns-10
 returns-10 c =
-    let at-if9 = c .before .before in
+    let at-if8 = c .before .before in
     λ wear.
-    let told : Marks ≡ brokenRule (a at-if9 .args .p) (board (a at-if9) wear) =
-    past at-if9 wear Marks (here _ _ _ _ _ (marks-test _ _ _ (c .before .in-order-but-stamps .ensures wear) (nine at-if9 wear)) (c .if10 .taken)) in
-    told
-
-returns-11 : tie.Need-returns-11
-returns-11 c =
-    let at-if9 = c .before .before in
-    λ wear.
-    let told : Stamps ≡ brokenRule (a at-if9 .args .p) (board (a at-if9) wear) =
-    past at-if9 wear Stamps (skip _ _ _ _ _ _ (marks-test _ _ _ (c .before .in-order-but-stamps .ensures wear) (nine at-if9 wear)) (c .if10 .left) (end _)) in
+    let told : Stamps ≡ brokenRule (a at-if8 .args .p) (board (a at-if8) wear) =
+    past at-if8 wear Stamps (skip _ _ _ _ _ _ (marks-test _ _ _ (c .before .in-order-but-stamps .ensures wear) (eight at-if8 wear)) (c .if9 .left) (end _)) in
     told
 
 pub broken-rule-spec : {M : Type 1} → statement M
@@ -375,16 +335,14 @@ broken-rule-spec =
     returns-3
     used-ok-requires
     returns-4
-    room-ok-requires
-    returns-5
     frees-ok-requires
-    returns-6
+    returns-5
     blocks-ok-requires
-    returns-7
+    returns-6
     fsts-ok-requires
-    returns-8
+    returns-7
     cts-ok-requires
-    returns-9
+    returns-8
     in-order-but-stamps-requires
-    returns-10
-    returns-11)
+    returns-9
+    returns-10)
