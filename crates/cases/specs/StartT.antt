@@ -119,9 +119,9 @@ refusedCases =
     ∷ repliesT (withCopy 0 2 (withCopy 3 2 chip))
     -- the stamps of both pages of its first frame made that of cluster 0's later frame
     ∷ repliesT (set (set chip 23 4) 55 4)
-    -- "bad blocks by T-02's rule": a mark on the second page of a block that is erased; then too few are good
+    -- "bad blocks by T-02's rule": a mark on the second page of a block that is erased; then four are good, and T-12: a start "no longer" gives 6
     ∷ repliesT (set chip 565 0)
     ∷ []
 
 unfoldable pub refusedSaid : List ℕ
-refusedSaid = 7 ∷ 7 ∷ 7 ∷ 7 ∷ 7 ∷ 0 ∷ 0 ∷ 7 ∷ 0 ∷ 7 ∷ 7 ∷ 6 ∷ []
+refusedSaid = 7 ∷ 7 ∷ 7 ∷ 7 ∷ 7 ∷ 0 ∷ 0 ∷ 7 ∷ 0 ∷ 7 ∷ 7 ∷ 0 ∷ []

@@ -4,41 +4,44 @@ use mathlib.Core.Path.{_≡_, refl, sym, ap, _∙_}
 use Prim.Native.Nat.{ℕ, suc, _<_}
 use native.Mathlib.Nat.{mod-lt}
 use mathlib.Core.Logic.{_⊎_, inl, inr}
-use mathlib.Core.Bool.{true, false, false≢true}
-use mathlib.Core.List.{List, [], _∷_, _++_, map}
+use mathlib.Core.Bool.{true, false, not, false≢true}
+use mathlib.Core.List.{List, [], _∷_}
 use lib.ListN.{length, drop}
 use Rattle.rules.specs.declared.Params.{Params}
 use Rattle.rules.specs.declared.Answer.{Answer}
 use Rattle.rules.specs.declared.Item.{Item}
-use Rattle.rules.specs.declared.Reply.the-variants.{Accepted}
+use borrow.Author.Tests.{not-false, not-true}
+use Rattle.lists.proofs.Tests.{and-left, and-right, never}
+use Rattle.rules.specs.declared.Reply.the-variants.{Accepted, NoBlockLeft}
 use Rattle.rules.specs.Numbers.{regionOf}
 use Rattle.rules.specs.Tables.{Board, bstAt, ctAt, none}
+use Rattle.rules.specs.Orderly.{enough}
 use Rattle.rules.specs.Regions.{view}
 use Rattle.rules.specs.Traces.{erasesIn, programsIn}
 use Rattle.rules.specs.Requests.{Call, Queue, Request, format, itemRequests, lent, lentAnswers, queue, read, release, requestCluster, requestRegion, start, write}
-use Rattle.rules.specs.Write.{Plan, continues, opens, planBlock, planOf, reclaims}
+use Rattle.rules.specs.Write.{Plan, continues, opens, planBlock, planOf, reclaims, takesBlock}
 use Rattle.rules.specs.Release.{released}
-use Rattle.rules.specs.Replies.{OrderlyBoard, isAccepted, replyOf}
+use Rattle.rules.specs.Replies.{OrderlyBoard, accessRows, badAddress, badCount, badParameter, blockRow, earlyRows, isAccepted, lentRows, noBlockLeft, notOrderly, orderRow, replyOf, row, rowsOf, wrongData, wrongLength}
 use Rattle.rules.specs.Calls.{Work, answerOf, answersIn, outcomeOf, over, workOf, writeAll, writeWork}
 use Rattle.rules.specs.Cuts.{limited, stepOutcome}
-use Rattle.rules.proofs.Admitted.{admitted, release-admitted, write-checks}
+use Rattle.rules.proofs.Admitted.{admitted, release-admitted, write-checks, write-free}
 use Rattle.rules.proofs.Continues.{Makes}
 use Rattle.rules.proofs.Counts.{format-counts, start-counts}
 use Rattle.rules.proofs.Outcomes.{format-accepted, all-answer, all-bytes, all-lent, call-refused, is-refused, queue-accepted, read-accepted, release-accepted, reply-cases, reply-is, start-accepted, write-accepted}
 use Rattle.rules.proofs.RegionFacts.{neat}
 use Rattle.rules.proofs.Releases.{entry-none, release-same}
-use Rattle.rules.proofs.Sizes.{Sizes, sizes}
-use Rattle.rules.proofs.TableFacts.{Tables, marks-in, tables-in}
+use Rattle.rules.proofs.Sizes.{sizes}
+use Rattle.rules.proofs.TableFacts.{marks-in, tables-in}
 use Rattle.rules.proofs.Totals.{blocks-total, used-total}
-use Rattle.rules.proofs.Views.{free-block}
+use Rattle.rules.proofs.Views.{HasFree}
 use Rattle.rules.proofs.WritePromise.{makes, write-promise}
 use Rattle.starts.proofs.Again.{same-but-wear}
 use Rattle.starts.proofs.StartTables.{swept}
 use Rattle.claims.specs.Runs.{sectorAt}
 use Rattle.claims.proofs.PlainRuns.{plainBoard, plainLeaves}
-use Rattle.claims.specs.Conditions.{Condition1, Formats, Frees, InOrder, Reads, Serves, Starts, Unchanged, WithBudget, Writes, assignedBlocks, blocksOf, takesBlock}
+use Rattle.claims.specs.Conditions.{Condition1, Formats, Frees, InOrder, Reads, Serves, Starts, Unchanged, WithBudget, Writes, assignedBlocks, blocksOf, noneApplies}
 use Rattle.claims.proofs.Budgets.{cuts, fewer-uncut, no-budget, refused-uncut, unspent-same}
-use Rattle.claims.proofs.Kept.{accepted-orderly, after-orderly}
+use Rattle.claims.proofs.Kept.{accepted-orderly, after-orderly, enough-found}
 use Rattle.claims.proofs.Memory.{freed, read-agrees, stored}
 use Rattle.claims.proofs.Freed.{none-copied}
 use Rattle.claims.proofs.ReplyTable.{reply-by-table}
@@ -78,11 +81,11 @@ no-queue start n = tt
 
 -- ---- room for a write
 
-takes-free : (p : Params) (b : Board) → Sizes p → Tables p b → (r : ℕ) (pl : Plan) → takesBlock pl ≡ true → (planBlock p b r pl < p .N) × (bstAt (b .bst) (planBlock p b r pl) ≡ 0)
+takes-free : (p : Params) (b : Board) (r : ℕ) (pl : Plan) → HasFree p b → takesBlock pl ≡ true → (planBlock p b r pl < p .N) × (bstAt (b .bst) (planBlock p b r pl) ≡ 0)
 unfolding takesBlock planBlock
-takes-free p b z t r (continues v f) e = absurd (false≢true e)
-takes-free p b z t r (opens v) e = free-block p z b t
-takes-free p b z t r (reclaims v) e = free-block p z b t
+takes-free p b r (continues v f) w e = absurd (false≢true e)
+takes-free p b r (opens v) w e = w
+takes-free p b r (reclaims v) w e = w
 
 write-writes : (p : Params) (b : Board) (q : Request) → replyOf p b (write q) ≡ Accepted
     → Writes p b q (requestRegion p q) (planOf p (view p b (requestRegion p q))) (outcomeOf p b (write q))
@@ -91,11 +94,11 @@ write-writes p b q e =
     let a = admitted p b q (write-checks p b q e) in
     let r = regionOf p (requestCluster p q) in
     let low : r < p .mu = mod-lt (requestCluster p q) (a .sized .regions) in
-    let m : Makes p b r (planOf p (view p b r)) = makes p (a .sized) b (a .tables) r low (neat p r (view p b r) (a .tidy r low)) in
+    let m : Makes p b r (planOf p (view p b r)) = makes p (a .sized) b (a .tables) r low (neat p r (view p b r) (a .tidy r low)) (write-free p b q e) in
     let w = write-promise p b q e in
     rw (write-accepted p b q e)
     (record {
-      block = takes-free p b (a .sized) (a .tables) r (planOf p (view p b r));
+      block = λ t. takes-free p b r (planOf p (view p b r)) (write-free p b q e t) t;
       frame = m .base .ready .low;
       stores = stored p b q e;
       programs = w .programs;
@@ -104,6 +107,30 @@ write-writes p b q e =
       looks = refl;
       stamps = write-stamps p b q (a .tables .stampsLength);
     })
+
+-- ---- want of room
+
+-- a write past its early rows finds an orderly state
+none-orderly : (p : Params) (b : Board) (q : Request) → noneApplies (earlyRows p b q) ≡ true → OrderlyBoard p b
+unfolding noneApplies earlyRows lentRows accessRows orderRow badParameter wrongLength notOrderly
+none-orderly p b q h =
+    let l = and-right (not (badParameter p)) h in
+    let c = and-right (not (wrongLength p b)) l in
+    let i = and-right (not (badCount p q)) c in
+    let d = and-right (not (badAddress p (q .lba))) i in
+    let o = and-right (not (wrongData p q)) d in
+    record {
+      fine = not-false _ (not-true _ (and-left (not (badParameter p)) _ h));
+      lengths = not-false _ (not-true _ (and-left (not (wrongLength p b)) _ l));
+      tidy = not-false _ (not-true _ (and-left (not (notOrderly p b)) _ o));
+    }
+
+-- so while at least μγ+1 blocks are not reserved row 10 does not apply
+never-full : (p : Params) (b : Board) (q : Request) → enough p b ≡ true → replyOf p b (write q) ≡ NoBlockLeft → ⊥
+unfolding rowsOf blockRow
+never-full p b q room e =
+    let w = (reply-by-table p b (write q)) .listed (earlyRows p b q) [] (row (noBlockLeft p b (requestRegion p q)) NoBlockLeft) refl .0 e in
+    never (w .1) (enough-found p b (none-orderly p b q (w .0)) room (requestRegion p q))
 
 -- ---- the others
 
@@ -234,6 +261,7 @@ condition-1 p b c =
       formats = λ is e. rw is (format-formats p b (sym (reply-is p b format) ∙ (rw is at e)));
       reads = λ q is e. rw is (read-reads p b q (sym (reply-is p b (read q)) ∙ (rw is at e)));
       writes = λ q is e. rw is (write-writes p b q (sym (reply-is p b (write q)) ∙ (rw is at e)));
+      neverFull = λ q is room e. never-full p b q room (sym (reply-is p b (write q)) ∙ (rw is at e));
       frees = λ n is e. rw is (release-frees p b n (sym (reply-is p b (release n)) ∙ (rw is at e)));
       serves = λ l is. rw is (queue-serves p b l);
       starts = λ is e. rw is (start-starts p b (sym (reply-is p b start) ∙ (rw is at e)));

@@ -17,15 +17,16 @@ use Rattle.rules.specs.Marks.{marked, wordOf}
 use Rattle.rules.specs.Requests.{Call, format}
 use Rattle.rules.specs.Format.{formatted}
 use Rattle.rules.specs.Replies.{OrderlyBoard, replyOf}
-use Rattle.rules.specs.Cuts.{callOf, plain}
+use Rattle.rules.specs.Cuts.{Step, callOf, plain}
 use Rattle.rules.proofs.Isolation.{view-path}
 use Rattle.rules.proofs.TableFacts.{marks-in}
 use Rattle.marks.proofs.Tables.{region-word}
-use Rattle.claims.specs.Runs.{Told, leaves, partsTo, requestsTo, toRegion, toldTo}
-use Rattle.claims.proofs.PlainRuns.{after-format, format-board, format-parts, plainBoard, plainLeaves, plainParts, plainUndisturbed, undisturbed-uncut}
+use Rattle.claims.specs.Runs.{leaves, partsTo, requestsTo, roomy, toRegion, toldTo, uncut}
+use Rattle.claims.proofs.PlainRuns.{after-format, first-plain, format-board, format-parts, plainBoard, plainLeaves, plainParts, plainUndisturbed, undisturbed-uncut}
 use Rattle.claims.specs.Conditions.{Condition3}
 use Rattle.claims.proofs.Kept.{accepted-orderly, after-orderly}
 use Rattle.claims.proofs.RegionMachine.{Gives, State, run-gives, stateAnswers, stateOf, stateRun}
+use Rattle.claims.proofs.Roomy.{callsRoomy, singles-roomy, uncut-roomy}
 use Rattle.claims.proofs.Singles.{all-single, board-same, parts-same, singlesOf, still-undisturbed}
 use Rattle.claims.proofs.Stamps.{format-stamp}
 use Rattle.claims.proofs.Steps.{format-leaves, partOf, parts-step}
@@ -62,7 +63,8 @@ format-state p b r = λ i. record { vw = format-view p b r i; stamp = format-sta
 
 -- ---- a run from a format on
 
-module _ (p : Params) (b : Board) (e : replyOf p b format ≡ Accepted) (r : ℕ) (low : r < p .mu) (cs : List Call) (n : plainUndisturbed cs ≡ true) where
+module _ (p : Params) (b : Board) (e : replyOf p b format ≡ Accepted) (r : ℕ) (low : r < p .mu) (cs : List Call) (n : plainUndisturbed cs ≡ true)
+    (room : callsRoomy p (plainLeaves p b format) cs ≡ true) where
   ordered : OrderlyBoard p (plainLeaves p b format)
   ordered = accepted-orderly p b format tt e
 
@@ -71,6 +73,7 @@ module _ (p : Params) (b : Board) (e : replyOf p b format ≡ Accepted) (r : ℕ
 
   gives : Gives p (plainLeaves p b format) r (singlesOf p (plainLeaves p b format) cs)
   gives = run-gives p r low (plainLeaves p b format) (singlesOf p (plainLeaves p b format) cs) (all-single p (plainLeaves p b format) cs) ordered (still-undisturbed p (plainLeaves p b format) cs n)
+      (singles-roomy p (plainLeaves p b format) cs room)
 
   -- the format tells the region nothing
   past-format : toldTo p r (plainParts p b (format ∷ cs)) ≡ toldTo p r (plainParts p (plainLeaves p b format) cs)
@@ -92,27 +95,35 @@ module _ (p : Params) (b : Board) (e : replyOf p b format ≡ Accepted) (r : ℕ
 
 -- ---- the condition
 
+format-roomy : (p : Params) (b : Board) (ss : List Step) → uncut p (leaves p b (plain format)) ss ≡ true → roomy p (leaves p b (plain format)) ss ≡ true
+    → callsRoomy p (plainLeaves p b format) (map callOf ss) ≡ true
+format-roomy p b ss u h = rw (first-plain p b ss) at (uncut-roomy p (leaves p b (plain format)) ss u h)
+
 -- no call of either run is cut, so both are plain runs
 pub condition-3 : Condition3
-condition-3 p b b′ e e′ ss ss′ n n′ r low same =
+condition-3 p b b′ ss ss′ n n′ r low same =
     let cs = map callOf ss in
     let cs′ = map callOf ss′ in
-    let u = undisturbed-uncut p (leaves p b (plain format)) ss n in
-    let u′ = undisturbed-uncut p (leaves p b′ (plain format)) ss′ n′ in
+    let e = n .formats in
+    let e′ = n′ .formats in
+    let u = undisturbed-uncut p (leaves p b (plain format)) ss (n .calls) in
+    let u′ = undisturbed-uncut p (leaves p b′ (plain format)) ss′ (n′ .calls) in
+    let m = format-roomy p b ss (u .0) (n .room) in
+    let m′ = format-roomy p b′ ss′ (u′ .0) (n′ .room) in
     let alike : requestsTo p r (plainParts p (plainLeaves p b format) cs) ≡ requestsTo p r (plainParts p (plainLeaves p b′ format) cs′) =
     ap (requestsTo p r) (sym (after-format p b ss (u .0))) ∙ same ∙ ap (requestsTo p r) (after-format p b′ ss′ (u′ .0)) in
     let states : stateOf p (plainBoard p b (format ∷ cs)) r ≡ stateOf p (plainBoard p b′ (format ∷ cs′)) r =
-    region-state p b e r low cs (u .1) ∙ ap (stateRun p fresh) alike ∙ sym (region-state p b′ e′ r low cs′ (u′ .1)) in
+    region-state p b e r low cs (u .1) m ∙ ap (stateRun p fresh) alike ∙ sym (region-state p b′ e′ r low cs′ (u′ .1) m′) in
     let views : view p (plainBoard p b (format ∷ cs)) r ≡ view p (plainBoard p b′ (format ∷ cs′)) r = ap (λ (x : State). x .vw) states in
     let is = format-board p b ss (u .0) in
     let is′ = format-board p b′ ss′ (u′ .0) in
     record {
       answers =
           rw (format-parts p b ss (u .0), format-parts p b′ ss′ (u′ .0))
-          (region-answers p b e r low cs (u .1) ∙ ap (stateAnswers p fresh) alike ∙ sym (region-answers p b′ e′ r low cs′ (u′ .1)));
+          (region-answers p b e r low cs (u .1) m ∙ ap (stateAnswers p fresh) alike ∙ sym (region-answers p b′ e′ r low cs′ (u′ .1) m′));
       views = rw (is, is′) views;
       words = λ v w h k.
           rw (is, is′)
-          (region-words p b e r low cs (u .1) v w h k ∙ ap (λ (vw : View). wordOf (marked p vw v) w) views ∙ sym (region-words p b′ e′ r low cs′ (u′ .1) v w h k));
+          (region-words p b e r low cs (u .1) m v w h k ∙ ap (λ (vw : View). wordOf (marked p vw v) w) views ∙ sym (region-words p b′ e′ r low cs′ (u′ .1) m′ v w h k));
       stamp = rw (is, is′) (ap (λ (x : State). x .stamp) states);
     }

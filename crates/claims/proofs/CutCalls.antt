@@ -237,7 +237,7 @@ module _ (p : Params) (fine : allowed p ≡ true) where
   cut-step b k c x e long h =
       let w = cut-is p b k c e in
       let ops = take k (opsOf ((workOf p b c) .parts)) in
-      let off = cut-disorder p b long ops (first-fit p k (opsOf ((workOf p b c) .parts)) ((call-made p b c) .fits)) in
+      let off = cut-disorder p b long ops (first-fit p k (opsOf ((workOf p b c) .parts)) ((call-made p b c) .fits)) fine in
       let left = cutBoard p b ops in
       rw (cut-by p b k c x e, cut-leaves p b k c e)
       (cut-board p b ops off (doubtsIn (cutPart k ((workOf p b c) .parts)) (hearsAll p left (finished k ((workOf p b c) .parts)) x))

@@ -8,11 +8,10 @@ use native.Mathlib.Omega.{arith}
 use mathlib.Core.Bool.{true, false, not}
 use mathlib.Core.List.{List, [], _∷_, append-nil}
 use lib.ListN.{length, getD-replicate, length-replicate, take}
-use lib.Dec.{eqb}
 use borrow.Author.Tests.{eq-eqb, eqb-true}
-use Rattle.lists.proofs.Tests.{all-true, count-le, so, truths}
+use Rattle.lists.proofs.Tests.{all-true, so, truths}
 use Rattle.rules.specs.declared.Params.{Params}
-use Rattle.rules.specs.Parameters.{chipBytes}
+use Rattle.rules.specs.Parameters.{allowed, chipBytes}
 use Rattle.rules.specs.Tables.{Board, bstAt, marksLength, none}
 use Rattle.rules.specs.Orderly.{orderly}
 use Rattle.rules.specs.Traces.{Op}
@@ -20,6 +19,7 @@ use Rattle.rules.specs.Requests.{Call}
 use Rattle.rules.specs.Replies.{lengthsFit}
 use Rattle.rules.specs.Calls.{Outcome, opsOf, workOf}
 use Rattle.rules.specs.Cuts.{Step, callOf, cutBoard, cutOutcome, isCut, limited, plain}
+use Rattle.rules.proofs.Sizes.{sizes}
 use Rattle.rules.proofs.TableFacts.{tables-in}
 use Rattle.rules.proofs.Writes.{wear-length}
 use Rattle.starts.proofs.Prefixes.{clean-take}
@@ -64,13 +64,13 @@ module _ (p : Params) (b : Board) (lengths : lengthsFit p b ≡ true) (ops : Lis
   kind-ones h = getD-replicate (p .N) 0 255 0 h
 
   -- BST has 255, which is no kind of block
-  pub cut-disorder : orderly p (cutBoard p b ops) ≡ false
-  cut-disorder = go (so (orderly p (cutBoard p b ops)))
+  pub cut-disorder : allowed p ≡ true → orderly p (cutBoard p b ops) ≡ false
+  cut-disorder fine = go (so (orderly p (cutBoard p b ops)))
     where
       go : (orderly p (cutBoard p b ops) ≡ true) ⊎ (orderly p (cutBoard p b ops) ≡ false) → orderly p (cutBoard p b ops) ≡ false
       go (inl e) =
           let t = tables-in p (cutBoard p b ops) cut-long e in
-          let some : 0 < p .N = omega (arith, t .room, count-le (p .N) (λ n. not (eqb (bstAt ((cutBoard p b ops) .bst) n) 2))) in
+          let some : 0 < p .N = (sizes p fine) .present in
           absurd (omega (arith, t .kinds 0 some, kind-ones some))
       go (inr e) = e
 

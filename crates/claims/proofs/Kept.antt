@@ -10,6 +10,7 @@ use Rattle.rules.specs.declared.Params.{Params}
 use Rattle.rules.specs.declared.Reply.{Reply}
 use Rattle.rules.specs.declared.Reply.the-variants.{Accepted, BadAddress, NoStampLeft}
 use Rattle.rules.specs.Tables.{Board, stampAt}
+use Rattle.rules.specs.Orderly.{enough}
 use Rattle.rules.specs.Traces.{Op, clean, eraseWhere, replayChip, replayWear}
 use Rattle.rules.specs.Requests.{Call, Request, format, queue, read, release, requestRegion, start, write}
 use Rattle.rules.specs.Format.{bad, formatOps, formatted}
@@ -17,7 +18,7 @@ use Rattle.rules.specs.Write.{writeOps, written, writtenBy}
 use Rattle.rules.specs.Release.{released}
 use Rattle.rules.specs.Start.{leftOver, startOps, started}
 use Rattle.rules.specs.Calls.{opsOf}
-use Rattle.rules.specs.Replies.{OrderlyBoard, accessRows, badCluster, badParameter, firstRow, isAccepted, lengthsFit, lentRows, noStampLeft, notOrderly, orderRow, replyOf, row, rowsOf, stampRow, wrongLength}
+use Rattle.rules.specs.Replies.{OrderlyBoard, accessRows, badCluster, badParameter, blockRow, earlyRows, firstRow, isAccepted, lengthsFit, lentRows, noBlockLeft, noStampLeft, notOrderly, orderRow, replyOf, row, rowsOf, stampRow, wrongLength}
 use Rattle.rules.proofs.Admitted.{format-admitted, read-checks, release-admitted, write-checks}
 use Rattle.rules.proofs.Chip.{clean-append, replay-append}
 use Rattle.rules.proofs.Erases.{erases-clean, erasesBelow, wear-append}
@@ -25,6 +26,8 @@ use Rattle.rules.proofs.FormatPromise.{format-lengths, format-orderly}
 use Rattle.rules.proofs.Outcomes.{reply-cases}
 use Rattle.rules.proofs.Releases.{release-lengths, release-orderly}
 use Rattle.rules.proofs.Sizes.{sizes}
+use Rattle.rules.proofs.TableFacts.{tables-in}
+use Rattle.rules.proofs.Views.{enough-free, free-found}
 use Rattle.rules.proofs.WritePromise.{write-promise}
 use Rattle.starts.proofs.StartPromise.{start-lengths, start-orderly}
 use Rattle.claims.specs.Runs.{AllFit}
@@ -79,13 +82,19 @@ pub orderly-read : (p : Params) (b : Board) (q : Request) → OrderlyBoard p b �
 unfolding replyOf rowsOf lentRows accessRows orderRow requestReply firstRow badParameter wrongLength notOrderly
 orderly-read p b q h = rw (h .fine, h .lengths, h .tidy)
 
+-- while at least μγ+1 blocks are not reserved, a write finds a free block
+pub enough-found : (p : Params) (b : Board) → OrderlyBoard p b → enough p b ≡ true → (r : ℕ) → noBlockLeft p b r ≡ false
+enough-found p b h room r =
+    let z = sizes p (h .fine) in
+    free-found p b z r (λ t. enough-free p z b (tables-in p b (h .lengths) (h .tidy)) room)
+
 -- of a write, where the region's last stamp is t
 unfoldable pub writeReply : Params → ℕ → Request → Reply
 writeReply p t q = firstRow Accepted (accessRows p q ++ (row (leb 4294967295 t) NoStampLeft ∷ []))
 
-pub orderly-write : (p : Params) (b : Board) (q : Request) → OrderlyBoard p b → replyOf p b (write q) ≡ writeReply p (stampAt (b .stamps) (requestRegion p q)) q
-unfolding replyOf rowsOf lentRows accessRows orderRow stampRow noStampLeft writeReply firstRow badParameter wrongLength notOrderly
-orderly-write p b q h = rw (h .fine, h .lengths, h .tidy)
+pub orderly-write : (p : Params) (b : Board) (q : Request) → OrderlyBoard p b → enough p b ≡ true → replyOf p b (write q) ≡ writeReply p (stampAt (b .stamps) (requestRegion p q)) q
+unfolding replyOf rowsOf earlyRows blockRow lentRows accessRows orderRow stampRow noStampLeft writeReply firstRow badParameter wrongLength notOrderly
+orderly-write p b q h room = rw (h .fine, h .lengths, h .tidy, enough-found p b h room (requestRegion p q))
 
 -- and of a release, its cluster's
 unfoldable pub clusterReply : Params → ℕ → Reply

@@ -18,6 +18,7 @@ pub mod Recovery
 pub mod Beliefs
 pub mod CutCalls
 pub mod Condition2
+pub mod Roomy
 pub mod RegionMachine
 pub mod Condition3
 pub mod Unique

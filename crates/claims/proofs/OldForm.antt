@@ -1,10 +1,10 @@
 -- Every call is as before: a table of the right length and right marks changes no row that applies, and no step reads the marks.
 -- Assumes nothing.
-use mathlib.Core.Path.{_≡_, refl, sym, ap, _∙_}
+use mathlib.Core.Path.{_≡_, refl, ap, _∙_}
 use mathlib.Core.Logic.{_⊎_, inl, inr}
-use mathlib.Core.Bool.{Bool, true, false, _&&_, and-true, cond}
+use mathlib.Core.Bool.{Bool, true, false}
 use mathlib.Core.List.{List, [], _∷_, _++_}
-use Prim.Native.Nat.{ℕ, _*_}
+use Prim.Native.Nat.{ℕ}
 use lib.Dec.{eqb}
 use lib.ListN.{length, take}
 use borrow.Author.Tests.{eq-eqb}
@@ -16,14 +16,14 @@ use Rattle.rules.specs.Tables.{Board, marksLength}
 use Rattle.rules.specs.Orderly.{blocksRule, ctRule, fstRule, marksRule, orderly, rulesOf, stampRule}
 use Rattle.rules.specs.Traces.{Op}
 use Rattle.rules.specs.Requests.{Call, Request, format, lent, read, release, requestCluster, requestRegion, write}
-use Rattle.rules.specs.Format.{formatOps, formatted}
+use Rattle.rules.specs.Format.{formatted}
 use Rattle.rules.specs.Write.{Plan, continues, eraseOps, opens, nextStamp, planBlock, planBst, planOf, planOps, reclaims, roomOps, writeOps, written, writtenBy}
 use Rattle.rules.specs.Regions.{looksAt, sector, view}
 use Rattle.rules.specs.Release.{released}
-use Rattle.rules.specs.Replies.{accessRows, badCluster, badParameter, firstRow, isAccepted, lengthsFit, lentRows, noStampLeft, notOrderly, orderRow, replyOf, row, rowsOf, stampRow, tooFewBlocks, wrongLength}
-use Rattle.rules.specs.Calls.{Outcome, answerOf, outcomeOf, readBytes}
+use Rattle.rules.specs.Replies.{accessRows, badCluster, blockRow, earlyRows, isAccepted, lengthsFit, lentRows, noBlockLeft, noStampLeft, notOrderly, orderRow, replyOf, row, rowsOf, stampRow, tooFewBlocks, wrongLength}
+use Rattle.rules.specs.Calls.{answerOf, outcomeOf, readBytes}
 use Rattle.rules.proofs.Outcomes.{call-refused, format-accepted, read-accepted, release-accepted, reply-cases, write-accepted}
-use Rattle.claims.specs.OldForm.{AllAsBefore, OldBoard, OldOutcome, oldCall, oldFormat, oldLengths, oldOf, oldOrder, oldOrderly, oldPart, oldRead, oldRelease, oldReply, oldWrite, withoutMarks}
+use Rattle.claims.specs.OldForm.{AllAsBefore, OldBoard, oldCall, oldFormat, oldLengths, oldOf, oldOrder, oldOrderly, oldPart, oldRead, oldRelease, oldReply, oldWrite, withoutMarks}
 
 -- a test among others that passes
 passes : (xs : List Bool) (t : Bool) (ys : List Bool) → t ≡ true → allTrue (xs ++ (t ∷ ys)) ≡ allTrue (xs ++ ys)
@@ -42,7 +42,7 @@ same-lengths p b long =
 
 same-order : (p : Params) (b : Board) → marksRule p b ≡ true → orderly p b ≡ oldOrderly p (oldOf b)
 unfolding orderly oldOrderly rulesOf blocksRule fstRule ctRule stampRule
-same-order p b right = passes (take 9 (rulesOf p b)) (marksRule p b) (stampRule p b ∷ []) right
+same-order p b right = passes (take 8 (rulesOf p b)) (marksRule p b) (stampRule p b ∷ []) right
 
 module _ (p : Params) (b : Board) (long : length (b .marks) ≡ marksLength p) where
   format-row : replyOf p b format ≡ oldReply p (oldOf b) (row (tooFewBlocks p (withoutMarks (oldOf b))) TooFewBlocks ∷ [])
@@ -54,8 +54,8 @@ module _ (p : Params) (b : Board) (long : length (b .marks) ≡ marksLength p) w
     unfolding replyOf rowsOf lentRows orderRow oldReply oldOrder wrongLength notOrderly
     read-rows q = rw (same-lengths p b long, same-order p b right)
 
-    write-rows : (q : Request) → replyOf p b (write q) ≡ oldReply p (oldOf b) (accessRows p q ++ (oldOrder p (oldOf b) ++ stampRow p (withoutMarks (oldOf b)) q))
-    unfolding replyOf rowsOf lentRows orderRow stampRow noStampLeft oldReply oldOrder wrongLength notOrderly
+    write-rows : (q : Request) → replyOf p b (write q) ≡ oldReply p (oldOf b) (accessRows p q ++ (oldOrder p (oldOf b) ++ (stampRow p (withoutMarks (oldOf b)) (requestRegion p q) ++ blockRow p (withoutMarks (oldOf b)) (requestRegion p q))))
+    unfolding replyOf rowsOf earlyRows lentRows accessRows orderRow stampRow blockRow noStampLeft noBlockLeft oldReply oldOrder wrongLength notOrderly
     write-rows q = rw (same-lengths p b long, same-order p b right)
 
     release-rows : (c : ℕ) → replyOf p b (release c) ≡ oldReply p (oldOf b) (row (badCluster p c) BadAddress ∷ oldOrder p (oldOf b))

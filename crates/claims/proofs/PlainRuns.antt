@@ -109,7 +109,7 @@ uncut-trace p b (s ∷ ss) h =
 -- ---- from a format on
 
 module _ (p : Params) (b : Board) (ss : List Step) where
-  first-plain : leaves p b (plain format) ≡ plainLeaves p b format
+  pub first-plain : leaves p b (plain format) ≡ plainLeaves p b format
   unfolding callOf isCut
   first-plain = uncut-leaves p b (plain format) refl
 

@@ -13,7 +13,7 @@ use borrow.Author.Tests.{eqb-true, ltb-false, not-false}
 use lib.ListN.{length, getD, drop, length-map}
 use Rattle.lists.specs.Below.{keepBelow}
 use Rattle.lists.specs.Parts.{allAre, part}
-use Rattle.lists.proofs.Joins.{allAre-at, allAre-drop, allAre-part}
+use Rattle.lists.proofs.Joins.{allAre-part}
 use Rattle.lists.proofs.Parts.{next, part-length}
 use Rattle.lists.proofs.Ranks.{keep-length, keep-nth, map-at}
 use Rattle.lists.proofs.Tests.{never, so}
@@ -23,15 +23,15 @@ use Rattle.rules.specs.declared.Reply.the-variants.{Accepted}
 use Rattle.rules.specs.Parameters.{frameBytes, frames, pageBytes, pages}
 use Rattle.rules.specs.Numbers.{regionOf}
 use Rattle.rules.specs.Tables.{Board, none}
-use Rattle.rules.specs.Pages.{bytes32, filled, frame, held, page, programmed, spare, spareBytes, stampOf}
+use Rattle.rules.specs.Pages.{filled, frame, held, page, programmed, spare, spareBytes, stampOf}
 use Rattle.rules.specs.Regions.{assigned, valid, validFrames, view}
 use Rattle.rules.specs.Traces.{erase, eraseWhere, frameOps, framesOps, program}
 use Rattle.rules.specs.Format.{formatOps}
 use Rattle.rules.specs.Write.{planErases, Plan, continues, copies, eraseOps, hasRoom, lowestUnassigned, newFrame, opens, planBlock, planFrame, planOf, planOps, planVBlock, reclaims, roomOps, writeOps, nextStamp}
 use Rattle.rules.specs.Replies.{replyOf}
 use Rattle.rules.specs.Words.{SpareListed}
-use Rattle.rules.specs.Requests.{Request, write, requestCluster, requestRegion}
-use Rattle.rules.proofs.Admitted.{admitted, write-checks, stamp-left}
+use Rattle.rules.specs.Requests.{Request, write, requestCluster}
+use Rattle.rules.proofs.Admitted.{admitted, stamp-left, write-checks, write-free}
 use Rattle.rules.proofs.Continues.{Makes}
 use Rattle.rules.proofs.Frames.{erased-not}
 use Rattle.rules.proofs.FramePut.{Sheet}
@@ -186,7 +186,7 @@ write-fits p b q e =
     let region : r < p .mu = mod-lt (requestCluster p q) (acc .sized .regions) in
     let nt = neat p r (view p b r) (acc .tidy r region) in
     let pl = planOf p (view p b r) in
-    let m : Makes p b r pl = makes p (acc .sized) b (acc .tables) r region nt in
+    let m : Makes p b r pl = makes p (acc .sized) b (acc .tables) r region nt (write-free p b q e) in
     let sh : Sheet p (planVBlock pl) (requestCluster p q) (newFrame p (view p b r) q (nextStamp b r) (planVBlock pl)) =
     host-sheet p (acc .sized) (view p b r) (λ v h a. body-size p (acc .sized) b (acc .tables) r v region h a) q (acc .asked) (nt .entries (requestCluster p q) (acc .asked .cluster))
     (nextStamp b r) (planVBlock pl) (stamp-left p b q e) in

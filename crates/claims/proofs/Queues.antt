@@ -1,41 +1,19 @@
 -- T-01 beside the conditions: an item's data in its turn, and a queue on a state that is not orderly.
 -- Assumes nothing.
-use mathlib.Core.Path.{_≡_, refl, ap, ap₂, _∙_}
-use mathlib.Core.Logic.{_⊎_, inl, inr}
-use mathlib.Core.Bool.{Bool, true, false, cond, false≢true}
-use mathlib.Core.List.{List, [], _∷_, _++_, map}
+use mathlib.Core.Path.{_≡_, refl, ap, _∙_}
+use mathlib.Core.Bool.{true, false}
+use mathlib.Core.List.{List, [], _∷_, map}
 use Prim.Native.Nat.{ℕ}
 use native.Mathlib.Omega.{arith}
 use borrow.Author.Tests.{not-false}
 use Rattle.rules.specs.declared.Params.{Params}
-use Rattle.rules.specs.declared.Reply.{Reply}
-use Rattle.rules.specs.declared.Reply.the-variants.{Accepted, BadAddress, BadCount, BadParameter, NotOrderly, TooFewAnswers, WrongData, WrongLength}
+use Rattle.rules.specs.declared.Reply.the-variants.{Accepted, NotOrderly}
 use Rattle.rules.specs.declared.Item.{Item}
 use Rattle.rules.specs.Parameters.{allowed}
 use Rattle.rules.specs.Tables.{Board}
 use Rattle.rules.specs.Orderly.{orderly}
 use Rattle.rules.specs.Requests.{Queue, Request, itemRequest, itemRequests, lent, queue, write}
-use Rattle.rules.specs.Replies.{
-  accessRows,
-  badAddress,
-  badCount,
-  badParameter,
-  firstRow,
-  isAccepted,
-  lengthsFit,
-  lentRows,
-  notOrderly,
-  numberOf,
-  orderRow,
-  queueRows,
-  replyOf,
-  row,
-  rowsOf,
-  stampRow,
-  tooFewAnswers,
-  wrongData,
-  wrongLength,
-}
+use Rattle.rules.specs.Replies.{accessRows, badAddress, badCount, badParameter, earlyRows, firstRow, lengthsFit, lentRows, notOrderly, numberOf, orderRow, queueRows, replyOf, rowsOf, stampRow, wrongData, wrongLength}
 use Rattle.rules.specs.Calls.{Work, answerOf, refuses, single, writeAll, writeWork}
 use Rattle.rules.proofs.Admitted.{passed}
 use Rattle.rules.proofs.ItemData.{item-data}
@@ -58,7 +36,7 @@ queue-fits p b l e =
 module _ (p : Params) (b : Board) (fine : allowed p ≡ true) (fits : lengthsFit p b ≡ true) (no′ : orderly p b ≡ false) where
   -- each write gets 3, 4, 5 or else 7
   write-reply : (q : Request) → replyOf p b (write q) ≡ firstRow NotOrderly (accessRows p q)
-  unfolding replyOf rowsOf lentRows accessRows orderRow stampRow firstRow badParameter wrongLength notOrderly
+  unfolding replyOf rowsOf earlyRows lentRows accessRows orderRow stampRow firstRow badParameter wrongLength notOrderly
   write-reply q = rw (fine, fits, no′)
 
   some-refusal : (q : Request) → firstRow NotOrderly (accessRows p q) ≡ Accepted → ⊥

@@ -4,9 +4,8 @@
 use mathlib.Core.Path.{_≡_, refl, sym, ap, ap₂, _∙_}
 use mathlib.Core.Logic.{_⊎_, inl, inr}
 use Prim.Native.Nat.{ℕ, _+_, _*_, _<_}
-use mathlib.Core.Bool.{Bool, true, false, not, _&&_, cond, false≢true}
+use mathlib.Core.Bool.{Bool, true, false, not, cond, false≢true}
 use mathlib.Core.List.{List, [], _∷_, map}
-use lib.Dec.{eqb}
 use borrow.Author.Tests.{eqb-false, eqb-true, not-true}
 use lib.ListN.{length, length-replicate, replicate}
 use Rattle.lists.specs.Below.{joinBelow}
@@ -16,6 +15,7 @@ use Rattle.rules.specs.declared.Reply.{Reply}
 use Rattle.rules.specs.declared.Reply.the-variants.{Accepted}
 use Rattle.rules.specs.Numbers.{regionOf, sectorOf}
 use Rattle.rules.specs.Tables.{Board, stampAt}
+use Rattle.rules.specs.Orderly.{enough}
 use Rattle.rules.specs.Regions.{View, looksAt, looksIn, sector, sectorIn, view}
 use Rattle.rules.specs.Traces.{erasesIn, programsIn}
 use Rattle.rules.specs.Requests.{Call, Request, format, queue, read, release, requestCluster, requestOf, requestRegion, start, write}
@@ -30,6 +30,7 @@ use Rattle.rules.proofs.WritePromise.{write-promise}
 use Rattle.claims.specs.Runs.{Told, asked, partsTo, requestsTo, resets, toRegion, told, toldTo}
 use Rattle.claims.proofs.PlainRuns.{plainBoard, plainLeaves, plainParts, plainUndisturbed}
 use Rattle.claims.proofs.Kept.{clusterReply, orderly-kept, orderly-read, orderly-release, orderly-write, requestReply, writeReply}
+use Rattle.claims.proofs.Roomy.{plainRoomy}
 use Rattle.claims.proofs.Singles.{AllSingle, Single, refused-leaves}
 use Rattle.claims.proofs.Stamps.{other-stamp, released-stamp, written-stamp}
 use Rattle.claims.proofs.Steps.{partOf, parts-step, read-leaves, release-leaves, write-leaves}
@@ -91,7 +92,7 @@ stateAnswers p st (c ∷ cs) = answerBy p st c ∷ stateAnswers p (stateBy p st 
 abbrev state : View → ℕ → State
 state vw t = record { vw = vw; stamp = t }
 
-module _ (p : Params) (b : Board) (ordered : OrderlyBoard p b) where
+module _ (p : Params) (b : Board) (ordered : OrderlyBoard p b) (room : enough p b ≡ true) where
   lengths : Lengths p b
   lengths = lengths-in p b (ordered .lengths)
 
@@ -124,7 +125,7 @@ module _ (p : Params) (b : Board) (ordered : OrderlyBoard p b) where
   write-told r q is = go (reply-cases (writeReply p (stampAt (b .stamps) r) q))
     where
       reply : replyOf p b (write q) ≡ writeReply p (stampAt (b .stamps) r) q
-      reply = rw (← is) (orderly-write p b q ordered)
+      reply = rw (← is) (orderly-write p b q ordered room)
 
       go : (writeReply p (stampAt (b .stamps) r) q ≡ Accepted) ⊎ (isAccepted (writeReply p (stampAt (b .stamps) r) q) ≡ false)
           → toldBy (outcomeOf p b (write q)) ≡ answerBy p (stateOf p b r) (write q)
@@ -136,7 +137,7 @@ module _ (p : Params) (b : Board) (ordered : OrderlyBoard p b) where
   write-own r q low is = go (reply-cases (writeReply p (stampAt (b .stamps) r) q))
     where
       reply : replyOf p b (write q) ≡ writeReply p (stampAt (b .stamps) r) q
-      reply = rw (← is) (orderly-write p b q ordered)
+      reply = rw (← is) (orderly-write p b q ordered room)
 
       go : (writeReply p (stampAt (b .stamps) r) q ≡ Accepted) ⊎ (isAccepted (writeReply p (stampAt (b .stamps) r) q) ≡ false)
           → stateOf p (plainLeaves p b (write q)) r ≡ stateBy p (stateOf p b r) (write q)
@@ -228,29 +229,30 @@ record Turn (p : Params) (b : Board) (r : ℕ) (c : Call) : Type 0 where
   own : toRegion p r c ≡ true → (stateOf p (plainLeaves p b c) r ≡ stateBy p (stateOf p b r) c) × (toldBy (outcomeOf p b c) ≡ answerBy p (stateOf p b r) c)
   else : toRegion p r c ≡ false → stateOf p (plainLeaves p b c) r ≡ stateOf p b r
 
-turn : (p : Params) (b : Board) (r : ℕ) → r < p .mu → OrderlyBoard p b → (c : Call) → Single c → resets c ≡ false → Turn p b r c
+turn : (p : Params) (b : Board) (r : ℕ) → r < p .mu → OrderlyBoard p b → enough p b ≡ true → (c : Call) → Single c → resets c ≡ false → Turn p b r c
 unfolding toRegion resets
-turn p b r low h format s n = absurd (false≢true (sym n))
-turn p b r low h (read q) s n =
-    record { own = λ e. (rw (read-leaves p b q) (unfold stateBy in refl), read-told p b h r q (eqb-true _ _ e)); else = λ e. rw (read-leaves p b q) }
-turn p b r low h (write q) s n =
-    record { own = λ e. (write-own p b h r q low (eqb-true _ _ e), write-told p b h r q (eqb-true _ _ e)); else = λ e. write-else p b h r q low (eqb-false _ _ e) }
-turn p b r low h (release c) s n =
-    record { own = λ e. (release-own p b h r c, release-told p b h c (stateOf p b r)); else = λ e. release-else p b h r c (eqb-false _ _ e) }
-turn p b r low h (queue l) s n = absurd s
-turn p b r low h start s n = absurd (false≢true (sym n))
+turn p b r low h room format s n = absurd (false≢true (sym n))
+turn p b r low h room (read q) s n =
+    record { own = λ e. (rw (read-leaves p b q) (unfold stateBy in refl), read-told p b h room r q (eqb-true _ _ e)); else = λ e. rw (read-leaves p b q) }
+turn p b r low h room (write q) s n =
+    record { own = λ e. (write-own p b h room r q low (eqb-true _ _ e), write-told p b h room r q (eqb-true _ _ e)); else = λ e. write-else p b h room r q low (eqb-false _ _ e) }
+turn p b r low h room (release c) s n =
+    record { own = λ e. (release-own p b h room r c, release-told p b h room c (stateOf p b r)); else = λ e. release-else p b h room r c (eqb-false _ _ e) }
+turn p b r low h room (queue l) s n = absurd s
+turn p b r low h room start s n = absurd (false≢true (sym n))
 
 -- what a run of single calls without a format or a start leaves a region and tells it
 pub record Gives (p : Params) (b : Board) (r : ℕ) (cs : List Call) : Type 0 where
   pub left : stateOf p (plainBoard p b cs) r ≡ stateRun p (stateOf p b r) (requestsTo p r (plainParts p b cs))
   pub answers : toldTo p r (plainParts p b cs) ≡ stateAnswers p (stateOf p b r) (requestsTo p r (plainParts p b cs))
 
-pub run-gives : (p : Params) (r : ℕ) → r < p .mu → (b : Board) (cs : List Call) → AllSingle cs → OrderlyBoard p b → plainUndisturbed cs ≡ true → Gives p b r cs
-unfolding plainBoard plainUndisturbed
-run-gives p r low b [] s h n = unfold plainBoard plainParts partsTo requestsTo toldTo stateRun stateAnswers in record { left = refl; answers = refl }
-run-gives p r low b (c ∷ cs) s h n =
-    go (so (toRegion p r c)) (turn p b r low h c (s .0) (not-true _ (and-left (not (resets c)) _ n)))
-    (run-gives p r low (plainLeaves p b c) cs (s .1) (orderly-kept p b c (s .0) h) (and-right (not (resets c)) n))
+pub run-gives : (p : Params) (r : ℕ) → r < p .mu → (b : Board) (cs : List Call) → AllSingle cs → OrderlyBoard p b → plainUndisturbed cs ≡ true → plainRoomy p b cs ≡ true
+    → Gives p b r cs
+unfolding plainBoard plainUndisturbed plainRoomy
+run-gives p r low b [] s h n room = unfold plainBoard plainParts partsTo requestsTo toldTo stateRun stateAnswers in record { left = refl; answers = refl }
+run-gives p r low b (c ∷ cs) s h n room =
+    go (so (toRegion p r c)) (turn p b r low h (and-left (enough p b) _ room) c (s .0) (not-true _ (and-left (not (resets c)) _ n)))
+    (run-gives p r low (plainLeaves p b c) cs (s .1) (orderly-kept p b c (s .0) h) (and-right (not (resets c)) n) (and-right (enough p b) room))
   where
     requests : requestsTo p r (plainParts p b (c ∷ cs)) ≡ cond (toRegion p r c) (asked c ∷ requestsTo p r (plainParts p (plainLeaves p b c) cs)) (requestsTo p r (plainParts p (plainLeaves p b c) cs))
     requests = ap (requestsTo p r) (parts-step p b c cs (s .0)) ∙ unfold partOf requestsTo in one-more (λ (x : Part). asked (x .asks)) p r (partOf p b c) (plainParts p (plainLeaves p b c) cs)

@@ -1,6 +1,6 @@
 -- Of rows that give different replies, the first that applies is given exactly when it applies and none before it does.
 -- Assumes nothing.
-use mathlib.Core.Path.{_≡_, refl, sym, ap, _∙_}
+use mathlib.Core.Path.{_≡_, refl, sym, ap}
 use Prim.Native.Nat.{ℕ}
 use mathlib.Core.Bool.{Bool, true, false, not, _&&_, cond, false≢true}
 use mathlib.Core.List.{List, [], _∷_, _++_, map}
@@ -8,11 +8,10 @@ use lib.Dec.{eqb}
 use borrow.Author.Tests.{eqb-false, not-true}
 use Rattle.lists.proofs.Tests.{and-left, and-right}
 use Rattle.rules.specs.declared.Params.{Params}
-use Rattle.rules.specs.declared.Reply.{Reply}
 use Rattle.rules.specs.declared.Reply.the-variants.{Accepted}
 use Rattle.rules.specs.Tables.{Board}
 use Rattle.rules.specs.Requests.{Call, format, queue, read, release, start, write}
-use Rattle.rules.specs.Replies.{Row, accessRows, firstRow, lentRows, numberOf, orderRow, queueRows, replyOf, rowsOf, stampRow}
+use Rattle.rules.specs.Replies.{Row, accessRows, blockRow, earlyRows, firstRow, lentRows, numberOf, orderRow, queueRows, replyOf, rowsOf, stampRow}
 use Rattle.claims.specs.Conditions.{ByTable, noneApplies}
 
 -- k is none of these numbers; no two of them are the same
@@ -107,7 +106,7 @@ module _ {A : Type 0} (number : A → ℕ) (other : A) where
 -- ---- the calls
 
 rows-distinct : (p : Params) (b : Board) (c : Call) → distinct (0 ∷ numbers numberOf Accepted (rowsOf p b c)) ≡ true
-unfolding rowsOf lentRows accessRows orderRow stampRow queueRows numbers distinct differs
+unfolding rowsOf earlyRows blockRow lentRows accessRows orderRow stampRow queueRows numbers distinct differs
 rows-distinct p b format = refl
 rows-distinct p b (read q) = refl
 rows-distinct p b (write q) = refl

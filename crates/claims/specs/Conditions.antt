@@ -11,24 +11,24 @@ use lib.Dec.{eqb}
 use Rattle.lists.specs.Below.{countBelow, joinBelow}
 use Rattle.rules.specs.declared.Params.{Params}
 use Rattle.rules.specs.declared.Answer.{Answer}
-use Rattle.rules.specs.declared.Reply.the-variants.{Accepted}
+use Rattle.rules.specs.declared.Reply.the-variants.{Accepted, NoBlockLeft}
 use Rattle.rules.specs.Parameters.{frames, pages}
 use Rattle.rules.specs.Numbers.{clusterOf, regionOf, sectorOf}
 use Rattle.rules.specs.Pages.{block, held}
 use Rattle.rules.specs.Tables.{Board, none, ctAt, btEntry, bstAt, markIndex, marksLength, wordAt, stampAt}
 use Rattle.rules.specs.Regions.{looksAt, view}
-use Rattle.rules.specs.Orderly.{orderly}
+use Rattle.rules.specs.Orderly.{enough, orderly}
 use Rattle.rules.specs.Traces.{replayChip, replayWear, clean}
 use Rattle.rules.specs.Requests.{Request, requestCluster, requestRegion, Queue, Call, format, read, write, release, queue, start, lent, lentAnswers}
 use Rattle.rules.specs.Format.{bad, goodBlocks}
 use Rattle.rules.specs.Start.{leftOver}
-use Rattle.rules.specs.Write.{Plan, continues, opens, reclaims, planOf, planErases, planFrame, planBlock, copies}
+use Rattle.rules.specs.Write.{Plan, reclaims, planOf, takesBlock, planErases, planFrame, planBlock, copies}
 use Rattle.rules.specs.Replies.{OrderlyBoard, Row, replyOf, rowsOf}
 use Rattle.rules.specs.Calls.{Outcome, Part, answersIn, opsOf, outcomeOf, over, workOf}
 use Rattle.rules.specs.Cuts.{Step, plain, limited, cutPart, finished, hasBudget, isCut, stepOutcome}
 use Rattle.starts.specs.Again.{SameButWear}
 use Rattle.starts.specs.Latest.{latest}
-use Rattle.claims.specs.Runs.{AllFit, Belief, Known, Memory, beliefAfter, boardAfter, cleared, given, leaves, lost, noPageTwice, nothing, partsOf, requestsTo, sectorAt, stands, toldTo, traceOf, uncut, undisturbed}
+use Rattle.claims.specs.Runs.{AllFit, Belief, Known, Memory, beliefAfter, boardAfter, cleared, given, leaves, lost, noPageTwice, nothing, partsOf, requestsTo, roomy, sectorAt, stands, toldTo, traceOf, uncut, undisturbed}
 
 -- ---- condition 1: every call, on every content
 
@@ -83,14 +83,7 @@ pub record Reads (p : Params) (b : Board) (q : Request) (o : Outcome) : Type 0 w
   pub erases : o .answer .erases ≡ 0
   pub looks : o .answer .looks ≡ looksAt p b (requestCluster p q)
 
--- the plan takes a free block
-unfoldable pub takesBlock : Plan → Bool
-takesBlock (continues v f) = false
-takesBlock (opens v) = true
-takesBlock (reclaims v) = true
-
--- a write of this request by its plan for region r. "never refused for want of room": a block that it takes is there and free, and the frame that it
--- writes is one of the block's, also after the copies of a reclaim; it does store: each LBA of the request then reads as given, and every other of the
+-- a write of this request by its plan for region r: a block that it takes is there and free, and the frame that it writes is one of the block's, also after the copies of a reclaim; it does store: each LBA of the request then reads as given, and every other of the
 -- board as before; "A write reports α × (frames copied + 1) pages programmed, and 1 erase if it reclaimed, else 0. So it programs at most P pages".
 -- T-08: it reports the search for its own cluster, "in the state at entry". T-07: it "takes the next" stamp of its region, and none of another
 pub record Writes (p : Params) (b : Board) (q : Request) (r : ℕ) (pl : Plan) (o : Outcome) : Type 0 where
@@ -167,7 +160,8 @@ pub record WithBudget (p : Params) (b : Board) (c : Call) (k : ℕ) (parts : Lis
   pub spent : hasBudget c ≡ true → o .answer .reply ≡ Accepted → k ≤ length (opsOf parts) → Cuts p b c k parts o′
 
 -- a call on any content: its reply is the table's; refused it changes nothing; "Every accepted call on an orderly state leaves one", and so does every accepted
--- call but a queue, whose items are refused one by one, on any; what each call does; and what becomes of it with a budget
+-- call but a queue, whose items are refused one by one, on any; what each call does; and what becomes of it with a budget. "A write that passes these checks is never refused for want of
+-- room", with T-12 "while at least μγ+1 blocks are not reserved"
 pub record OfCall (p : Params) (b : Board) (c : Call) (o : Outcome) : Type 0 where
   pub reply : ByTable Accepted (rowsOf p b c) (o .answer .reply)
   pub refused : (o .answer .reply ≡ Accepted → ⊥) → Unchanged b c o
@@ -176,6 +170,7 @@ pub record OfCall (p : Params) (b : Board) (c : Call) (o : Outcome) : Type 0 whe
   pub formats : c ≡ format → o .answer .reply ≡ Accepted → Formats p b o
   pub reads : (q : Request) → c ≡ read q → o .answer .reply ≡ Accepted → Reads p b q o
   pub writes : (q : Request) → c ≡ write q → o .answer .reply ≡ Accepted → Writes p b q (requestRegion p q) (planOf p (view p b (requestRegion p q))) o
+  pub neverFull : (q : Request) → c ≡ write q → enough p b ≡ true → o .answer .reply ≡ NoBlockLeft → ⊥
   pub frees : (n : ℕ) → c ≡ release n → o .answer .reply ≡ Accepted → Frees p b n o
   pub serves : (l : Queue) → c ≡ queue l → Serves l o
   pub starts : c ≡ start → o .answer .reply ≡ Accepted → Starts p b o
@@ -269,13 +264,19 @@ pub record SameRegion (p : Params) (r : ℕ) (b b′ : Board) (run run′ : List
       → wordAt ((boardAfter p b run) .marks) (markIndex p r v w) ≡ wordAt ((boardAfter p b′ run′) .marks) (markIndex p r v w)
   pub stamp : stampAt ((boardAfter p b run) .stamps) r ≡ stampAt ((boardAfter p b′ run′) .stamps) r
 
--- for "two boards .. each formatted with reply 0, not formatted again", and T-07: it "ends at a board's first cut or start and holds again from the next format": "If the
+-- "each formatted with reply 0, not formatted again"; T-07: it "ends at a board's first cut or start and holds again from the next format"; T-12: it holds "while at least μγ+1 blocks
+-- are not reserved"
+pub record Undisturbed (p : Params) (b : Board) (ss : List Step) : Type 0 where
+  pub formats : replyOf p b format ≡ Accepted
+  pub calls : undisturbed p (leaves p b (plain format)) ss ≡ true
+  pub room : roomy p (leaves p b (plain format)) ss ≡ true
+
+-- for "two boards": "If the
 -- requests to one region are the same and in the same order", up to what the bytes lent to a read hold; T-01: "over the items of calls that answer 0; an item is its LBA, its
 -- count and its bytes, or that they do not lie there"
 abbrev pub Condition3 : Type 0
 Condition3 =
-    (p : Params) (b b′ : Board) → replyOf p b format ≡ Accepted → replyOf p b′ format ≡ Accepted → (ss ss′ : List Step)
-    → undisturbed p (leaves p b (plain format)) ss ≡ true → undisturbed p (leaves p b′ (plain format)) ss′ ≡ true → (r : ℕ) → r < p .mu
+    (p : Params) (b b′ : Board) (ss ss′ : List Step) → Undisturbed p b ss → Undisturbed p b′ ss′ → (r : ℕ) → r < p .mu
     → requestsTo p r (partsOf p (leaves p b (plain format)) ss) ≡ requestsTo p r (partsOf p (leaves p b′ (plain format)) ss′)
     → SameRegion p r b b′ (plain format ∷ ss) (plain format ∷ ss′)
 

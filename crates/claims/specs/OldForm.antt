@@ -17,11 +17,11 @@ use Rattle.rules.specs.Tables.{Board, boardOf, marksLength}
 use Rattle.rules.specs.Orderly.{marksRule, rulesOf}
 use Rattle.rules.specs.Traces.{Op}
 use Rattle.rules.specs.Regions.{looksAt}
-use Rattle.rules.specs.Requests.{Request, format, read, release, requestCluster, write}
+use Rattle.rules.specs.Requests.{Request, format, read, release, requestCluster, requestRegion, write}
 use Rattle.rules.specs.Format.{formatOps, formatted}
 use Rattle.rules.specs.Write.{writeOps, written}
 use Rattle.rules.specs.Release.{released}
-use Rattle.rules.specs.Replies.{Row, accessRows, badCluster, badParameter, firstRow, isAccepted, row, stampRow, tooFewBlocks}
+use Rattle.rules.specs.Replies.{Row, accessRows, badCluster, badParameter, blockRow, firstRow, isAccepted, row, stampRow, tooFewBlocks}
 use Rattle.rules.specs.Calls.{Outcome, answerOf, outcomeOf, readBytes}
 
 -- the lent chip and every table but the marks; no step but the marks' own looks at theirs, which stands here empty
@@ -40,9 +40,9 @@ oldOf b = record { chip = b .chip; ct = b .ct; bt = b .bt; fst = b .fst; bst = b
 abbrev pub withoutMarks : OldBoard → Board
 withoutMarks o = boardOf (o .chip) (o .ct) (o .bt) (o .fst) (o .bst) (o .wear) [] (o .stamps)
 
--- the other ten rules, the lengths and the rows without it
+-- the other nine rules, the lengths and the rows without it
 unfoldable pub oldOrderly : Params → OldBoard → Bool
-oldOrderly p o = allTrue (take 9 (rulesOf p (withoutMarks o)) ++ drop 10 (rulesOf p (withoutMarks o)))
+oldOrderly p o = allTrue (take 8 (rulesOf p (withoutMarks o)) ++ drop 9 (rulesOf p (withoutMarks o)))
 
 unfoldable pub oldLengths : Params → OldBoard → Bool
 oldLengths p o =
@@ -87,7 +87,7 @@ oldRead p o q =
 unfoldable pub oldWrite : Params → OldBoard → Request → OldOutcome
 oldWrite p o q =
     let b = withoutMarks o in
-    oldCall o (oldReply p o (accessRows p q ++ (oldOrder p o ++ stampRow p b q))) (q .bytes) (writeOps p b q) (looksAt p b (requestCluster p q)) (q .bytes) (oldOf (written p b q))
+    oldCall o (oldReply p o (accessRows p q ++ (oldOrder p o ++ (stampRow p b (requestRegion p q) ++ blockRow p b (requestRegion p q))))) (q .bytes) (writeOps p b q) (looksAt p b (requestCluster p q)) (q .bytes) (oldOf (written p b q))
 
 unfoldable pub oldRelease : Params → OldBoard → ℕ → OldOutcome
 oldRelease p o c =

@@ -15,10 +15,11 @@ use Rattle.rules.specs.Parameters.{pages}
 use Rattle.rules.specs.Numbers.{clusterOf, regionOf, sectorOf}
 use Rattle.rules.specs.Tables.{Board}
 use Rattle.rules.specs.Regions.{sector}
+use Rattle.rules.specs.Orderly.{enough}
 use Rattle.rules.specs.Traces.{Op, program, erase}
-use Rattle.rules.specs.Requests.{Request, requestOf, requestCluster, requestRegion, Call, format, read, write, release, queue, start}
+use Rattle.rules.specs.Requests.{Request, itemRequests, requestOf, requestCluster, requestRegion, Call, format, read, write, release, queue, start}
 use Rattle.rules.specs.Replies.{isAccepted}
-use Rattle.rules.specs.Calls.{Part, opsOf, workOf}
+use Rattle.rules.specs.Calls.{Part, opsOf, workOf, writeWork}
 use Rattle.rules.specs.Cuts.{Step, plain, limited, callOf, cutPart, finished, isCut, stepOutcome}
 use Rattle.rules.specs.Words.{SpareListed}
 
@@ -49,6 +50,23 @@ resets start = true
 unfoldable pub undisturbed : Params → Board → List Step → Bool
 undisturbed p b [] = true
 undisturbed p b (s ∷ ss) = not (isCut p b s) && (not (resets (callOf s)) && undisturbed p (leaves p b s) ss)
+
+-- T-12: "while at least μγ+1 blocks are not reserved": on each board that a call finds, and each item of a queue
+unfoldable pub roomyItems : Params → Board → List Request → Bool
+roomyItems p b [] = true
+roomyItems p b (q ∷ qs) = enough p b && roomyItems p ((writeWork p b q) .left) qs
+
+unfoldable pub roomyCall : Params → Board → Call → Bool
+roomyCall p b format = enough p b
+roomyCall p b (read q) = enough p b
+roomyCall p b (write q) = enough p b
+roomyCall p b (release c) = enough p b
+roomyCall p b (queue l) = roomyItems p b (itemRequests p (l .bytes) (l .items))
+roomyCall p b start = enough p b
+
+unfoldable pub roomy : Params → Board → List Step → Bool
+roomy p b [] = true
+roomy p b (s ∷ ss) = roomyCall p b (callOf s) && roomy p (leaves p b s) ss
 
 -- ---- what its requests get
 

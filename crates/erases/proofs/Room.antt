@@ -29,7 +29,7 @@ use Rattle.rules.specs.Write.{Plan, hasRoom, lowestUnassigned, newFrame, planEr
 use Rattle.rules.specs.Machine.{viewAfter, withFrame, withRoom, without}
 use Rattle.rules.specs.Replies.{replyOf}
 use Rattle.rules.specs.Words.{OpensListed, PlanListed, ReclaimsListed}
-use Rattle.rules.proofs.Admitted.{Admitted, admitted, write-checks, stamp-left}
+use Rattle.rules.proofs.Admitted.{Admitted, admitted, stamp-left, write-checks, write-free}
 use Rattle.rules.proofs.Continues.{Makes}
 use Rattle.rules.proofs.FormatPromise.{lacks}
 use Rattle.rules.proofs.FramePut.{Sheet, body-old}
@@ -118,7 +118,7 @@ module _ (p : Params) (b : Board) (q : Request) (e : replyOf p b (write q) ≡ A
   listed = let c = write-checks p b q e in plan-exactly p b (record { fine = c .fine; lengths = c .lengths; tidy = c .tidy }) r region
 
   made : Makes p b r plan
-  made = makes p (acc .sized) b (acc .tables) r region neat-r
+  made = makes p (acc .sized) b (acc .tables) r region neat-r (write-free p b q e)
 
   low : f < frames p
   low = made .base .ready .low
