@@ -1,4 +1,4 @@
--- Which blocks are bad stays as it is over any run: each of its single calls leaves it so, accepted or refused. A call that is cut does too: an operation that fits the chip leaves
+-- Which blocks are bad stays as it is over any run: each of its single calls leaves it so, accepted or refused. A call that is cut does too: an operation that fits the chip and is no mark leaves
 -- a good block good, so a bad one that the first operations made good would be good after all of them. So a format is accepted again: it finds as many good blocks as the first.
 -- Assumes nothing.
 use mathlib.Core.Path.{_≡_, refl, sym, ap, _∙_}
@@ -19,7 +19,7 @@ use Rattle.rules.specs.declared.Reply.the-variants.{Accepted}
 use Rattle.rules.specs.Parameters.{allowed, blockBytes, chipBytes, pageBytes, pages}
 use Rattle.rules.specs.Tables.{Board}
 use Rattle.rules.specs.Pages.{block, page, spare}
-use Rattle.rules.specs.Traces.{Op, erase, onChip, pageAt, program, replayChip}
+use Rattle.rules.specs.Traces.{Op, erase, mark, onChip, pageAt, program, replayChip}
 use Rattle.rules.specs.Requests.{Call, format, queue, read, release, start, write}
 use Rattle.rules.specs.Format.{bad, badMark, goodBlocks}
 use Rattle.rules.specs.Release.{released}
@@ -37,6 +37,7 @@ use Rattle.claims.proofs.CutTraces.{call-made, cut-leaves, step-long, t
 use Rattle.claims.proofs.Once.{erased-block, fit-back, op-length, other-block, page-of, program-other, program-same, replay-length}
 use Rattle.claims.proofs.PlainRuns.{plainBoard, plainLeaves, uncut-leaves}
 use Rattle.claims.proofs.Singles.{AllSingle, Single, all-single, board-same, refused-leaves, singlesOf}
+use Rattle.claims.proofs.Unmarked.{NoMark, Unmarked, unmarked-back, work-unmarked}
 use Rattle.starts.proofs.Accepted.{start-admitted}
 use Rattle.claims.proofs.Steps.{accepted-leaves, doneBoard}
 
@@ -72,7 +73,7 @@ singles-bad p b (c ∷ cs) s n h = singles-bad p (plainLeaves p b c) cs (s .1) n
 after-bad : (p : Params) (b : Board) (run : List Call) (n : ℕ) → n < p .N → bad p ((plainBoard p b run) .chip) n ≡ bad p (b .chip) n
 after-bad p b run n h = rw (board-same p b run) (singles-bad p b (singlesOf p b run) (all-single p b run) n h)
 
--- ---- operations that fit the chip leave a good block good
+-- ---- operations that fit the chip and are no marks leave a good block good
 
 -- an entry of a list, whatever stands behind its end
 low-entry : (l : List ℕ) (i d e : ℕ) → i < length l → getD l i d ≡ getD l i e
@@ -94,9 +95,10 @@ module _ (p : Params) (z : Sizes p) (n : ℕ) (low : n < p .N) where
           rw (← page-of p (onChip p chip (program m q x)) n j h, program-same p chip m q x e f n j i, same)
       go (no i) = rw (← page-of p (onChip p chip (program m q x)) n j h, program-other p chip m q x e f n j i, page-of p chip n j h) g
 
-  op-good : (chip : List ℕ) (o : Op) → length chip ≡ chipBytes p → Fits p o → bad p chip n ≡ false → bad p (onChip p chip o) n ≡ false
+  op-good : (chip : List ℕ) (o : Op) → length chip ≡ chipBytes p → Fits p o → NoMark o → bad p chip n ≡ false → bad p (onChip p chip o) n ≡ false
   unfolding bad
-  op-good chip (program m q x) e f g = go (so (leb 2 (pages p))) (or-neither (badMark p chip n 0) g)
+  op-good chip (mark m) e f u g = absurd u
+  op-good chip (program m q x) e f u g = go (so (leb 2 (pages p))) (or-neither (badMark p chip n 0) g)
     where
       first : badMark p chip n 0 ≡ false → badMark p (onChip p chip (program m q x)) n 0 ≡ false
       first = fifth-kept chip m q x e f 0 (some-page p z)
@@ -107,33 +109,36 @@ module _ (p : Params) (z : Sizes p) (n : ℕ) (low : n < p .N) where
           let second : badMark p chip n 1 ≡ false = rw t at (w .1) in
           rw (first (w .0), t, fifth-kept chip m q x e f 1 (omega (arith, leb-true 2 (pages p) t)) second)
       go (inr t) w = rw (first (w .0), t)
-  op-good chip (erase m) e f g = go (ℕ-discrete n m)
+  op-good chip (erase m) e f u g = go (ℕ-discrete n m)
     where
       go : Dec (n ≡ m) → bad p (onChip p chip (erase m)) n ≡ false
       go (yes i) = let is = erased-block p chip m e f in rw i (blank-good p (onChip p chip (erase m)) m z (rw is (length-replicate (blockBytes p) 255)) (rw is (allAre-replicate 255 (blockBytes p))))
       go (no i) = bytes-bad p chip (onChip p chip (erase m)) n (other-block p chip m e f n i) ∙ g
 
-  good-stays : (chip : List ℕ) (os : List Op) → length chip ≡ chipBytes p → AllFit p os → bad p chip n ≡ false → bad p (replayChip p chip os) n ≡ false
+  good-stays : (chip : List ℕ) (os : List Op) → length chip ≡ chipBytes p → AllFit p os → Unmarked os → bad p chip n ≡ false → bad p (replayChip p chip os) n ≡ false
   unfolding replayChip
-  good-stays chip [] e f g = g
-  good-stays chip (o ∷ os) e f g = good-stays (onChip p chip o) os (op-length p chip o e (f .0)) (f .1) (op-good chip o e (f .0) g)
+  good-stays chip [] e f u g = g
+  good-stays chip (o ∷ os) e f u g = good-stays (onChip p chip o) os (op-length p chip o e (f .0)) (f .1) (u .1) (op-good chip o e (f .0) (u .0) g)
 
   -- so the first operations of a list that changes nothing of it change nothing
-  first-same : (chip : List ℕ) (k : ℕ) (os : List Op) → length chip ≡ chipBytes p → AllFit p os → bad p (replayChip p chip os) n ≡ bad p chip n
+  first-same : (chip : List ℕ) (k : ℕ) (os : List Op) → length chip ≡ chipBytes p → AllFit p os → Unmarked os → bad p (replayChip p chip os) n ≡ bad p chip n
       → bad p (replayChip p chip (take k os)) n ≡ bad p chip n
-  first-same chip k os e f same = go (so (bad p chip n)) (so (bad p (replayChip p chip (take k os)) n))
+  first-same chip k os e f u same = go (so (bad p chip n)) (so (bad p (replayChip p chip (take k os)) n))
     where
       fit : AllFit p (take k os) × AllFit p (drop k os)
       fit = fit-back p (take k os) (drop k os) (rw (take-append-drop k os) f)
 
+      none : Unmarked (take k os) × Unmarked (drop k os)
+      none = unmarked-back (take k os) (drop k os) (rw (take-append-drop k os) u)
+
       later : bad p (replayChip p chip (take k os)) n ≡ false → bad p (replayChip p chip os) n ≡ false
       later g =
           rw (take-append-drop k os) at (rw (← replay-append p chip (take k os) (drop k os)) at
-          (good-stays (replayChip p chip (take k os)) (drop k os) (replay-length p chip (take k os) e (fit .0)) (fit .1) g))
+          (good-stays (replayChip p chip (take k os)) (drop k os) (replay-length p chip (take k os) e (fit .0)) (fit .1) (none .1) g))
 
       go : (bad p chip n ≡ true) ⊎ (bad p chip n ≡ false) → (bad p (replayChip p chip (take k os)) n ≡ true) ⊎ (bad p (replayChip p chip (take k os)) n ≡ false)
           → bad p (replayChip p chip (take k os)) n ≡ bad p chip n
-      go (inr g) t = good-stays chip (take k os) e (fit .0) g ∙ sym g
+      go (inr g) t = good-stays chip (take k os) e (fit .0) (none .0) g ∙ sym g
       go (inl g) (inl t) = t ∙ sym g
       go (inl g) (inr t) = absurd (never g (sym same ∙ later t))
 
@@ -158,7 +163,7 @@ module _ (p : Params) (fine : allowed p ≡ true) where
       go : (isCut p b (limited k c) ≡ true) ⊎ (isCut p b (limited k c) ≡ false) → bad p ((leaves p b (limited k c)) .chip) n ≡ bad p (b .chip) n
       go (inl e) =
           rw (cut-leaves p b k c e)
-          (unfold cutBoard in first-same p (sizes p fine) n h (b .chip) k ops (chip-long b long) ((call-made p b c) .fits) (rw (← (call-made p b c) .chip) (call-bad b c n h)))
+          (unfold cutBoard in first-same p (sizes p fine) n h (b .chip) k ops (chip-long b long) ((call-made p b c) .fits) (work-unmarked p b c) (rw (← (call-made p b c) .chip) (call-bad b c n h)))
       go (inr e) = rw (uncut-leaves p b (limited k c) e) (unfold callOf in call-bad b c n h)
 
   pub run-bad : (b : Board) (ss : List Step) → lengthsFit p b ≡ true → (n : ℕ) → n < p .N → bad p ((boardAfter p b ss) .chip) n ≡ bad p (b .chip) n

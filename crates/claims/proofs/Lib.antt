@@ -11,6 +11,7 @@ pub mod Freed
 pub mod Stamps
 pub mod Budgets
 pub mod CutTraces
+pub mod Unmarked
 pub mod Again
 pub mod Condition1
 pub mod Standing

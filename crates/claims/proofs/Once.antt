@@ -1,5 +1,5 @@
--- No page is programmed twice between erases: a programmed page carries a zero, which stays until its block is erased, and a page that is
--- programmed is all ones just before.
+-- No page is programmed twice between erases: a programmed page carries a zero, and so does a marked one, which stays until its block is erased, and a page that is
+-- programmed or marked is all ones just before.
 -- Assumes nothing.
 use mathlib.Core.Path.{_≡_, refl, sym, ap, _∙_}
 use mathlib.Core.Logic.{_⊎_, inl, inr}
@@ -12,20 +12,21 @@ use lib.Dec.{eqb}
 use borrow.Author.Tests.{eqb-false}
 use lib.ListN.{length, drop, replicate, length-replicate}
 use Rattle.lists.specs.Below.{joinBelow}
-use Rattle.lists.specs.Parts.{allAre, part}
+use Rattle.lists.specs.Parts.{allAre, part, putPart}
 use Rattle.lists.proofs.Joins.{allAre-at, allAre-drop}
 use Rattle.lists.proofs.Parts.{next, part-part, put-length, put-other, put-same}
 use Rattle.lists.proofs.Tests.{and-left, and-right, never, or-neither, so}
 use Rattle.rules.specs.declared.Params.{Params}
 use Rattle.rules.specs.Parameters.{blockBytes, chipBytes, frameBytes, pageBytes, pages}
 use Rattle.rules.specs.Pages.{block}
-use Rattle.rules.specs.Traces.{Op, clean, erase, onChip, pageAt, program, replayChip}
+use Rattle.rules.specs.Traces.{Op, clean, erase, mark, markPage, onChip, pageAt, program, replayChip}
+use Rattle.rules.proofs.MarkedBlocks.{mark-not-blank, mark-whole}
 use Rattle.rules.proofs.TableFacts.{chip-size}
-use Rattle.claims.specs.Runs.{AllFit, Fits, erasesBlock, noPageTwice}
+use Rattle.claims.specs.Runs.{AllFit, Fits, ProgramsPage, erasesBlock, noPageTwice}
 
 -- ---- operations that fit the chip
 
--- a page that fits has a zero in its spare bytes, so it is not all ones
+-- a programmed page has a zero in its spare bytes, so it is not all ones
 pub not-blank : (p : Params) (n q : ℕ) (x : List ℕ) → Fits p (program n q x) → allAre 255 x ≡ false
 not-blank p n q x h = go (so (allAre 255 x))
   where
@@ -70,6 +71,7 @@ pub op-length : (p : Params) (chip : List ℕ) (o : Op) → length chip ≡ chip
 unfolding onChip
 op-length p chip (program n q x) e h = put-length (pageBytes p) (pageAt p n q) x chip (page-fits p chip n q e (h .0) (h .1)) (whole-page p n q x h) ∙ e
 op-length p chip (erase n) e h = put-length (blockBytes p) n (replicate (blockBytes p) 255) chip (block-fits p chip n e h) (length-replicate (blockBytes p) 255) ∙ e
+op-length p chip (mark n) e h = put-length (pageBytes p) (pageAt p n 0) (markPage p) chip (page-fits p chip n 0 e (h .0) (h .1)) (mark-whole p) ∙ e
 
 pub replay-length : (p : Params) (chip : List ℕ) (os : List Op) → length chip ≡ chipBytes p → AllFit p os → length (replayChip p chip os) ≡ chipBytes p
 unfolding replayChip
@@ -108,18 +110,20 @@ page-kept p chip n q m e h k ne = page-of p (onChip p chip (erase m)) n q h ∙ 
 -- ---- a page that is not all ones stays so until its block is erased
 
 module _ (p : Params) (n q : ℕ) (block : n < p .N) (page : q < pages p) where
-  pub written-page : (chip x : List ℕ) → length chip ≡ chipBytes p → length x ≡ pageBytes p → part (pageBytes p) (pageAt p n q) (onChip p chip (program n q x)) ≡ x
-  unfolding onChip
-  written-page chip x e w = put-same (pageBytes p) (pageAt p n q) x chip (page-fits p chip n q e block page) w
+  -- a page that is put is not all ones, and every other page is as it was
+  one-put : (chip : List ℕ) (m k : ℕ) (x : List ℕ) → length chip ≡ chipBytes p → m < p .N → k < pages p → length x ≡ pageBytes p → allAre 255 x ≡ false
+      → allAre 255 (part (pageBytes p) (pageAt p n q) chip) ≡ false → allAre 255 (part (pageBytes p) (pageAt p n q) (putPart (pageBytes p) (pageAt p m k) x chip)) ≡ false
+  one-put chip m k x e lm lk w b d = go (ℕ-discrete (pageAt p n q) (pageAt p m k))
+    where
+      go : Dec (pageAt p n q ≡ pageAt p m k) → allAre 255 (part (pageBytes p) (pageAt p n q) (putPart (pageBytes p) (pageAt p m k) x chip)) ≡ false
+      go (yes i) = rw (i, put-same (pageBytes p) (pageAt p m k) x chip (page-fits p chip m k e lm lk) w) b
+      go (no i) = rw (put-other (pageBytes p) (pageAt p m k) x chip (page-fits p chip m k e lm lk) w (pageAt p n q) i) d
 
   one-op : (chip : List ℕ) (o : Op) → length chip ≡ chipBytes p → Fits p o → allAre 255 (part (pageBytes p) (pageAt p n q) chip) ≡ false
       → erasesBlock n (o ∷ []) ≡ false → allAre 255 (part (pageBytes p) (pageAt p n q) (onChip p chip o)) ≡ false
-  unfolding erasesBlock
-  one-op chip (program m k x) e h d s = go (ℕ-discrete (pageAt p n q) (pageAt p m k))
-    where
-      go : Dec (pageAt p n q ≡ pageAt p m k) → allAre 255 (part (pageBytes p) (pageAt p n q) (onChip p chip (program m k x))) ≡ false
-      go (yes i) = rw (program-same p chip m k x e h n q i) (not-blank p m k x h)
-      go (no i) = rw (program-other p chip m k x e h n q i) d
+  unfolding erasesBlock onChip
+  one-op chip (program m k x) e h d s = one-put chip m k x e (h .0) (h .1) (whole-page p m k x h) (not-blank p m k x h) d
+  one-op chip (mark m) e h d s = one-put chip m 0 (markPage p) e (h .0) (h .1) (mark-whole p) (mark-not-blank p) d
   one-op chip (erase m) e h d s = rw (page-kept p chip n q m e page h (λ i. eqb-false m n ((or-neither (eqb m n) s) .0) (sym i))) d
 
   stays : (os : List Op) (chip : List ℕ) → length chip ≡ chipBytes p → AllFit p os → allAre 255 (part (pageBytes p) (pageAt p n q) chip) ≡ false
@@ -127,6 +131,7 @@ module _ (p : Params) (n q : ℕ) (block : n < p .N) (page : q < pages p) where
   unfolding replayChip erasesBlock
   stays [] chip e h d s = d
   stays (program m k x ∷ os) chip e h d s = stays os (onChip p chip (program m k x)) (op-length p chip (program m k x) e (h .0)) (h .1) (one-op chip (program m k x) e (h .0) d refl) s
+  stays (mark m ∷ os) chip e h d s = stays os (onChip p chip (mark m)) (op-length p chip (mark m) e (h .0)) (h .1) (one-op chip (mark m) e (h .0) d refl) s
   stays (erase m ∷ os) chip e h d s =
       let w = or-neither (eqb m n) s in
       stays os (onChip p chip (erase m)) (op-length p chip (erase m) e (h .0)) (h .1) (one-op chip (erase m) e (h .0) d (rw (w .0))) (w .1)
@@ -139,34 +144,55 @@ unfolding clean replayChip
 clean-back p chip [] ys h = h
 clean-back p chip (program n q x ∷ xs) ys h = clean-back p (onChip p chip (program n q x)) xs ys (and-right (allAre 255 (part (pageBytes p) (pageAt p n q) chip)) h)
 clean-back p chip (erase n ∷ xs) ys h = clean-back p (onChip p chip (erase n)) xs ys h
+clean-back p chip (mark n ∷ xs) ys h = clean-back p (onChip p chip (mark n)) xs ys (and-right (allAre 255 (part (pageBytes p) (pageAt p n 0) chip)) h)
+
+-- an operation that programs a page: it is a page of the chip, all ones just before, and not all ones after
+placed : (p : Params) (n q : ℕ) (o : Op) → Fits p o → ProgramsPage n q o → (n < p .N) × (q < pages p)
+placed p n q (program m k x) h i = (rw (i .0) at (h .0), rw (i .1) at (h .1))
+placed p n q (erase m) h i = absurd i
+placed p n q (mark m) h i = (rw (i .0) at (h .0), rw (i .1) (h .1))
+
+ones-before : (p : Params) (chip : List ℕ) (n q : ℕ) (o : Op) (os : List Op) → ProgramsPage n q o → clean p chip (o ∷ os) ≡ true
+    → allAre 255 (part (pageBytes p) (pageAt p n q) chip) ≡ true
+unfolding clean
+ones-before p chip n q (program m k x) os i h = rw (i .0, i .1) at (and-left (allAre 255 (part (pageBytes p) (pageAt p m k) chip)) _ h)
+ones-before p chip n q (erase m) os i h = absurd i
+ones-before p chip n q (mark m) os i h = rw (i .1) (rw (i .0) at (and-left (allAre 255 (part (pageBytes p) (pageAt p m 0) chip)) _ h))
+
+zero-after : (p : Params) (chip : List ℕ) (n q : ℕ) (o : Op) → length chip ≡ chipBytes p → Fits p o → ProgramsPage n q o
+    → allAre 255 (part (pageBytes p) (pageAt p n q) (onChip p chip o)) ≡ false
+unfolding onChip
+zero-after p chip n q (program m k x) e h i =
+    rw (← i .0, ← i .1, put-same (pageBytes p) (pageAt p m k) x chip (page-fits p chip m k e (h .0) (h .1)) (whole-page p m k x h)) (not-blank p m k x h)
+zero-after p chip n q (erase m) e h i = absurd i
+zero-after p chip n q (mark m) e h i =
+    rw (← i .0, i .1, put-same (pageBytes p) (pageAt p m 0) (markPage p) chip (page-fits p chip m 0 e (h .0) (h .1)) (mark-whole p)) (mark-not-blank p)
 
 -- a clean trace that fits the chip programs no page twice between erases
 pub clean-once : (p : Params) (chip : List ℕ) (os : List Op) → length chip ≡ chipBytes p → AllFit p os → clean p chip os ≡ true → noPageTwice os
-unfolding noPageTwice clean
-clean-once p chip os e fit h n q x y before between after is = go (so (erasesBlock n between))
+unfolding noPageTwice replayChip
+clean-once p chip os e fit h n q x y before between after i j is = go (so (erasesBlock n between))
   where
     chip₁ : List ℕ
     chip₁ = replayChip p chip before
 
-    fits : AllFit p (before ++ (program n q x ∷ (between ++ (program n q y ∷ after))))
-    fits = rw is at fit
+    later : List Op
+    later = between ++ (y ∷ after)
 
-    tail : Fits p (program n q x) × AllFit p (between ++ (program n q y ∷ after))
-    tail = (fit-back p before (program n q x ∷ (between ++ (program n q y ∷ after))) fits) .1
+    fits : AllFit p before × (Fits p x × AllFit p later)
+    fits = fit-back p before (x ∷ later) (rw is at fit)
 
     size : length chip₁ ≡ chipBytes p
-    size = replay-length p chip before e ((fit-back p before (program n q x ∷ (between ++ (program n q y ∷ after))) fits) .0)
+    size = replay-length p chip before e (fits .0)
 
-    first : clean p chip₁ (program n q x ∷ (between ++ (program n q y ∷ after))) ≡ true
-    first = clean-back p chip before (program n q x ∷ (between ++ (program n q y ∷ after))) (rw is at h)
-
-    second : clean p (replayChip p (onChip p chip₁ (program n q x)) between) (program n q y ∷ after) ≡ true
-    second = clean-back p (onChip p chip₁ (program n q x)) between (program n q y ∷ after) (and-right (allAre 255 (part (pageBytes p) (pageAt p n q) chip₁)) first)
+    rest : clean p (onChip p chip₁ x) later ≡ true
+    rest = clean-back p chip₁ (x ∷ []) later (clean-back p chip before (x ∷ later) (rw is at h))
 
     go : (erasesBlock n between ≡ true) ⊎ (erasesBlock n between ≡ false) → erasesBlock n between ≡ true
     go (inl t) = t
     go (inr t) =
-        let f = tail .0 in
-        let d = stays p n q (f .0) (f .1) between (onChip p chip₁ (program n q x)) (op-length p chip₁ (program n q x) size f) ((fit-back p between (program n q y ∷ after) (tail .1)) .0)
-        (rw (written-page p n q (f .0) (f .1) chip₁ x size (whole-page p n q x f)) (not-blank p n q x f)) t in
-        absurd (never (and-left (allAre 255 (part (pageBytes p) (pageAt p n q) (replayChip p (onChip p chip₁ (program n q x)) between))) _ second) d)
+        let f = fits .1 .0 in
+        let low = placed p n q x f i in
+        let between-fit = (fit-back p between (y ∷ after) (fits .1 .1)) .0 in
+        let d = stays p n q (low .0) (low .1) between (onChip p chip₁ x) (op-length p chip₁ x size f) between-fit (zero-after p chip₁ n q x size f i) t in
+        absurd (never (ones-before p (replayChip p (onChip p chip₁ x) between) n q y after j (clean-back p (onChip p chip₁ x) between (y ∷ after) rest)) d)

@@ -16,7 +16,7 @@ use Rattle.rules.specs.Numbers.{clusterOf, regionOf, sectorOf}
 use Rattle.rules.specs.Tables.{Board}
 use Rattle.rules.specs.Regions.{sector}
 use Rattle.rules.specs.Orderly.{enough}
-use Rattle.rules.specs.Traces.{Op, program, erase}
+use Rattle.rules.specs.Traces.{Op, program, erase, mark}
 use Rattle.rules.specs.Requests.{Request, itemRequests, requestOf, requestCluster, requestRegion, Call, format, read, write, release, queue, start}
 use Rattle.rules.specs.Replies.{isAccepted}
 use Rattle.rules.specs.Calls.{Part, opsOf, workOf, writeWork}
@@ -133,21 +133,31 @@ unfoldable pub erasesBlock : ℕ → List Op → Bool
 erasesBlock n [] = false
 erasesBlock n (program m q x ∷ os) = erasesBlock n os
 erasesBlock n (erase m ∷ os) = eqb m n || erasesBlock n os
+erasesBlock n (mark m ∷ os) = erasesBlock n os
 
 -- an operation fits the chip: a program is of a page of the chip, and of a whole page with the spare bytes that document 01 lists, for a cluster of the
--- board, the page's place in its frame, a stamp and a virtual block; an erase is of a block of the chip
+-- board, the page's place in its frame, a stamp and a virtual block; an erase is of a block of the chip, and so is a mark, where blocks have a page
 abbrev pub Fits : Params → Op → Type 0
 Fits p (program n q x) = (n < p .N) × (q < pages p) × (length x ≡ p .s + 16)
     × ((c : ℕ) × (t : ℕ) × (v : ℕ) × (c < p .C) × (v < p .gamma) × SpareListed c (q % p .alpha) t v (drop (p .s) x))
 Fits p (erase n) = n < p .N
+Fits p (mark n) = (n < p .N) × (0 < pages p)
 
 abbrev pub AllFit : Params → List Op → Type 0
 AllFit p [] = Unit {0}
 AllFit p (o ∷ os) = Fits p o × AllFit p os
 
--- "No page is programmed twice between erases": between any two programs of one page lies an erase of its block
+-- an operation programs page q of block n: T-12's "mark programs" are of the first page
+abbrev pub ProgramsPage : ℕ → ℕ → Op → Type 0
+ProgramsPage n q (program m k x) = (m ≡ n) × (k ≡ q)
+ProgramsPage n q (erase m) = ⊥
+ProgramsPage n q (mark m) = (m ≡ n) × (q ≡ 0)
+
+-- "No page is programmed twice between erases": between any two operations that program one page lies an erase of its block
 unfoldable pub noPageTwice : List Op → Type 0
-noPageTwice ops = (n q : ℕ) (x y : List ℕ) (before between after : List Op) → ops ≡ before ++ (program n q x ∷ (between ++ (program n q y ∷ after))) → erasesBlock n between ≡ true
+noPageTwice ops =
+    (n q : ℕ) (x y : Op) (before between after : List Op) → ProgramsPage n q x → ProgramsPage n q y → ops ≡ before ++ (x ∷ (between ++ (y ∷ after)))
+    → erasesBlock n between ≡ true
 
 -- ---- what the host knows
 

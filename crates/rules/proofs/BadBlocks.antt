@@ -44,7 +44,7 @@ use Rattle.rules.proofs.Writes.{reserved-bytes, reserved-same}
 
 module _ (p : Params) (blk : List ℕ) (whole : length blk ≡ blockBytes p) where
   -- its pages lie within it
-  page-fits : (q : ℕ) → q < pages p → q * pageBytes p + pageBytes p ≤ length blk
+  pub page-fits : (q : ℕ) → q < pages p → q * pageBytes p + pageBytes p ≤ length blk
   unfolding blockBytes frameBytes pages
   page-fits q h = omega (arith, whole, next (pageBytes p) q (p .alpha * frames p) h)
 
@@ -63,7 +63,7 @@ module _ (p : Params) (blk : List ℕ) (whole : length blk ≡ blockBytes p) whe
   free-fifth e q h = erased-fifth q h (allAre-drop 255 (p .s) _ (allAre-part 255 (pageBytes p) q blk e))
 
   -- page j of frame f is page f·α + j of the block
-  frame-spare : (f j : ℕ) → j < p .alpha → spare p (frame p blk f) j ≡ spare p blk (f * p .alpha + j)
+  pub frame-spare : (f j : ℕ) → j < p .alpha → spare p (frame p blk f) j ≡ spare p blk (f * p .alpha + j)
   unfolding spare page frame frameBytes
   frame-spare f j h = ap (drop (p .s)) (part-part (pageBytes p) (p .alpha) f j blk h)
 

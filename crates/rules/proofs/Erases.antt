@@ -16,7 +16,7 @@ use Rattle.rules.specs.declared.Params.{Params}
 use Rattle.rules.specs.Parameters.{blockBytes}
 use Rattle.rules.specs.Tables.{wearAt}
 use Rattle.rules.specs.Pages.{block}
-use Rattle.rules.specs.Traces.{Op, clean, erase, eraseWhere, erasesIn, isErase, onChip, onWear, programsIn, replayChip, replayWear}
+use Rattle.rules.specs.Traces.{Op, clean, erase, eraseWhere, erasesIn, isErase, isProgram, onChip, onWear, programsIn, replayChip, replayWear}
 use Rattle.rules.specs.Machine.{erasedBlock}
 use Rattle.rules.proofs.Chip.{clean-append, replay-append}
 use Rattle.rules.proofs.Replays.{erase-ran}
@@ -44,7 +44,7 @@ none-pass f (suc k) h = rw (h k (omega arith), none-pass f k (λ n l. h n (omega
 -- ---- the counts, and the pages programmed
 
 pub erases-counted : (f : ℕ → Bool) (k : ℕ) → (programsIn (erasesBelow f k) ≡ 0) × (erasesIn (erasesBelow f k) ≡ countBelow k f)
-unfolding erasesBelow joinBelow countBelow programsIn erasesIn isErase
+unfolding erasesBelow joinBelow countBelow programsIn erasesIn isProgram isErase
 erases-counted f zero = (refl, refl)
 erases-counted f (suc k) =
     let below = erases-counted f k in

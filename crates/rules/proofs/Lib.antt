@@ -39,3 +39,4 @@ pub mod OrderlyWords
 pub mod BegunWords
 pub mod LooksWords
 pub mod BadBlocks
+pub mod MarkedBlocks

@@ -23,7 +23,7 @@ use Rattle.rules.specs.Numbers.{vblockOf}
 use Rattle.rules.specs.Tables.{bstAt, none, notFound, wearAt}
 use Rattle.rules.specs.Pages.{block, bytes32, filled, frame, page, spare, spareBytes}
 use Rattle.rules.specs.Regions.{View, assigned, validFrames, view}
-use Rattle.rules.specs.Traces.{erase, onWear, program, replayWear}
+use Rattle.rules.specs.Traces.{erase, mark, onWear, program, replayWear}
 use Rattle.rules.specs.Format.{bad, badMark}
 use Rattle.rules.specs.Write.{freeBlock, hasRoom, lowestUnassigned, planOf, victim}
 use Rattle.rules.specs.Words.{Allowed, AllowedExactly, BadExactly, BadListed, ContinuesListed, FreeExactly, FreeListed, Full, PlanExactly, PlanListed, SpareListed, SparesExactly, WearAfter, erasesOf, fifth}
@@ -199,6 +199,7 @@ pub wear-after : WearAfter
 unfolding replayWear erasesOf onWear
 wear-after wear [] n h k = omega arith
 wear-after wear (program m q x ∷ os) n h k = wear-after wear os n h k
+wear-after wear (mark m ∷ os) n h k = wear-after wear os n h k
 wear-after wear (erase m ∷ os) n h k = go (λ w. wear-after w os n) (ℕ-discrete m n)
   where
     go : ((w : List ℕ) → n < length w → wearAt w n ≤ 4294967295 → wearAt (replayWear w os) n ≡ min (wearAt w n + erasesOf n os) 4294967295) → Dec (m ≡ n)

@@ -17,7 +17,7 @@ use Rattle.rules.specs.Tables.{Board}
 use Rattle.rules.specs.Pages.{filled, frame, page}
 use Rattle.rules.specs.Regions.{View, assigned, sector, validFrames, view}
 use Rattle.rules.specs.Orderly.{orderly}
-use Rattle.rules.specs.Traces.{Op, clean, erasesIn, frameOps, framesOps, isErase, program, programsIn}
+use Rattle.rules.specs.Traces.{Op, clean, erasesIn, frameOps, framesOps, isErase, isProgram, program, programsIn}
 use Rattle.rules.specs.Write.{
   Plan,
   planErases,
@@ -84,7 +84,7 @@ erases-append [] ys = omega arith
 erases-append (o ∷ xs) ys = rw (erases-append xs ys) (omega arith)
 
 frame-programs : (p : Params) (n f : ℕ) (x : List ℕ) (k : ℕ) → (programsIn (frameOps p n f x k) ≡ k) × (erasesIn (frameOps p n f x k) ≡ 0)
-unfolding frameOps joinBelow programsIn erasesIn isErase
+unfolding frameOps joinBelow programsIn erasesIn isProgram isErase
 frame-programs p n f x zero = (refl, refl)
 frame-programs p n f x (suc k) =
     let w = frame-programs p n f x k in (
@@ -101,7 +101,7 @@ frames-programs p n to (x ∷ xs) =
     (programs-append (frameOps p n to x (p .alpha)) _ ∙ rw (a .0, w .0) (omega arith), erases-append (frameOps p n to x (p .alpha)) _ ∙ rw (a .1, w .1))
 
 pub erase-counts : (p : Params) (b : Board) (r : ℕ) (pl : Plan) → (programsIn (eraseOps p b r pl) ≡ 0) × (erasesIn (eraseOps p b r pl) ≡ planErases pl)
-unfolding eraseOps programsIn erasesIn isErase planErases
+unfolding eraseOps programsIn erasesIn isProgram isErase planErases
 erase-counts p b r (continues v f) = (refl, refl)
 erase-counts p b r (opens v) = (refl, refl)
 erase-counts p b r (reclaims v) = (refl, refl)

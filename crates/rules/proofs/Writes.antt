@@ -21,7 +21,7 @@ use Rattle.rules.specs.Pages.{block, lastIn}
 use Rattle.rules.specs.Regions.{assigned, sector, sectorIn, view}
 use Rattle.rules.specs.Orderly.{orderly, stampRule}
 use Rattle.rules.specs.Marks.{marksOf}
-use Rattle.rules.specs.Traces.{Op, clean, erase, onWear, program, replayChip, replayWear}
+use Rattle.rules.specs.Traces.{Op, clean, erase, mark, onWear, program, replayChip, replayWear}
 use Rattle.rules.specs.Write.{Plan, copies, followCt, newFrame, newSector, nextStamp, planBlock, planFrame, planOps, planVBlock, roomOps, writtenBy}
 use Rattle.rules.specs.Requests.{Request, requestCluster, requestRegion}
 use Rattle.rules.specs.Machine.{withFrame, withRoom}
@@ -44,6 +44,7 @@ unfolding replayWear onWear
 wear-length wear [] = refl
 wear-length wear (program n q x ∷ os) = wear-length wear os
 wear-length wear (erase n ∷ os) = wear-length (set wear n _) os ∙ length-set wear n _
+wear-length wear (mark n ∷ os) = wear-length wear os
 
 -- the marks that a write leaves are those of the board that it leaves
 pub write-marks : (p : Params) (b : Board) (r : ℕ) (q : Request) (pl : Plan) → (writtenBy p b r q pl) .marks ≡ marksOf p (writtenBy p b r q pl)

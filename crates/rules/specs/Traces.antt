@@ -1,4 +1,4 @@
--- What a call does to the chip, as a trace: page programs and block erases in their order. The chip and the wear after a call are the trace's
+-- What a call does to the chip, as a trace: page programs, block erases and marks of worn blocks in their order. The chip and the wear after a call are the trace's
 -- replay, what the call reports is counted on it, and the board that it leaves is that
 -- replay with the tables that the call decides and the marks of all these.
 -- Assumes nothing.
@@ -14,23 +14,30 @@ use Rattle.rules.specs.Tables.{Board, wearAt}
 use Rattle.rules.specs.Pages.{page, erased}
 use Rattle.rules.specs.Marks.{marksOf}
 
--- page q of block n programmed with these bytes; block n erased
+-- page q of block n programmed with these bytes; block n erased; T-12: block n marked as worn
 pub data Op : Type 0 where
   program : ℕ → ℕ → List ℕ → Op
   erase : ℕ → Op
+  mark : ℕ → Op
 
 -- page q of block n, counted over the chip, "pages in block order"
 abbrev pub pageAt : Params → ℕ → ℕ → ℕ
 pageAt p n q = n * pages p + q
 
+-- T-12: "its first page gets a zero in spare byte 5": a page of ones but for that byte
+unfoldable pub markPage : Params → List ℕ
+markPage p = replicate (p .s + 5) 255 ++ (0 ∷ replicate 10 255)
+
 unfoldable pub onChip : Params → List ℕ → Op → List ℕ
 onChip p chip (program n q x) = putPart (pageBytes p) (pageAt p n q) x chip
 onChip p chip (erase n) = putPart (blockBytes p) n (replicate (blockBytes p) 255) chip
+onChip p chip (mark n) = putPart (pageBytes p) (pageAt p n 0) (markPage p) chip
 
 -- "a 32-bit erase count per block, which stays at 4,294,967,295 once there"
 unfoldable pub onWear : List ℕ → Op → List ℕ
 onWear wear (program n q x) = wear
 onWear wear (erase n) = set wear n (min (wearAt wear n + 1) 4294967295)
+onWear wear (mark n) = wear
 
 unfoldable pub replayChip : Params → List ℕ → List Op → List ℕ
 replayChip p chip [] = chip
@@ -45,15 +52,22 @@ unfoldable pub clean : Params → List ℕ → List Op → Bool
 clean p chip [] = true
 clean p chip (program n q x ∷ os) = erased (part (pageBytes p) (pageAt p n q) chip) && clean p (onChip p chip (program n q x)) os
 clean p chip (erase n ∷ os) = clean p (onChip p chip (erase n)) os
+clean p chip (mark n ∷ os) = erased (part (pageBytes p) (pageAt p n 0) chip) && clean p (onChip p chip (mark n)) os
+
+unfoldable pub isProgram : Op → Bool
+isProgram (program n q x) = true
+isProgram (erase n) = false
+isProgram (mark n) = false
 
 unfoldable pub isErase : Op → Bool
 isErase (program n q x) = false
 isErase (erase n) = true
+isErase (mark n) = false
 
--- the two counts of an answer that are of its operations
+-- the two counts of an answer that are of its operations; T-12: "mark programs .. are not reported"
 unfoldable pub programsIn : List Op → ℕ
 programsIn [] = 0
-programsIn (o ∷ os) = cond (isErase o) 0 1 + programsIn os
+programsIn (o ∷ os) = cond (isProgram o) 1 0 + programsIn os
 
 unfoldable pub erasesIn : List Op → ℕ
 erasesIn [] = 0

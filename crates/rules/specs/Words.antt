@@ -1,5 +1,6 @@
 -- Words of documents 01 and 02 that elsewhere a definition alone says, once more in terms of their own: plain numbers, bytes and inequalities. No call is
--- defined by what stands here: proofs/Words.antt, proofs/OrderlyWords.antt, proofs/BegunWords.antt and proofs/LooksWords.antt show that the definitions say the same, no less and no more.
+-- defined by what stands here: proofs/Words.antt, proofs/OrderlyWords.antt, proofs/MarkedBlocks.antt, proofs/BegunWords.antt and proofs/LooksWords.antt show
+-- that the definitions say the same, no less and no more.
 -- The last part is a law of a reclaim's operations, which proofs/CopiesStand.antt shows.
 -- Assumes nothing.
 use Prim.Native.Nat.{ℕ, _+_, _-_, _*_, _/_, _%_, _≤_, _<_, min}
@@ -7,17 +8,17 @@ use mathlib.Core.Path.{_≡_}
 use mathlib.Core.Logic.{_⊎_, _↔_}
 use mathlib.Core.Bool.{true, false, not, cond}
 use mathlib.Core.List.{List, [], _∷_}
-use lib.ListN.{length, getD, drop, take}
+use lib.ListN.{length, getD, drop, set, take}
 use lib.Dec.{eqb}
 use Rattle.rules.specs.declared.Params.{Params}
 use Rattle.rules.specs.declared.Reply.the-variants.{Accepted}
-use Rattle.rules.specs.Parameters.{allowed, frames}
+use Rattle.rules.specs.Parameters.{allowed, chipBytes, frames}
 use Rattle.rules.specs.Tables.{Board, btAt, btEntry, bstAt, ctAt, stampAt, wearAt}
 use Rattle.rules.specs.Pages.{block, erased, frame, held, lastIn, le32, page, programmed, spareBytes}
 use Rattle.rules.specs.Regions.{View, assigned, looksAt, valid, validFrames, view}
 use Rattle.rules.specs.Marks.{marksOf}
 use Rattle.rules.specs.Orderly.{orderly}
-use Rattle.rules.specs.Traces.{Op, program, erase, replayChip, replayWear}
+use Rattle.rules.specs.Traces.{Op, program, erase, mark, erasesIn, onChip, programsIn, replayChip, replayWear}
 use Rattle.rules.specs.Format.{bad}
 use Rattle.rules.specs.Write.{Plan, continues, opens, reclaims, freeBlock, planOf, writeOps}
 use Rattle.rules.specs.Requests.{Request, write, requestRegion}
@@ -65,6 +66,7 @@ unfoldable pub erasesOf : ℕ → List Op → ℕ
 erasesOf n [] = 0
 erasesOf n (program m q x ∷ os) = erasesOf n os
 erasesOf n (erase m ∷ os) = cond (eqb m n) 1 0 + erasesOf n os
+erasesOf n (mark m ∷ os) = erasesOf n os
 
 -- "Wear: a 32-bit erase count per block, which stays at 4,294,967,295 once there"
 abbrev pub WearAfter : Type 0
@@ -158,6 +160,19 @@ BadListed p chip n =
 
 abbrev pub BadExactly : Type 0
 BadExactly = (p : Params) (chip : List ℕ) (n : ℕ) → allowed p ≡ true → (bad p chip n ≡ true) ↔ BadListed p chip n
+
+-- ---- T-12: marks
+
+-- "its first page gets a zero in spare byte 5", by where this byte stands on the chip: of a page that is erased no other byte changes
+abbrev pub MarkExactly : Type 0
+MarkExactly =
+    (p : Params) (chip : List ℕ) (n : ℕ) → allowed p ≡ true → length chip ≡ chipBytes p → n < p .N → erased (page p (block p chip n) 0) ≡ true
+    → onChip p chip (mark n) ≡ set chip (n * (p .alpha * (p .beta * p .d)) * (p .s + 16) + p .s + 5) 0
+
+-- "These mark programs count in T-07's budget but are not reported": one operation more, and neither a program nor an erase more
+abbrev pub MarksUnreported : Type 0
+MarksUnreported =
+    (n : ℕ) (os : List Op) → (length (mark n ∷ os) ≡ length os + 1) × (programsIn (mark n ∷ os) ≡ programsIn os) × (erasesIn (mark n ∷ os) ≡ erasesIn os)
 
 -- ---- "Write", "Reclaim" and "Free block"
 

@@ -16,7 +16,7 @@ use Rattle.lists.proofs.Tests.{and-map}
 use Rattle.rules.specs.declared.Params.{Params}
 use Rattle.rules.specs.Parameters.{pageBytes, pages}
 use Rattle.rules.specs.Pages.{page}
-use Rattle.rules.specs.Traces.{Op, clean, erase, frameOps, framesOps, onChip, program}
+use Rattle.rules.specs.Traces.{Op, clean, erase, frameOps, framesOps, mark, onChip, program}
 
 -- ---- the pages of a frame
 
@@ -74,3 +74,4 @@ clean-take p chip zero os h = refl
 clean-take p chip (suc k) [] h = refl
 clean-take p chip (suc k) (program n q x ∷ os) h = and-map (allAre 255 (part (pageBytes p) (n * pages p + q) chip)) (clean-take p (onChip p chip (program n q x)) k os) h
 clean-take p chip (suc k) (erase n ∷ os) h = clean-take p (onChip p chip (erase n)) k os h
+clean-take p chip (suc k) (mark n ∷ os) h = and-map (allAre 255 (part (pageBytes p) (n * pages p + 0) chip)) (clean-take p (onChip p chip (mark n)) k os) h
