@@ -9,7 +9,7 @@ use Rattle.rules.specs.Replies.{numberOf}
 unfoldable pub packed : Answer → ℕ
 packed a = numberOf (a .reply) + 65536 * a .programs + 4294967296 * a .erases
 
--- the eight parameters, in the order in which they are passed
-abbrev pub paramsOf : ℕ → ℕ → ℕ → ℕ → ℕ → ℕ → ℕ → ℕ → Params
-paramsOf s alpha beta d mu gamma c n =
-    record { s = s; alpha = alpha; beta = beta; d = d; mu = mu; gamma = gamma; C = c; N = n }
+-- the nine parameters, in the order in which they are passed
+abbrev pub paramsOf : ℕ → ℕ → ℕ → ℕ → ℕ → ℕ → ℕ → ℕ → ℕ → Params
+paramsOf s alpha beta d mu gamma c n e =
+    record { s = s; alpha = alpha; beta = beta; d = d; mu = mu; gamma = gamma; C = c; N = n; E = e }

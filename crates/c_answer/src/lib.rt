@@ -7,8 +7,18 @@ use rules::Answer;
 use rules::Params;
 
 // The parameters as one.
-pub fn params(s: u32, alpha: u32, beta: u32, d: u32, mu: u32, gamma: u32, c: u32, n: u32) -> Params
-    ensures { λ p. ⌜ p ≡ paramsOf s alpha beta d mu gamma c n ⌝ }
+pub fn params(
+    s: u32,
+    alpha: u32,
+    beta: u32,
+    d: u32,
+    mu: u32,
+    gamma: u32,
+    c: u32,
+    n: u32,
+    e: u32,
+) -> Params
+    ensures { λ p. ⌜ p ≡ paramsOf s alpha beta d mu gamma c n e ⌝ }
 {
     Params {
         s: s as usize,
@@ -19,6 +29,7 @@ pub fn params(s: u32, alpha: u32, beta: u32, d: u32, mu: u32, gamma: u32, c: u32
         gamma: gamma as usize,
         C: c as usize,
         N: n as usize,
+        E: e as usize,
     }
 }
 

@@ -20,7 +20,7 @@ use Rattle.rules.specs.Calls.{Outcome, outcomeOf}
 
 -- "s=16, α=2, β=1, d=2, μ=2, γ=2, C=6, N=5", with C and N open
 unfoldable pub paramsT : ℕ → ℕ → Params
-paramsT c n = record { s = 16; alpha = 2; beta = 1; d = 2; mu = 2; gamma = 2; C = c; N = n }
+paramsT c n = record { s = 16; alpha = 2; beta = 1; d = 2; mu = 2; gamma = 2; C = c; N = n; E = 1000000 }
 
 unfoldable pub boardT : Params
 boardT = paramsT 6 5
@@ -127,7 +127,7 @@ reclaimAfter k q =
 
 -- (j)'s "α=4, μ=512, d=2", the others at will
 unfoldable pub paramsJ : Params
-paramsJ = record { s = 16; alpha = 4; beta = 1; d = 2; mu = 512; gamma = 4; C = 1024; N = 3000 }
+paramsJ = record { s = 16; alpha = 4; beta = 1; d = 2; mu = 512; gamma = 4; C = 1024; N = 3000; E = 1000000 }
 
 -- (a) to (j), as the rules give them
 unfoldable pub markedCases : List (List ℕ)

@@ -29,9 +29,9 @@ pub record Ranged (p : Params) : Type 0 where
   pub placesHigh : p .gamma * (p .beta * p .d) ≤ 4096
 
 -- the tests in their order, as a list
-listed : (a b c d e f g h : Bool) → a && b && c && d && e && f && g && h ≡ allTrue (a ∷ b ∷ c ∷ d ∷ e ∷ f ∷ g ∷ h ∷ [])
+listed : (a b c d e f g h i : Bool) → a && b && c && d && e && f && g && h && i ≡ allTrue (a ∷ b ∷ c ∷ d ∷ e ∷ f ∷ g ∷ h ∷ i ∷ [])
 unfolding allTrue
-listed a b c d e f g h = simp (and-assoc, and-true)
+listed a b c d e f g h i = simp (and-assoc, and-true)
 
 pub ranged : (p : Params) → inRanges p ≡ true → Ranged p
 unfolding inRanges

@@ -17,6 +17,7 @@ inRanges p =
     && within 1 16 (p .gamma)
     && within 1 1048576 (p .C)
     && within 1 65535 (p .N)
+    && within 1 1000000 (p .E)
 
 -- P is at most 256, and C/μ rounded up at most γF − 1
 unfoldable pub tied : Params → Bool

@@ -13,10 +13,10 @@ ghost use Rattle.cnftl.specs.Listed.{Listed};
 
 // The number of this interface, which is in the name too: an object that was compiled with a header of another number does not link.
 #[no_mangle]
-pub extern "C" fn cnftl_api_2() -> u32
-    ensures { λ n. ⌜ n ≡ 2 ⌝ }
+pub extern "C" fn cnftl_api_3() -> u32
+    ensures { λ n. ⌜ n ≡ 3 ⌝ }
 {
-    2
+    3
 }
 
 // Document 01's format.
@@ -30,6 +30,7 @@ pub extern "C" fn cnftl_format(
     gamma: u32,
     c: u32,
     n: u32,
+    e: u32,
     chip: &mut [u8],
     ct: &mut [u16],
     bt: &mut [u16],
@@ -39,9 +40,9 @@ pub extern "C" fn cnftl_format(
     marks: &mut [u64],
     stamps: &mut [u32],
 ) -> u64
-    ensures { λ word. ⌜ Given (outcomeOf (paramsOf s alpha beta d mu gamma c n) (entryBoard chip ct bt fst bst wear marks stamps) format) word [] (exitBoard chip ct bt fst bst wear marks stamps) ⌝ }
+    ensures { λ word. ⌜ Given (outcomeOf (paramsOf s alpha beta d mu gamma c n e) (entryBoard chip ct bt fst bst wear marks stamps) format) word [] (exitBoard chip ct bt fst bst wear marks stamps) ⌝ }
 {
-    let p = c_answer::params(s, alpha, beta, d, mu, gamma, c, n);
+    let p = c_answer::params(s, alpha, beta, d, mu, gamma, c, n, e);
     c_answer::pack(calls::format(p, chip, ct, bt, fst, bst, wear, marks, stamps))
 }
 
@@ -56,6 +57,7 @@ pub extern "C" fn cnftl_format_cut(
     gamma: u32,
     c: u32,
     n: u32,
+    e: u32,
     chip: &mut [u8],
     ct: &mut [u16],
     bt: &mut [u16],
@@ -66,9 +68,9 @@ pub extern "C" fn cnftl_format_cut(
     stamps: &mut [u32],
     budget: u64,
 ) -> u64
-    ensures { λ word. ⌜ Given (stepOutcome (paramsOf s alpha beta d mu gamma c n) (entryBoard chip ct bt fst bst wear marks stamps) (limited budget format)) word [] (exitBoard chip ct bt fst bst wear marks stamps) ⌝ }
+    ensures { λ word. ⌜ Given (stepOutcome (paramsOf s alpha beta d mu gamma c n e) (entryBoard chip ct bt fst bst wear marks stamps) (limited budget format)) word [] (exitBoard chip ct bt fst bst wear marks stamps) ⌝ }
 {
-    let p = c_answer::params(s, alpha, beta, d, mu, gamma, c, n);
+    let p = c_answer::params(s, alpha, beta, d, mu, gamma, c, n, e);
     c_answer::pack(calls::format_cut(p, chip, ct, bt, fst, bst, wear, marks, stamps, budget))
 }
 
@@ -83,6 +85,7 @@ pub extern "C" fn cnftl_start(
     gamma: u32,
     c: u32,
     n: u32,
+    e: u32,
     chip: &mut [u8],
     ct: &mut [u16],
     bt: &mut [u16],
@@ -92,9 +95,9 @@ pub extern "C" fn cnftl_start(
     marks: &mut [u64],
     stamps: &mut [u32],
 ) -> u64
-    ensures { λ word. ⌜ Given (outcomeOf (paramsOf s alpha beta d mu gamma c n) (entryBoard chip ct bt fst bst wear marks stamps) start) word [] (exitBoard chip ct bt fst bst wear marks stamps) ⌝ }
+    ensures { λ word. ⌜ Given (outcomeOf (paramsOf s alpha beta d mu gamma c n e) (entryBoard chip ct bt fst bst wear marks stamps) start) word [] (exitBoard chip ct bt fst bst wear marks stamps) ⌝ }
 {
-    let p = c_answer::params(s, alpha, beta, d, mu, gamma, c, n);
+    let p = c_answer::params(s, alpha, beta, d, mu, gamma, c, n, e);
     c_answer::pack(calls::start(p, chip, ct, bt, fst, bst, wear, marks, stamps))
 }
 
@@ -109,6 +112,7 @@ pub extern "C" fn cnftl_start_cut(
     gamma: u32,
     c: u32,
     n: u32,
+    e: u32,
     chip: &mut [u8],
     ct: &mut [u16],
     bt: &mut [u16],
@@ -119,9 +123,9 @@ pub extern "C" fn cnftl_start_cut(
     stamps: &mut [u32],
     budget: u64,
 ) -> u64
-    ensures { λ word. ⌜ Given (stepOutcome (paramsOf s alpha beta d mu gamma c n) (entryBoard chip ct bt fst bst wear marks stamps) (limited budget start)) word [] (exitBoard chip ct bt fst bst wear marks stamps) ⌝ }
+    ensures { λ word. ⌜ Given (stepOutcome (paramsOf s alpha beta d mu gamma c n e) (entryBoard chip ct bt fst bst wear marks stamps) (limited budget start)) word [] (exitBoard chip ct bt fst bst wear marks stamps) ⌝ }
 {
-    let p = c_answer::params(s, alpha, beta, d, mu, gamma, c, n);
+    let p = c_answer::params(s, alpha, beta, d, mu, gamma, c, n, e);
     c_answer::pack(calls::start_cut(p, chip, ct, bt, fst, bst, wear, marks, stamps, budget))
 }
 
@@ -136,6 +140,7 @@ pub extern "C" fn cnftl_read(
     gamma: u32,
     c: u32,
     n: u32,
+    e: u32,
     chip: &[u8],
     ct: &[u16],
     bt: &[u16],
@@ -148,10 +153,10 @@ pub extern "C" fn cnftl_read(
     count: u32,
     bytes: &mut [u8],
 ) -> u64
-    ensures { λ word. ⌜ Given (outcomeOf (paramsOf s alpha beta d mu gamma c n) (entryBoard chip ct bt fst bst wear marks stamps) (read (requestOf lba count (now (bytes .entry)))))
+    ensures { λ word. ⌜ Given (outcomeOf (paramsOf s alpha beta d mu gamma c n e) (entryBoard chip ct bt fst bst wear marks stamps) (read (requestOf lba count (now (bytes .entry)))))
         word (now (bytes .exit)) (entryBoard chip ct bt fst bst wear marks stamps) ⌝ }
 {
-    let p = c_answer::params(s, alpha, beta, d, mu, gamma, c, n);
+    let p = c_answer::params(s, alpha, beta, d, mu, gamma, c, n, e);
     c_answer::pack(calls::read(
         p,
         chip,
@@ -179,6 +184,7 @@ pub extern "C" fn cnftl_write(
     gamma: u32,
     c: u32,
     n: u32,
+    e: u32,
     chip: &mut [u8],
     ct: &mut [u16],
     bt: &mut [u16],
@@ -191,10 +197,10 @@ pub extern "C" fn cnftl_write(
     count: u32,
     bytes: &[u8],
 ) -> u64
-    ensures { λ word. ⌜ Given (outcomeOf (paramsOf s alpha beta d mu gamma c n) (entryBoard chip ct bt fst bst wear marks stamps) (write (requestOf lba count (now (bytes .entry)))))
+    ensures { λ word. ⌜ Given (outcomeOf (paramsOf s alpha beta d mu gamma c n e) (entryBoard chip ct bt fst bst wear marks stamps) (write (requestOf lba count (now (bytes .entry)))))
         word (now (bytes .entry)) (exitBoard chip ct bt fst bst wear marks stamps) ⌝ }
 {
-    let p = c_answer::params(s, alpha, beta, d, mu, gamma, c, n);
+    let p = c_answer::params(s, alpha, beta, d, mu, gamma, c, n, e);
     c_answer::pack(calls::write(
         p,
         chip,
@@ -222,6 +228,7 @@ pub extern "C" fn cnftl_write_cut(
     gamma: u32,
     c: u32,
     n: u32,
+    e: u32,
     chip: &mut [u8],
     ct: &mut [u16],
     bt: &mut [u16],
@@ -235,10 +242,10 @@ pub extern "C" fn cnftl_write_cut(
     bytes: &[u8],
     budget: u64,
 ) -> u64
-    ensures { λ word. ⌜ Given (stepOutcome (paramsOf s alpha beta d mu gamma c n) (entryBoard chip ct bt fst bst wear marks stamps) (limited budget (write (requestOf lba count (now (bytes .entry))))))
+    ensures { λ word. ⌜ Given (stepOutcome (paramsOf s alpha beta d mu gamma c n e) (entryBoard chip ct bt fst bst wear marks stamps) (limited budget (write (requestOf lba count (now (bytes .entry))))))
         word (now (bytes .entry)) (exitBoard chip ct bt fst bst wear marks stamps) ⌝ }
 {
-    let p = c_answer::params(s, alpha, beta, d, mu, gamma, c, n);
+    let p = c_answer::params(s, alpha, beta, d, mu, gamma, c, n, e);
     c_answer::pack(calls::write_cut(
         p,
         chip,
@@ -267,6 +274,7 @@ pub extern "C" fn cnftl_queue(
     gamma: u32,
     c: u32,
     n: u32,
+    e: u32,
     chip: &mut [u8],
     ct: &mut [u16],
     bt: &mut [u16],
@@ -279,10 +287,10 @@ pub extern "C" fn cnftl_queue(
     bytes: &[u8],
     answers: &mut [u64],
 ) -> u64
-    ensures { λ word. ⌜ flatOutcome word (now (answers .exit)) (exitBoard chip ct bt fst bst wear marks stamps) ≡ flatCall (paramsOf s alpha beta d mu gamma c n)
+    ensures { λ word. ⌜ flatOutcome word (now (answers .exit)) (exitBoard chip ct bt fst bst wear marks stamps) ≡ flatCall (paramsOf s alpha beta d mu gamma c n e)
         (entryBoard chip ct bt fst bst wear marks stamps) (now (requests .entry)) (now (bytes .entry)) (now (answers .entry)) ⌝ }
 {
-    let p = c_answer::params(s, alpha, beta, d, mu, gamma, c, n);
+    let p = c_answer::params(s, alpha, beta, d, mu, gamma, c, n, e);
     c_queue::queue(
         p,
         chip,
@@ -310,6 +318,7 @@ pub extern "C" fn cnftl_queue_cut(
     gamma: u32,
     c: u32,
     n: u32,
+    e: u32,
     chip: &mut [u8],
     ct: &mut [u16],
     bt: &mut [u16],
@@ -323,10 +332,10 @@ pub extern "C" fn cnftl_queue_cut(
     answers: &mut [u64],
     budget: u64,
 ) -> u64
-    ensures { λ word. ⌜ flatOutcome word (now (answers .exit)) (exitBoard chip ct bt fst bst wear marks stamps) ≡ flatCut (paramsOf s alpha beta d mu gamma c n)
+    ensures { λ word. ⌜ flatOutcome word (now (answers .exit)) (exitBoard chip ct bt fst bst wear marks stamps) ≡ flatCut (paramsOf s alpha beta d mu gamma c n e)
         (entryBoard chip ct bt fst bst wear marks stamps) budget (now (requests .entry)) (now (bytes .entry)) (now (answers .entry)) ⌝ }
 {
-    let p = c_answer::params(s, alpha, beta, d, mu, gamma, c, n);
+    let p = c_answer::params(s, alpha, beta, d, mu, gamma, c, n, e);
     c_queue_cut::queue_cut(
         p,
         chip,
@@ -355,6 +364,7 @@ pub extern "C" fn cnftl_release(
     gamma: u32,
     c: u32,
     n: u32,
+    e: u32,
     chip: &[u8],
     ct: &mut [u16],
     bt: &[u16],
@@ -365,9 +375,9 @@ pub extern "C" fn cnftl_release(
     stamps: &mut [u32],
     cluster: u32,
 ) -> u64
-    ensures { λ word. ⌜ Given (outcomeOf (paramsOf s alpha beta d mu gamma c n) (entryBoard chip ct bt fst bst wear marks stamps) (release cluster)) word [] (exitBoard chip ct bt fst bst wear marks stamps) ⌝ }
+    ensures { λ word. ⌜ Given (outcomeOf (paramsOf s alpha beta d mu gamma c n e) (entryBoard chip ct bt fst bst wear marks stamps) (release cluster)) word [] (exitBoard chip ct bt fst bst wear marks stamps) ⌝ }
 {
-    let p = c_answer::params(s, alpha, beta, d, mu, gamma, c, n);
+    let p = c_answer::params(s, alpha, beta, d, mu, gamma, c, n, e);
     c_answer::pack(calls::release(p, chip, ct, bt, fst, bst, wear, marks, stamps, cluster))
 }
 
@@ -382,6 +392,7 @@ pub extern "C" fn cnftl_why(
     gamma: u32,
     c: u32,
     n: u32,
+    e: u32,
     chip: &[u8],
     ct: &[u16],
     bt: &[u16],
@@ -393,9 +404,9 @@ pub extern "C" fn cnftl_why(
     lba: u32,
     list: &mut [u32],
 ) -> u64
-    ensures { λ word. ⌜ Listed (paramsOf s alpha beta d mu gamma c n) (entryBoard chip ct bt fst bst wear marks stamps) lba (now (list .entry)) word (now (list .exit)) ⌝ }
+    ensures { λ word. ⌜ Listed (paramsOf s alpha beta d mu gamma c n e) (entryBoard chip ct bt fst bst wear marks stamps) lba (now (list .entry)) word (now (list .exit)) ⌝ }
 {
-    let p = c_answer::params(s, alpha, beta, d, mu, gamma, c, n);
+    let p = c_answer::params(s, alpha, beta, d, mu, gamma, c, n, e);
     if list.len() != c_why::WHY_NUMBERS {
         if chip_sizes::parameters_allowed(p) {
             return 2;

@@ -18,6 +18,7 @@ pub fn board() -> Params
         gamma: 2,
         C: 6,
         N: 5,
+        E: 1000000,
     }
 }
 

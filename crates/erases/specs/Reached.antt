@@ -26,7 +26,7 @@ pub record FiguresT : Type 0 where
 
 -- one sector to a cluster, three frames to a block and two blocks to a region, so γF is 6; clusters 0 and 2 are region 0's, cluster 1 is region 1's
 unfoldable pub small : Params
-small = record { s = 16; alpha = 1; beta = 1; d = 3; mu = 2; gamma = 2; C = 3; N = 5 }
+small = record { s = 16; alpha = 1; beta = 1; d = 3; mu = 2; gamma = 2; C = 3; N = 5; E = 1000000 }
 
 -- "chip all 255, wear all 0"
 unfoldable pub blankSmall : Board

@@ -139,6 +139,7 @@ pub extern "C" fn cnftl_queue_two(
     gamma: u32,
     c: u32,
     n: u32,
+    e: u32,
     chip: &mut [u8],
     ct: &mut [u16],
     bt: &mut [u16],
@@ -156,11 +157,11 @@ pub extern "C" fn cnftl_queue_two(
     bytes: &[u8],
     answers: &mut [u64],
 ) -> u64
-    ensures { λ word. ⌜ Two (outcomeOf (paramsOf s alpha beta d mu gamma c n) (entryBoard chip ct bt fst bst wear marks stamps)
+    ensures { λ word. ⌜ Two (outcomeOf (paramsOf s alpha beta d mu gamma c n e) (entryBoard chip ct bt fst bst wear marks stamps)
         (queue (queueOf (itemOf lba count first ∷ itemOf lba2 count2 first2 ∷ []) (now (bytes .entry)) (unset ∷ unset ∷ [])))) (now (bytes .entry)) (now (answers .entry)) word
         (now (answers .exit)) (exitBoard chip ct bt fst bst wear marks stamps) ⌝ }
 {
-    let p = c_answer::params(s, alpha, beta, d, mu, gamma, c, n);
+    let p = c_answer::params(s, alpha, beta, d, mu, gamma, c, n, e);
     let r = queue_two(
         p,
         chip,

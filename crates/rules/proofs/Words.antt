@@ -66,8 +66,9 @@ allowed-in p h =
       virtual = within-true 1 16 (p .gamma) (t .1 .1 .1 .1 .1 .0);
       held = within-true 1 1048576 (p .C) (t .1 .1 .1 .1 .1 .1 .0);
       physical = within-true 1 65535 (p .N) (t .1 .1 .1 .1 .1 .1 .1 .0);
-      pages = leb-true _ _ (t .1 .1 .1 .1 .1 .1 .1 .1 .0);
-      spread = share-in (p .C) (p .mu) _ (m .0) (leb-true _ _ (t .1 .1 .1 .1 .1 .1 .1 .1 .1 .0));
+      erases = within-true 1 1000000 (p .E) (t .1 .1 .1 .1 .1 .1 .1 .1 .0);
+      pages = leb-true _ _ (t .1 .1 .1 .1 .1 .1 .1 .1 .1 .0);
+      spread = share-in (p .C) (p .mu) _ (m .0) (leb-true _ _ (t .1 .1 .1 .1 .1 .1 .1 .1 .1 .1 .0));
     }
 
 allowed-out : (p : Params) → Allowed p → allowed p ≡ true
@@ -89,7 +90,10 @@ allowed-out p a =
                   within-out 1 1048576 (p .C) (a .held),
                   (
                     within-out 1 65535 (p .N) (a .physical),
-                    (le-leb _ _ (a .pages), (le-leb _ _ (share-out (p .C) (p .mu) _ (a .regions .0) (a .spread)), tt)),
+                    (
+                      within-out 1 1000000 (p .E) (a .erases),
+                      (le-leb _ _ (a .pages), (le-leb _ _ (share-out (p .C) (p .mu) _ (a .regions .0) (a .spread)), tt)),
+                    ),
                   ),
                 ),
               ),

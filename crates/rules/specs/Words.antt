@@ -26,7 +26,7 @@ use Rattle.rules.specs.Replies.{OrderlyBoard, lengthsFit, replyOf}
 
 -- ---- "Parameters"
 
--- the column "allowed"; "P = αF pages, with P at most 256"; "C/μ rounded up is at most γF − 1": μ regions of so many clusters are enough
+-- the column "allowed"; T-12: "Add a ninth parameter E, 1 to 1,000,000"; "P = αF pages, with P at most 256"; "C/μ rounded up is at most γF − 1": μ regions of so many clusters are enough
 pub record Allowed (p : Params) : Type 0 where
   pub sectors : (16 ≤ p .s) × (p .s ≤ 512)
   pub clusters : (1 ≤ p .alpha) × (p .alpha ≤ 16)
@@ -36,6 +36,7 @@ pub record Allowed (p : Params) : Type 0 where
   pub virtual : (1 ≤ p .gamma) × (p .gamma ≤ 16)
   pub held : (1 ≤ p .C) × (p .C ≤ 1048576)
   pub physical : (1 ≤ p .N) × (p .N ≤ 65535)
+  pub erases : (1 ≤ p .E) × (p .E ≤ 1000000)
   pub pages : p .alpha * (p .beta * p .d) ≤ 256
   pub spread : p .C ≤ p .mu * (p .gamma * (p .beta * p .d) - 1)
 

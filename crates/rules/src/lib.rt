@@ -6,8 +6,8 @@ ghost use Rattle.rules.specs.Parameters.{allowed};
 ghost use Rattle.rules.specs.Numbers.{clusterOf, sectorOf, regionOf, vblockOf, placeOf, segmentOf};
 ghost use Rattle.rules.specs.Replies.{numberOf};
 
-// The eight parameters of a board: s bytes of a sector, α sectors in a cluster, β frames in a segment, d segments in a block,
-// μ regions, γ virtual blocks in a region, C clusters, N physical blocks.
+// The nine parameters of a board: s bytes of a sector, α sectors in a cluster, β frames in a segment, d segments in a block,
+// μ regions, γ virtual blocks in a region, C clusters, N physical blocks, E rated erases of a block.
 pub struct Params {
     pub s: usize,
     pub alpha: usize,
@@ -17,6 +17,7 @@ pub struct Params {
     pub gamma: usize,
     pub C: usize,
     pub N: usize,
+    pub E: usize,
 }
 
 // 65,535 means none in CT, BT and FST.

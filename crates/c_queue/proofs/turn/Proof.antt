@@ -20,13 +20,19 @@ shared-slice-read-item : tie.Need-shared-slice-read-item
 shared-slice-read-item c = search needs
 
 mul-item-3 : tie.Need-mul-item-3
-mul-item-3 c = search needs
+mul-item-3 c =
+    let start = c .before .before .before .before .before .before .before .before .before .before .before .before .before .before .before .before .before .before .before .before in
+    omega (arith, start .pre .1 .asked)
 
 add-item : tie.Need-add-item
-add-item c = search needs
+add-item c =
+    let start = c .before .before .before .before .before .before .before .before .before .before .before .before .before .before .before .before .before .before .before .before in
+    omega (arith, start .pre .1 .asked)
 
 mul-item-4 : tie.Need-mul-item-4
-mul-item-4 c = search needs
+mul-item-4 c =
+    let start = c .before .before .before .before .before .before .before .before .before .before .before .before .before .before .before .before .before .before .before .before in
+    omega (arith, start .pre .1 .asked)
 
 shared-slice-read-item-2 : tie.Need-shared-slice-read-item-2
 shared-slice-read-item-2 c = search needs

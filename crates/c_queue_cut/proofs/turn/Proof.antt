@@ -16,10 +16,14 @@ returns c =
     turn-none _ _ (board start) _ _ _ _ _ (c .if1 .taken)
 
 mul-item-limited : tie.Need-mul-item-limited
-mul-item-limited c = search needs
+mul-item-limited c =
+    let start = c .before .before .before .before .before .before .before .before .before .before .before .before .before .before .before .before .before .before .before .before in
+    omega (arith, start .pre .1 .asked)
 
 mul-item-limited-2 : tie.Need-mul-item-limited-2
-mul-item-limited-2 c = search needs
+mul-item-limited-2 c =
+    let start = c .before .before .before .before .before .before .before .before .before .before .before .before .before .before .before .before .before .before .before .before in
+    omega (arith, start .pre .1 .asked)
 
 shared-slice-read-item-limited : tie.Need-shared-slice-read-item-limited
 shared-slice-read-item-limited c = search needs

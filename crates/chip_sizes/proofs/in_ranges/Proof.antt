@@ -1,4 +1,4 @@
--- `chip_sizes::in_ranges`: the eight tests, in their order.
+-- `chip_sizes::in_ranges`: the nine tests, in their order.
 -- Assumes nothing.
 use borrow.Author.Needs.{needs}
 use Rattle.chip_sizes.specs.Checks.{inRanges}
@@ -29,6 +29,9 @@ within-requires-7 c κs = search needs
 within-requires-8 : tie.Need-within-requires-8
 within-requires-8 c κs = search needs
 
+within-requires-9 : tie.Need-within-requires-9
+within-requires-9 c κs = search needs
+
 returns : tie.Need-returns
 unfolding inRanges
 returns c = cc
@@ -45,4 +48,5 @@ in-ranges-spec =
     within-requires-6
     within-requires-7
     within-requires-8
+    within-requires-9
     returns)
