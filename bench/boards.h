@@ -7,6 +7,9 @@
 
 #include "cnftl.h"
 
+/* The rated erases of a block of each board. */
+enum { RATED = 1000000 };
+
 /* Seconds on a clock that only goes forward. */
 double now(void);
 

@@ -108,8 +108,8 @@ static void state_check(const char *name, struct cnftl_params p, uint32_t full,
 int main(void)
 {
     static const struct cnftl_params
-        small = { 512, 4, 4, 2, 3, 16, 3 * 127, 62 },
-        large = { 512, 4, 4, 2, 248, 16, 248 * 127, 3971 };
+        small = { 512, 4, 4, 2, 3, 16, 3 * 127, 62, RATED },
+        large = { 512, 4, 4, 2, 248, 16, 248 * 127, 3971, RATED };
 
     state_check("1 MiB, erased", small, 0, 200);
     state_check("1 MiB, full", small, small.mu, 200);

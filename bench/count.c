@@ -34,8 +34,9 @@ static uint64_t call(const struct cnftl_board *b, bool product, char sort,
 
 int main(int argc, char **argv)
 {
-    static const struct cnftl_params t = { 16, 2, 1, 2, 2, 2, 6, 5 },
-                                     one = { 512, 4, 4, 2, 3, 16, 336, 62 };
+    static const struct cnftl_params
+        t = { 16, 2, 1, 2, 2, 2, 6, 5, RATED },
+        one = { 512, 4, 4, 2, 3, 16, 336, 62, RATED };
     const struct cnftl_params *p;
     struct cnftl_board b;
     char sort;

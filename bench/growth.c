@@ -53,7 +53,7 @@ static double best_of(bool (*call)(const struct cnftl_board *),
    clusters for seven eighths of their frames. */
 static struct cnftl_params board_of(size_t bytes)
 {
-    struct cnftl_params p = { 512, 4, 4, 2, 1, 16, 1, 1 };
+    struct cnftl_params p = { 512, 4, 4, 2, 1, 16, 1, 1, RATED };
 
     if (bytes > (size_t)128 << 20)
         p.d = 8;

@@ -45,7 +45,7 @@ enum {
 
 /* Parameters, sizes worked out from them, and the state as it is read. */
 struct board {
-    uint32_t s, alpha, beta, d, mu, gamma, c, n;
+    uint32_t s, alpha, beta, d, mu, gamma, c, n, e;
     uint32_t frames;
     size_t page, frame, block; /* bytes of each */
     const uint8_t *chip;
@@ -357,7 +357,7 @@ static bool parameters_allowed(const struct board *b)
 {
     return b->s - 16 <= 496 && b->alpha - 1 <= 15 && b->beta - 1 <= 15
         && b->d - 1 <= 15 && b->mu - 1 <= 1023 && b->gamma - 1 <= 15
-        && b->c - 1 <= 1048575 && b->n - 1 <= 65534
+        && b->c - 1 <= 1048575 && b->n - 1 <= 65534 && b->e - 1 <= 999999
         && b->alpha * b->frames <= 256
         && (b->c + b->mu - 1) / b->mu <= b->gamma * b->frames - 1;
 }
@@ -411,10 +411,10 @@ static uint32_t refuse_stampless(const struct board *b, uint32_t lba)
 /* The parameters with the sizes that follow from them. */
 static struct board make_board(uint32_t s, uint32_t alpha, uint32_t beta,
                                uint32_t d, uint32_t mu, uint32_t gamma,
-                               uint32_t c, uint32_t n)
+                               uint32_t c, uint32_t n, uint32_t e)
 {
     struct board b = { .s = s, .alpha = alpha, .beta = beta, .d = d, .mu = mu,
-                       .gamma = gamma, .c = c, .n = n };
+                       .gamma = gamma, .c = c, .n = n, .e = e };
 
     b.frames = beta * d;
     b.page = (size_t)s + SPARE;
@@ -658,6 +658,7 @@ static bool block_good(const struct board *b, uint32_t block)
 /* Erases the good blocks, reserves the bad ones and clears the tables. */
 uint64_t fast_format(uint32_t s, uint32_t alpha, uint32_t beta, uint32_t d,
                      uint32_t mu, uint32_t gamma, uint32_t c, uint32_t n,
+                     uint32_t e,
                      uint8_t *chip, size_t chip_len,
                      uint16_t *ct, size_t ct_len,
                      uint16_t *bt, size_t bt_len,
@@ -667,7 +668,7 @@ uint64_t fast_format(uint32_t s, uint32_t alpha, uint32_t beta, uint32_t d,
                      uint64_t *marks, size_t marks_len,
                      uint32_t *stamps, size_t stamps_len)
 {
-    struct board b = make_board(s, alpha, beta, d, mu, gamma, c, n);
+    struct board b = make_board(s, alpha, beta, d, mu, gamma, c, n, e);
     struct lent l = { chip, ct, bt, fst, bst, wear, marks, stamps };
     uint32_t reply = refuse_board(&b, chip_len, ct_len, bt_len, fst_len,
                                   bst_len, wear_len, marks_len, stamps_len);
@@ -696,6 +697,7 @@ uint64_t fast_format(uint32_t s, uint32_t alpha, uint32_t beta, uint32_t d,
 /* Copies the sectors of the valid frame, or fills with 255. */
 uint64_t fast_read(uint32_t s, uint32_t alpha, uint32_t beta, uint32_t d,
                    uint32_t mu, uint32_t gamma, uint32_t c, uint32_t n,
+                   uint32_t e,
                    const uint8_t *chip, size_t chip_len,
                    const uint16_t *ct, size_t ct_len,
                    const uint16_t *bt, size_t bt_len,
@@ -707,7 +709,7 @@ uint64_t fast_read(uint32_t s, uint32_t alpha, uint32_t beta, uint32_t d,
                    uint32_t lba, uint32_t count,
                    uint8_t *data, size_t data_len)
 {
-    struct board b = make_board(s, alpha, beta, d, mu, gamma, c, n);
+    struct board b = make_board(s, alpha, beta, d, mu, gamma, c, n, e);
     uint32_t reply = refuse_board(&b, chip_len, ct_len, bt_len, fst_len,
                                   bst_len, wear_len, marks_len, stamps_len);
     size_t frame;
@@ -729,6 +731,7 @@ uint64_t fast_read(uint32_t s, uint32_t alpha, uint32_t beta, uint32_t d,
 /* Refuses or makes the steps of a write. */
 uint64_t fast_write(uint32_t s, uint32_t alpha, uint32_t beta, uint32_t d,
                     uint32_t mu, uint32_t gamma, uint32_t c, uint32_t n,
+                    uint32_t e,
                     uint8_t *chip, size_t chip_len,
                     uint16_t *ct, size_t ct_len,
                     uint16_t *bt, size_t bt_len,
@@ -740,7 +743,7 @@ uint64_t fast_write(uint32_t s, uint32_t alpha, uint32_t beta, uint32_t d,
                     uint32_t lba, uint32_t count,
                     const uint8_t *data, size_t data_len)
 {
-    struct board b = make_board(s, alpha, beta, d, mu, gamma, c, n);
+    struct board b = make_board(s, alpha, beta, d, mu, gamma, c, n, e);
     struct lent l = { chip, ct, bt, fst, bst, wear, marks, stamps };
     uint32_t reply = refuse_board(&b, chip_len, ct_len, bt_len, fst_len,
                                   bst_len, wear_len, marks_len, stamps_len);
@@ -774,6 +777,7 @@ static uint64_t write_item(const struct board *b, const struct lent *l,
 /* Checks the state once, and makes the steps of each write. */
 uint64_t fast_queue(uint32_t s, uint32_t alpha, uint32_t beta, uint32_t d,
                     uint32_t mu, uint32_t gamma, uint32_t c, uint32_t n,
+                    uint32_t e,
                     uint8_t *chip, size_t chip_len,
                     uint16_t *ct, size_t ct_len,
                     uint16_t *bt, size_t bt_len,
@@ -786,7 +790,7 @@ uint64_t fast_queue(uint32_t s, uint32_t alpha, uint32_t beta, uint32_t d,
                     const uint8_t *data, size_t data_len,
                     uint64_t *answers, size_t answers_len)
 {
-    struct board b = make_board(s, alpha, beta, d, mu, gamma, c, n);
+    struct board b = make_board(s, alpha, beta, d, mu, gamma, c, n, e);
     struct lent l = { chip, ct, bt, fst, bst, wear, marks, stamps };
     uint32_t reply = refuse_board(&b, chip_len, ct_len, bt_len, fst_len,
                                   bst_len, wear_len, marks_len, stamps_len);
@@ -1097,6 +1101,7 @@ static uint64_t start_steps(const struct board *b, const struct lent *l)
 /* Refuses or makes the steps of a start. */
 uint64_t fast_start(uint32_t s, uint32_t alpha, uint32_t beta, uint32_t d,
                     uint32_t mu, uint32_t gamma, uint32_t c, uint32_t n,
+                    uint32_t e,
                     uint8_t *chip, size_t chip_len,
                     uint16_t *ct, size_t ct_len,
                     uint16_t *bt, size_t bt_len,
@@ -1106,7 +1111,7 @@ uint64_t fast_start(uint32_t s, uint32_t alpha, uint32_t beta, uint32_t d,
                     uint64_t *marks, size_t marks_len,
                     uint32_t *stamps, size_t stamps_len)
 {
-    struct board b = make_board(s, alpha, beta, d, mu, gamma, c, n);
+    struct board b = make_board(s, alpha, beta, d, mu, gamma, c, n, e);
     struct lent l = { chip, ct, bt, fst, bst, wear, marks, stamps };
     uint32_t reply = refuse_board(&b, chip_len, ct_len, bt_len, fst_len,
                                   bst_len, wear_len, marks_len, stamps_len);

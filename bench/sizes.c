@@ -33,7 +33,8 @@ static uint32_t below(uint32_t n)
 static struct cnftl_board new_board(uint32_t c)
 {
     const struct cnftl_params p = { .s = SECTOR, .alpha = 4, .beta = 4, .d = 4,
-                                    .mu = 4, .gamma = 4, .c = c, .n = 20 };
+                                    .mu = 4, .gamma = 4, .c = c, .n = 20,
+                                    .e = 1000000 };
     struct cnftl_board b;
     struct image_result made = image_new_board(&b, &p);
 

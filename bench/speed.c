@@ -400,7 +400,7 @@ static void print_work(const char *board)
    allowed: each write reclaims a block of F - 1 valid frames. */
 static void time_largest(const char *name, double look)
 {
-    struct cnftl_params p = { 16, 1, 16, 16, 1, 16, 16 * 256 - 1, 17 };
+    struct cnftl_params p = { 16, 1, 16, 16, 1, 16, 16 * 256 - 1, 17, RATED };
     double end;
 
     product = new_board(&p);
@@ -422,7 +422,7 @@ static void time_largest(const char *name, double look)
    seven eighths of their frames for clusters. */
 static struct cnftl_params board_of(size_t bytes)
 {
-    struct cnftl_params p = { 512, 4, 4, 2, 1, 16, 1, 1 };
+    struct cnftl_params p = { 512, 4, 4, 2, 1, 16, 1, 1, RATED };
 
     p.n = (uint32_t)(bytes / cnftl_chip_bytes(&p));
     p.mu = (p.n - 1) / p.gamma;
@@ -433,7 +433,7 @@ static struct cnftl_params board_of(size_t bytes)
 /* The table, board by board. */
 int main(void)
 {
-    struct cnftl_params t = { 16, 2, 1, 2, 2, 2, 6, 5 };
+    struct cnftl_params t = { 16, 2, 1, 2, 2, 2, 6, 5, RATED };
     struct cnftl_params one = board_of((size_t)1 << 20);
     struct cnftl_params large = board_of((size_t)64 << 20);
     double look = clock_cost();

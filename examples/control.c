@@ -35,7 +35,7 @@ enum { LEDGERS = 2, NEW_SERIALS = 3, RECORD_BYTES = 15 };
 /* The board that is made where there is none. */
 static const struct cnftl_params bench = {
     .s = 32, .alpha = 2, .beta = 2, .d = 2,
-    .mu = LEDGERS, .gamma = 3, .c = 20, .n = 10
+    .mu = LEDGERS, .gamma = 3, .c = 20, .n = 10, .e = 1000000
 };
 
 /* What the calls of this run came to. */

@@ -9,7 +9,7 @@
 #include <stdlib.h>
 #include <string.h>
 
-enum { VERSION = 4, HEADER_BYTES = 44 };
+enum { VERSION = 5, PARAMS = 9, HEADER_BYTES = 12 + 4 * PARAMS };
 
 /* The result where nothing is wrong. */
 static const struct image_result fine = { IMAGE_FINE, "" };
@@ -53,7 +53,7 @@ static void put_number(uint8_t *to, int bytes, uint64_t value)
 }
 
 /* The parameters in the order of the image. */
-static void list_params(struct cnftl_params *p, uint32_t *list[8])
+static void list_params(struct cnftl_params *p, uint32_t *list[PARAMS])
 {
     list[0] = &p->s;
     list[1] = &p->alpha;
@@ -63,6 +63,7 @@ static void list_params(struct cnftl_params *p, uint32_t *list[8])
     list[5] = &p->gamma;
     list[6] = &p->c;
     list[7] = &p->n;
+    list[8] = &p->e;
 }
 
 /* Bytes of the whole image. */
@@ -193,12 +194,12 @@ static void lose_tables(struct cnftl_board *b)
 static struct image_result check_version(uint32_t version)
 {
     if (version < VERSION)
-        return wrong(IMAGE_NO_BOARD, "board image of version %lu, which is "
-                     "older than %d: such a board is formatted anew",
+        return wrong(IMAGE_NO_BOARD, "board image of version %lu, and only "
+                     "version %d is read: such a board is formatted anew",
                      (unsigned long)version, VERSION);
     if (version != VERSION)
-        return wrong(IMAGE_NO_BOARD, "board image of version %lu, not %d",
-                     (unsigned long)version, VERSION);
+        return wrong(IMAGE_NO_BOARD, "board image of version %lu, and only "
+                     "version %d is read", (unsigned long)version, VERSION);
     return fine;
 }
 
@@ -207,7 +208,7 @@ static struct image_result take_header(FILE *f, struct cnftl_params *p)
 {
     uint8_t header[HEADER_BYTES];
     struct image_result r;
-    uint32_t *list[8];
+    uint32_t *list[PARAMS];
     size_t got = fread(header, 1, sizeof header, f);
 
     if (ferror(f))
@@ -221,7 +222,7 @@ static struct image_result take_header(FILE *f, struct cnftl_params *p)
     if (r.fault != IMAGE_FINE)
         return r;
     list_params(p, list);
-    for (int i = 0; i < 8; i++)
+    for (int i = 0; i < PARAMS; i++)
         *list[i] = get_number(header + 12 + 4 * i, 4);
     if (!cnftl_params_allowed(p))
         return wrong(IMAGE_NO_BOARD, "its parameters are not allowed");
@@ -331,12 +332,12 @@ static void put_longs(FILE *f, const uint64_t *from, size_t entries)
 static void put_header(FILE *f, struct cnftl_params p)
 {
     uint8_t header[HEADER_BYTES];
-    uint32_t *list[8];
+    uint32_t *list[PARAMS];
 
     memcpy(header, "CNFTLIMG", 8);
     put_number(header + 8, 4, VERSION);
     list_params(&p, list);
-    for (int i = 0; i < 8; i++)
+    for (int i = 0; i < PARAMS; i++)
         put_number(header + 12 + 4 * i, 4, *list[i]);
     fwrite(header, 1, sizeof header, f);
 }

@@ -73,7 +73,7 @@
  *   static uint32_t stamps[2];
  *   static const struct cnftl_board board = {
  *       .params = { .s = 16, .alpha = 2, .beta = 1, .d = 2,
- *                   .mu = 2, .gamma = 2, .c = 6, .n = 5 },
+ *                   .mu = 2, .gamma = 2, .c = 6, .n = 5, .e = 1000000 },
  *       .chip = chip, .ct = ct, .bt = bt, .fst = fst,
  *       .bst = bst, .wear = wear, .marks = marks, .stamps = stamps
  *   };
@@ -107,11 +107,11 @@ extern "C" {
  * and sizes of this header are wanted, without the archive, define
  * CNFTL_UNLINKED before it is included.
  */
-#define CNFTL_API 2
-uint32_t cnftl_api_2(void);
+#define CNFTL_API 3
+uint32_t cnftl_api_3(void);
 #if defined(__GNUC__) && !defined(CNFTL_UNLINKED)
 __attribute__((used)) static uint32_t (*const cnftl_needs_api)(void)
-    = cnftl_api_2;
+    = cnftl_api_3;
 #endif
 
 /*
@@ -131,7 +131,7 @@ __attribute__((used)) static uint32_t (*const cnftl_needs_api)(void)
 #define CNFTL_MARK_WORDS 4u
 
 /*
- * The eight parameters of a board.  With F = beta*d frames in a block and
+ * The nine parameters of a board.  With F = beta*d frames in a block and
  * P = alpha*F pages in a block, P is at most 256 and c/mu rounded up is at
  * most gamma*F - 1.  The alpha pages of a frame hold one cluster in order.
  */
@@ -144,6 +144,7 @@ struct cnftl_params {
     uint32_t gamma; /* virtual blocks in a region,     1 to 16        */
     uint32_t c;     /* clusters,                       1 to 1,048,576 */
     uint32_t n;     /* physical blocks,                1 to 65,535    */
+    uint32_t e;     /* rated erases of a block,        1 to 1,000,000 */
 };
 
 /*
@@ -248,6 +249,7 @@ enum cnftl_why_write {
  */
 uint64_t cnftl_format(uint32_t s, uint32_t alpha, uint32_t beta, uint32_t d,
                       uint32_t mu, uint32_t gamma, uint32_t c, uint32_t n,
+                      uint32_t e,
                       uint8_t *chip, size_t chip_len,
                       uint16_t *ct, size_t ct_len,
                       uint16_t *bt, size_t bt_len,
@@ -279,6 +281,7 @@ uint64_t cnftl_format(uint32_t s, uint32_t alpha, uint32_t beta, uint32_t d,
  */
 uint64_t cnftl_start(uint32_t s, uint32_t alpha, uint32_t beta, uint32_t d,
                      uint32_t mu, uint32_t gamma, uint32_t c, uint32_t n,
+                     uint32_t e,
                      uint8_t *chip, size_t chip_len,
                      uint16_t *ct, size_t ct_len,
                      uint16_t *bt, size_t bt_len,
@@ -298,6 +301,7 @@ uint64_t cnftl_start(uint32_t s, uint32_t alpha, uint32_t beta, uint32_t d,
  */
 uint64_t cnftl_read(uint32_t s, uint32_t alpha, uint32_t beta, uint32_t d,
                     uint32_t mu, uint32_t gamma, uint32_t c, uint32_t n,
+                    uint32_t e,
                     const uint8_t *chip, size_t chip_len,
                     const uint16_t *ct, size_t ct_len,
                     const uint16_t *bt, size_t bt_len,
@@ -318,6 +322,7 @@ uint64_t cnftl_read(uint32_t s, uint32_t alpha, uint32_t beta, uint32_t d,
  */
 uint64_t cnftl_write(uint32_t s, uint32_t alpha, uint32_t beta, uint32_t d,
                      uint32_t mu, uint32_t gamma, uint32_t c, uint32_t n,
+                     uint32_t e,
                      uint8_t *chip, size_t chip_len,
                      uint16_t *ct, size_t ct_len,
                      uint16_t *bt, size_t bt_len,
@@ -356,6 +361,7 @@ struct cnftl_request {
  */
 uint64_t cnftl_queue(uint32_t s, uint32_t alpha, uint32_t beta, uint32_t d,
                      uint32_t mu, uint32_t gamma, uint32_t c, uint32_t n,
+                     uint32_t e,
                      uint8_t *chip, size_t chip_len,
                      uint16_t *ct, size_t ct_len,
                      uint16_t *bt, size_t bt_len,
@@ -377,6 +383,7 @@ uint64_t cnftl_queue(uint32_t s, uint32_t alpha, uint32_t beta, uint32_t d,
  */
 uint64_t cnftl_release(uint32_t s, uint32_t alpha, uint32_t beta, uint32_t d,
                        uint32_t mu, uint32_t gamma, uint32_t c, uint32_t n,
+                       uint32_t e,
                        const uint8_t *chip, size_t chip_len,
                        uint16_t *ct, size_t ct_len,
                        const uint16_t *bt, size_t bt_len,
@@ -410,6 +417,7 @@ uint64_t cnftl_release(uint32_t s, uint32_t alpha, uint32_t beta, uint32_t d,
  */
 uint64_t cnftl_why(uint32_t s, uint32_t alpha, uint32_t beta, uint32_t d,
                    uint32_t mu, uint32_t gamma, uint32_t c, uint32_t n,
+                   uint32_t e,
                    const uint8_t *chip, size_t chip_len,
                    const uint16_t *ct, size_t ct_len,
                    const uint16_t *bt, size_t bt_len,
@@ -463,7 +471,7 @@ uint64_t cnftl_why(uint32_t s, uint32_t alpha, uint32_t beta, uint32_t d,
  */
 uint64_t cnftl_format_cut(uint32_t s, uint32_t alpha, uint32_t beta,
                           uint32_t d, uint32_t mu, uint32_t gamma,
-                          uint32_t c, uint32_t n,
+                          uint32_t c, uint32_t n, uint32_t e,
                           uint8_t *chip, size_t chip_len,
                           uint16_t *ct, size_t ct_len,
                           uint16_t *bt, size_t bt_len,
@@ -476,7 +484,7 @@ uint64_t cnftl_format_cut(uint32_t s, uint32_t alpha, uint32_t beta,
 
 uint64_t cnftl_write_cut(uint32_t s, uint32_t alpha, uint32_t beta,
                          uint32_t d, uint32_t mu, uint32_t gamma,
-                         uint32_t c, uint32_t n,
+                         uint32_t c, uint32_t n, uint32_t e,
                          uint8_t *chip, size_t chip_len,
                          uint16_t *ct, size_t ct_len,
                          uint16_t *bt, size_t bt_len,
@@ -491,7 +499,7 @@ uint64_t cnftl_write_cut(uint32_t s, uint32_t alpha, uint32_t beta,
 
 uint64_t cnftl_queue_cut(uint32_t s, uint32_t alpha, uint32_t beta,
                          uint32_t d, uint32_t mu, uint32_t gamma,
-                         uint32_t c, uint32_t n,
+                         uint32_t c, uint32_t n, uint32_t e,
                          uint8_t *chip, size_t chip_len,
                          uint16_t *ct, size_t ct_len,
                          uint16_t *bt, size_t bt_len,
@@ -507,7 +515,7 @@ uint64_t cnftl_queue_cut(uint32_t s, uint32_t alpha, uint32_t beta,
 
 uint64_t cnftl_start_cut(uint32_t s, uint32_t alpha, uint32_t beta,
                          uint32_t d, uint32_t mu, uint32_t gamma,
-                         uint32_t c, uint32_t n,
+                         uint32_t c, uint32_t n, uint32_t e,
                          uint8_t *chip, size_t chip_len,
                          uint16_t *ct, size_t ct_len,
                          uint16_t *bt, size_t bt_len,
@@ -606,6 +614,7 @@ static inline int cnftl_params_allowed(const struct cnftl_params *p)
         && p->gamma >= 1 && p->gamma <= 16
         && p->c >= 1 && p->c <= 1048576
         && p->n >= 1 && p->n <= 65535
+        && p->e >= 1 && p->e <= 1000000
         && p->alpha * p->beta * p->d <= 256
         && (p->c + p->mu - 1) / p->mu <= p->gamma * p->beta * p->d - 1;
 }
@@ -751,6 +760,7 @@ struct cnftl_board {
 #define CNFTL_BOARD(b)                                                         \
     (b)->params.s, (b)->params.alpha, (b)->params.beta, (b)->params.d,         \
     (b)->params.mu, (b)->params.gamma, (b)->params.c, (b)->params.n,           \
+    (b)->params.e,                                                             \
     (b)->chip, cnftl_chip_bytes(&(b)->params),                                 \
     (b)->ct, cnftl_ct_entries(&(b)->params),                                   \
     (b)->bt, cnftl_bt_entries(&(b)->params),                                   \

@@ -41,7 +41,7 @@ ledger 0: 0 serials found, 3 entered, 3 now
 ledger 1: 0 serials found, 3 entered, 3 now
 12 pages programmed, 10 blocks erased
 END
-check "its length, as docs/IMAGE.md has it" [ "$(wc -c <"$room/board")" -eq 4190 ]
+check "its length, as docs/IMAGE.md has it" [ "$(wc -c <"$room/board")" -eq 4194 ]
 check "both ledgers are found again" says <<'END'
 ledger 0, sector 0: serial 1001
 ledger 0, sector 1: serial 1002
@@ -89,7 +89,7 @@ check "the board is started from its chip" says < <(
     both
 )
 check "the image has its tables again" says < <(both)
-check "and is as it was, but for FST and wear" [ "$(cmp -l "$room/whole" "$room/board" | awk '{ print ($1 > 3936 && $1 <= 3940) || ($1 > 3950 && $1 <= 3990) }' | sort -u)" = 1 ]
+check "and is as it was, but for FST and wear" [ "$(cmp -l "$room/whole" "$room/board" | awk '{ print ($1 > 3940 && $1 <= 3944) || ($1 > 3954 && $1 <= 3994) }' | sort -u)" = 1 ]
 # The CT entry of a cluster is gone, and its mark is not, so that the tables do not fit.
 check "cluster 19 loses its entry" broken "$room/lost" $((ct + 2 * 19)) '\377\377'
 check "the board with it" mv "$room/lost" "$room/board"
@@ -101,7 +101,7 @@ check "a start brings it back" says < <(
     both
 )
 # The first frame of block 0 stands in block 9 too, as a reclaim that was cut short leaves it.
-left_over() { dd if="$room/board" of="$room/board" bs=1 skip=44 seek=$((44 + 9 * 8 * page)) count=$((2 * page)) conv=notrunc 2>"$room/err"; }
+left_over() { dd if="$room/board" of="$room/board" bs=1 skip="$chip" seek=$((chip + 9 * 8 * page)) count=$((2 * page)) conv=notrunc 2>"$room/err"; }
 check "a block is left over" left_over
 check "a start erases it" says < <(
     echo 'board: its tables do not fit the chip, so it was started from its chip'
@@ -130,11 +130,11 @@ fault() {
     esac
 }
 each_fault fault
-check "the place in a page is wrong" broken "$room/place" $((44 + spare + 4)) '\001'
+check "the place in a page is wrong" broken "$room/place" $((chip + spare + 4)) '\001'
 check "a board that is not orderly, nor to be started" refuses 5 "start was refused with reply 7: the board is not orderly" "$room/place"
-# s=16, alpha=1, beta=1, d=2, mu=1, gamma=1, c=1, n=2: 128 bytes of chip and 52 of tables
+# s=16, alpha=1, beta=1, d=2, mu=1, gamma=1, c=1, n=2, e=1000000: 128 bytes of chip and 52 of tables
 one_region() {
-    printf 'CNFTLIMG\4\0\0\0\20\0\0\0\1\0\0\0\1\0\0\0\2\0\0\0\1\0\0\0\1\0\0\0\1\0\0\0\2\0\0\0' && head -c 180 /dev/zero
+    printf 'CNFTLIMG\5\0\0\0\20\0\0\0\1\0\0\0\1\0\0\0\2\0\0\0\1\0\0\0\1\0\0\0\1\0\0\0\2\0\0\0\100\102\17\0' && head -c 180 /dev/zero
 }
 one_region >"$room/one"
 check "a board with one region" refuses 7 "$room/one: the board has one region, for 2 ledgers" "$room/one"

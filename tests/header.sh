@@ -22,7 +22,7 @@ example >"$room/example.c"
 # An object that was compiled with the header of another number: it compiles, and does not link.
 other_number() {
     mkdir -p "$room/other"
-    sed 's/cnftl_api_2/cnftl_api_1/' include/cnftl.h >"$room/other/cnftl.h"
+    sed 's/cnftl_api_3/cnftl_api_2/' include/cnftl.h >"$room/other/cnftl.h"
     "$cc" -std=c99 -I"$room/other" -c -o "$room/other.o" "$room/example.c" &&
         ! "$cc" ${link[@]+"${link[@]}"} -o "$room/other.out" "$room/other.o" "$archive" 2>/dev/null
 }

@@ -60,7 +60,7 @@ V valid, S stale, B begun, E erased, one letter a frame; ^ the frame meant
 END
 
 # Frame 0, which is stale, loses its second page: as if power had gone when its first page was programmed.
-begun() { broken "$1" $((44 + page)) "$(printf '\\377%.0s' $(seq "$page"))"; }
+begun() { broken "$1" $((chip + page)) "$(printf '\\377%.0s' $(seq "$page"))"; }
 check "a frame that was only begun" begun "$room/begun"
 check "the board with it" tells 0 "$room/begun" 0 <<'END'
 Sector 0 is at place 0 of cluster 0, in region 0.
@@ -79,7 +79,7 @@ END
 
 # Frame 1 holds cluster 4 in place of cluster 0, so that the two clusters share segment 0.
 shared() {
-    broken "$1" $((44 + 2 * page + spare)) '\004' && put "$1" $((44 + 3 * page + spare)) '\004' &&
+    broken "$1" $((chip + 2 * page + spare)) '\004' && put "$1" $((chip + 3 * page + spare)) '\004' &&
         put "$1" $((ct + 2 * 4)) '\000\000' && put "$1" "$marks" '\007'
 }
 check "two clusters in one segment" shared "$room/shared"
@@ -103,7 +103,7 @@ check "the last one needs one look" grep -q '^A read or a write of it looks at 1
 # Frame 3 holds what frame 2 does, as after one more write of cluster 2; the block is full.
 full() {
     cp "$room/board" "$1" && put "$1" "$marks" '\012' &&
-        dd if="$room/board" of="$1" bs=1 skip=$((44 + 4 * page)) seek=$((44 + 6 * page)) count=$((2 * page)) conv=notrunc 2>"$room/err"
+        dd if="$room/board" of="$1" bs=1 skip=$((chip + 4 * page)) seek=$((chip + 6 * page)) count=$((2 * page)) conv=notrunc 2>"$room/err"
 }
 check "a full block" full "$room/full"
 check "a sector that was not written, and the write opens a block" tells 0 "$room/full" 37 <<'END'
@@ -167,9 +167,9 @@ check "rule 10 for that too" grep -q '^Rule 10 is the first one broken' <(run "$
 check "the marks are those of frames 1 and 3" broken "$room/same" "$marks" '\012'
 check "nothing was changed by that" cmp "$room/board" "$room/same"
 
-check "the first page names virtual block 1" broken "$room/virtual" $((44 + spare + 11)) '\001'
+check "the first page names virtual block 1" broken "$room/virtual" $((chip + spare + 11)) '\001'
 check "rule 7" breaks "$room/virtual" 7 "a used block does not begin with frames of its virtual block and go on erased" < <(refused)
-check "the second page gets another stamp than the first" broken "$room/mixed" $((44 + page + spare + 7)) '\000'
+check "the second page gets another stamp than the first" broken "$room/mixed" $((chip + page + spare + 7)) '\000'
 check "rule 7 for that too" grep -q '^Rule 7 is the first one broken' <(run "$room/cnftl-why" "$room/mixed" 5)
 check "region 0 has taken 5 stamps, and its sixth write the sixth" broken "$room/stamped" "$stamps" '\005'
 check "rule 11" breaks "$room/stamped" 11 "a page has a larger stamp than the last one of its region" < <(found)

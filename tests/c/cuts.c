@@ -218,8 +218,9 @@ static void fail(const struct call *k, const char *what)
     else
         printf("no budget\n");
     printf("  s=%" PRIu32 " alpha=%" PRIu32 " beta=%" PRIu32 " d=%" PRIu32
-           " mu=%" PRIu32 " gamma=%" PRIu32 " c=%" PRIu32 " n=%" PRIu32 "\n",
-           par.s, par.alpha, par.beta, par.d, par.mu, par.gamma, par.c, par.n);
+           " mu=%" PRIu32 " gamma=%" PRIu32 " c=%" PRIu32 " n=%" PRIu32
+           " e=%" PRIu32 "\n", par.s, par.alpha, par.beta, par.d, par.mu,
+           par.gamma, par.c, par.n, par.e);
     exit(model_mutant == MODEL_RIGHT ? 1 : 3);
 }
 
@@ -685,7 +686,7 @@ static uint32_t hot;            /* the clusters that get half the traffic */
 static struct cnftl_params some_parameters(void)
 {
     uint32_t shape = (uint32_t)(boards % SHAPES), most;
-    struct cnftl_params p = { 0, 0, 0, 0, 0, 0, 0, 0 };
+    struct cnftl_params p = { 0, 0, 0, 0, 0, 0, 0, 0, 1000000 };
 
     shapes[shape]++;
     p.s = between(16, MOST_S);

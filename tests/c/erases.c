@@ -50,7 +50,7 @@ static uint32_t wear[MOST_N];
 static uint64_t marks[CNFTL_MARK_WORDS * MOST_MU * MOST_GAMMA];
 static uint32_t stamps[MOST_MU];
 static struct cnftl_board board = {
-    { 0, 0, 0, 0, 0, 0, 0, 0 }, chip, ct, bt, fst, bst, wear, marks, stamps
+    { 0, 0, 0, 0, 0, 0, 0, 0, 0 }, chip, ct, bt, fst, bst, wear, marks, stamps
 };
 static struct cnftl_params *const p = &board.params;
 static struct region regions[MOST_MU];
@@ -88,8 +88,9 @@ static void fail(const char *what)
     printf("erases: %s at call %" PRIu64 " (seed %" PRIu64 ")\n", what, calls,
            seed);
     printf("  s=%" PRIu32 " alpha=%" PRIu32 " beta=%" PRIu32 " d=%" PRIu32
-           " mu=%" PRIu32 " gamma=%" PRIu32 " c=%" PRIu32 " n=%" PRIu32 "\n",
-           p->s, p->alpha, p->beta, p->d, p->mu, p->gamma, p->c, p->n);
+           " mu=%" PRIu32 " gamma=%" PRIu32 " c=%" PRIu32 " n=%" PRIu32
+           " e=%" PRIu32 "\n", p->s, p->alpha, p->beta, p->d, p->mu, p->gamma,
+           p->c, p->n, p->e);
     exit(more == 0 ? 1 : 3);
 }
 
@@ -105,7 +106,7 @@ static void choose_params(void)
         *p = (struct cnftl_params){
             16 + below(MOST_S - 15), 1 + below(MOST_ALPHA),
             1 + below(MOST_BETA), 1 + below(MOST_D), 1 + below(MOST_MU),
-            1 + below(MOST_GAMMA), 0, 0
+            1 + below(MOST_GAMMA), 0, 0, 1000000
         };
         frames = p->gamma * p->beta * p->d;
     } while (frames == 1);

@@ -38,6 +38,7 @@ enum { GUARD = 64, DATA_ROOM = 16 * 512 + GUARD, REPLIES = 10 };
 enum { LIST_ROOM = (CNFTL_WHY_ENTRIES + 1) * 4, RULES = CNFTL_RULE_STAMPS + 1 };
 enum { MOST_ITEMS = 8, REQUESTS_ROOM = (3 * MOST_ITEMS + 2) * 4 };
 enum { ANSWERS_ROOM = (MOST_ITEMS + 3) * 8 };
+enum { RATED = 1000000 }; /* the rated erases of a block of each board */
 
 static const char *const slice_name[SLICES] = {
     "chip", "ct", "bt", "fst", "bst", "wear", "marks", "stamps", "data",
@@ -265,7 +266,7 @@ static uint64_t kept_items;         /* accepted items of queues that were cut */
 
 #define PARAMETERS(k)                                                          \
     (k)->p.s, (k)->p.alpha, (k)->p.beta, (k)->p.d, (k)->p.mu, (k)->p.gamma,    \
-    (k)->p.c, (k)->p.n
+    (k)->p.c, (k)->p.n, (k)->p.e
 #define LENT(k, a)                                                             \
     PARAMETERS(k), bytes_of(a, CHIP), (k)->len[CHIP],                          \
     words_of(a, CT), (k)->len[CT], words_of(a, BT), (k)->len[BT],              \
@@ -391,8 +392,8 @@ static void differ(const struct call *k, const char *what, uint64_t by_product,
     if (k->limited)
         printf("  with budget %" PRIu64 "\n", k->budget);
     printf("  s=%" PRIu32 " alpha=%" PRIu32 " beta=%" PRIu32 " d=%" PRIu32
-           " mu=%" PRIu32 " gamma=%" PRIu32 " c=%" PRIu32 " n=%" PRIu32 "\n",
-           PARAMETERS(k));
+           " mu=%" PRIu32 " gamma=%" PRIu32 " c=%" PRIu32 " n=%" PRIu32
+           " e=%" PRIu32 "\n", PARAMETERS(k));
     printf("  lengths: chip %zu, ct %zu, bt %zu, fst %zu, bst %zu, wear %zu, "
            "marks %zu, stamps %zu\n", k->len[CHIP], k->len[CT], k->len[BT],
            k->len[FST], k->len[BST], k->len[WEAR], k->len[MARKS],
@@ -805,15 +806,15 @@ static size_t data_for(uint32_t count)
 /* A parameter at or past one of its bounds. */
 static void fault_parameter(struct call *k)
 {
-    static const uint32_t low[8] = { 16, 1, 1, 1, 1, 1, 1, 1 };
-    static const uint32_t high[8] = {
-        512, 16, 16, 16, 1024, 16, 1048576, 65535
+    static const uint32_t low[9] = { 16, 1, 1, 1, 1, 1, 1, 1, 1 };
+    static const uint32_t high[9] = {
+        512, 16, 16, 16, 1024, 16, 1048576, 65535, 1000000
     };
-    uint32_t *const where[8] = {
+    uint32_t *const where[9] = {
         &k->p.s, &k->p.alpha, &k->p.beta, &k->p.d,
-        &k->p.mu, &k->p.gamma, &k->p.c, &k->p.n
+        &k->p.mu, &k->p.gamma, &k->p.c, &k->p.n, &k->p.e
     };
-    uint32_t i = below(8);
+    uint32_t i = below(9);
     const uint32_t values[] = {
         0, low[i] - 1, low[i], high[i], high[i] + 1, UINT32_MAX,
         high[i] + 65536, *where[i] + 1, *where[i] - 1
@@ -1833,7 +1834,7 @@ static uint64_t empty_figures;  /* those of regions that have no cluster */
 /* Any allowed parameters; C is 1, at most mu, the largest or any. */
 static struct cnftl_params any_parameters(void)
 {
-    struct cnftl_params p = { 16, 0, 0, 0, 0, 0, 0, 0 };
+    struct cnftl_params p = { 16, 0, 0, 0, 0, 0, 0, 0, RATED };
     uint32_t most;
 
     do {
@@ -2217,7 +2218,7 @@ static void run_board(struct cnftl_params p, uint32_t most)
    bits: the lengths are wrong. */
 static void run_wrapped_board(void)
 {
-    struct cnftl_params p = { 496, 16, 16, 1, 1, 1, 15, 32768 };
+    struct cnftl_params p = { 496, 16, 16, 1, 1, 1, 15, 32768, RATED };
 
     assert((uint64_t)cnftl_chip_bytes(&p) == UINT64_C(4294967296));
     open_board(p, 0);
@@ -2252,7 +2253,7 @@ static struct cnftl_params small_board(void)
 {
     struct cnftl_params p = {
         between(16, 20), between(1, 3), between(1, 3), between(1, 3),
-        between(1, 3), between(1, 3), 0, 0
+        between(1, 3), between(1, 3), 0, 0, RATED
     };
 
     if (p.gamma * p.beta * p.d == 1)
@@ -2267,7 +2268,7 @@ static struct cnftl_params extreme_board(void)
         { 16, 16, 1 }, { 16, 1, 16 }, { 1, 16, 16 }, { 4, 8, 8 }, { 2, 16, 8 }
     };
     const uint32_t *abd = p256[below(5)];
-    struct cnftl_params p = { 16, 1, 1, 1, 1, 1, 0, 0 };
+    struct cnftl_params p = { 16, 1, 1, 1, 1, 1, 0, 0, RATED };
 
     switch (below(9)) {
     case 0: /* both frames of a cluster in one segment */
@@ -2328,7 +2329,7 @@ static struct cnftl_params extreme_board(void)
    so that the victim changes with every few writes. */
 static struct cnftl_params large_block_board(void)
 {
-    struct cnftl_params p = { 16, 1, 16, 0, 1, 0, 0, 0 };
+    struct cnftl_params p = { 16, 1, 16, 0, 1, 0, 0, 0, RATED };
 
     p.d = between(13, 16);
     p.gamma = between(2, 3);
@@ -2341,11 +2342,11 @@ static struct cnftl_params large_block_board(void)
 static void run_large_board(uint64_t turn)
 {
     static const struct cnftl_params most_regions =
-        { 16, 1, 2, 1, 1024, 1, 1024, 1026 };
+        { 16, 1, 2, 1, 1024, 1, 1024, 1026, RATED };
     static const struct cnftl_params most_blocks =
-        { 16, 1, 1, 1, 2, 2, 2, 65535 };
+        { 16, 1, 1, 1, 2, 2, 2, 65535, RATED };
     static const struct cnftl_params most_clusters =
-        { 16, 1, 16, 16, 17, 16, 17 * 4095, 17 * 16 + 4 };
+        { 16, 1, 16, 16, 17, 16, 17 * 4095, 17 * 16 + 4, RATED };
 
     switch (turn % 4) {
     case 0:

@@ -41,8 +41,11 @@ static uint32_t wear[5];
 static uint64_t marks[16];
 static uint32_t stamps[2];
 
+enum { RATED = 1000000 }; /* the rated erases of a block of each board */
+
 static struct cnftl_board board = {
-    { 16, 2, 1, 2, 2, 2, 6, 5 }, chip, ct, bt, fst, bst, wear, marks, stamps
+    { 16, 2, 1, 2, 2, 2, 6, 5, RATED }, chip, ct, bt, fst, bst, wear, marks,
+    stamps
 };
 
 /* Whether an answer has this reply and these counts. */
@@ -65,6 +68,7 @@ static void new_board(void)
     board.params.d = 2;
     board.params.c = 6;
     board.params.n = 5;
+    board.params.e = RATED;
 }
 
 /* Whether a why of this sector is accepted and tells so many looks. */
@@ -188,6 +192,39 @@ static void check_cases(void)
               0, 0));
     assert(is(cnftl_board_write(&board, 0, 0, data, 0), CNFTL_BAD_COUNT,
               0, 0));
+}
+
+/* The rated erases: 1 to 1,000,000, and reply 1 from every call for others. */
+static void check_rated(void)
+{
+    static const uint32_t refused[] = { 0, 1000001, 1048576, UINT32_MAX };
+    static const struct cnftl_request request = { 0, 1, 0 };
+    uint32_t list[CNFTL_WHY_ENTRIES];
+    uint64_t answer;
+
+    new_board();
+    assert(is(cnftl_board_format(&board), CNFTL_ACCEPTED, 0, 5));
+    for (size_t i = 0; i < sizeof refused / sizeof refused[0]; i++) {
+        board.params.e = refused[i];
+        assert(!cnftl_params_allowed(&board.params));
+        assert(is(cnftl_board_format(&board), CNFTL_BAD_PARAMETER, 0, 0));
+        assert(is(cnftl_board_start(&board), CNFTL_BAD_PARAMETER, 0, 0));
+        assert(is(cnftl_board_read(&board, 0, 1, data, 16),
+                  CNFTL_BAD_PARAMETER, 0, 0));
+        assert(is(cnftl_board_write(&board, 0, 1, data, 16),
+                  CNFTL_BAD_PARAMETER, 0, 0));
+        assert(is(cnftl_board_queue(&board, &request, 1, data, 16, &answer),
+                  CNFTL_BAD_PARAMETER, 0, 0));
+        assert(is(cnftl_board_release(&board, 0), CNFTL_BAD_PARAMETER, 0, 0));
+        assert(is(cnftl_board_why(&board, 0, list), CNFTL_BAD_PARAMETER, 0,
+                  0));
+    }
+    for (uint32_t e = 1; e <= RATED; e += RATED - 1) {
+        board.params.e = e;
+        assert(cnftl_params_allowed(&board.params));
+        assert(is(cnftl_board_read(&board, 0, 1, data, 16), CNFTL_ACCEPTED, 0,
+                  0));
+    }
 }
 
 /* A release: the cluster reads as 255, and the others as before. */
@@ -471,25 +508,29 @@ static void check_spares(void)
 static void check_replies(void)
 {
     new_board();
-    assert(is(cnftl_format(16, 2, 1, 2, 2, 2, 6, 5, chip, 639, ct, 6, bt, 4,
-                           fst, 2, bst, 5, wear, 5, marks, 16, stamps, 2),
+    assert(is(cnftl_format(16, 2, 1, 2, 2, 2, 6, 5, RATED, chip, 639, ct, 6,
+                           bt, 4, fst, 2, bst, 5, wear, 5, marks, 16,
+                           stamps, 2),
               CNFTL_WRONG_LENGTH, 0, 0));
-    assert(is(cnftl_format(16, 2, 1, 2, 2, 2, 6, 5, chip, 640, ct, 6, bt, 4,
-                           fst, 2, bst, 5, wear, 5, marks, 15, stamps, 2),
+    assert(is(cnftl_format(16, 2, 1, 2, 2, 2, 6, 5, RATED, chip, 640, ct, 6,
+                           bt, 4, fst, 2, bst, 5, wear, 5, marks, 15,
+                           stamps, 2),
               CNFTL_WRONG_LENGTH, 0, 0));
-    assert(is(cnftl_format(16, 2, 1, 2, 2, 2, 6, 5, chip, 640, ct, 6, bt, 4,
-                           fst, 2, bst, 5, wear, 5, marks, 16, stamps, 1),
+    assert(is(cnftl_format(16, 2, 1, 2, 2, 2, 6, 5, RATED, chip, 640, ct, 6,
+                           bt, 4, fst, 2, bst, 5, wear, 5, marks, 16,
+                           stamps, 1),
               CNFTL_WRONG_LENGTH, 0, 0));
-    assert(is(cnftl_format(16, 2, 1, 2, 2, 2, 6, 5, chip, 640, ct, 6, bt, 4,
-                           fst, 2, bst, 5, wear, 5, marks, 16, stamps, 2),
+    assert(is(cnftl_format(16, 2, 1, 2, 2, 2, 6, 5, RATED, chip, 640, ct, 6,
+                           bt, 4, fst, 2, bst, 5, wear, 5, marks, 16,
+                           stamps, 2),
               CNFTL_ACCEPTED, 0, 5));
-    assert(is(cnftl_write(16, 2, 1, 2, 2, 2, 6, 5, chip, 640, ct, 6, bt, 4,
-                          fst, 2, bst, 5, wear, 5, marks, 16, stamps, 2,
+    assert(is(cnftl_write(16, 2, 1, 2, 2, 2, 6, 5, RATED, chip, 640, ct, 6,
+                          bt, 4, fst, 2, bst, 5, wear, 5, marks, 16, stamps, 2,
                           0, 1, data, 17),
               CNFTL_WRONG_DATA, 0, 0));
     bst[0] = 3;
-    assert(is(cnftl_read(16, 2, 1, 2, 2, 2, 6, 5, chip, 640, ct, 6, bt, 4,
-                         fst, 2, bst, 5, wear, 5, marks, 16, stamps, 2,
+    assert(is(cnftl_read(16, 2, 1, 2, 2, 2, 6, 5, RATED, chip, 640, ct, 6,
+                         bt, 4, fst, 2, bst, 5, wear, 5, marks, 16, stamps, 2,
                          0, 1, data, 16),
               CNFTL_NOT_ORDERLY, 0, 0));
 }
@@ -798,10 +839,11 @@ static void check_regions_of(const struct cnftl_params *p)
 static void check_regions(void)
 {
     static const struct cnftl_params boards[] = {
-        { 16, 2, 1, 2, 2, 2, 6, 5 }, { 16, 3, 2, 2, 1, 3, 11, 4 },
-        { 16, 3, 1, 4, 3, 2, 10, 7 }, { 16, 2, 1, 4, 5, 1, 3, 6 },
-        { 512, 4, 4, 4, 4, 4, 252, 20 }, { 16, 4, 1, 2, 512, 4, 1000, 2049 },
-        { 16, 1, 16, 16, 1024, 16, 1048576, 16385 }
+        { 16, 2, 1, 2, 2, 2, 6, 5, RATED }, { 16, 3, 2, 2, 1, 3, 11, 4, RATED },
+        { 16, 3, 1, 4, 3, 2, 10, 7, RATED }, { 16, 2, 1, 4, 5, 1, 3, 6, RATED },
+        { 512, 4, 4, 4, 4, 4, 252, 20, RATED },
+        { 16, 4, 1, 2, 512, 4, 1000, 2049, RATED },
+        { 16, 1, 16, 16, 1024, 16, 1048576, 16385, RATED }
     };
 
     for (size_t i = 0; i < sizeof boards / sizeof boards[0]; i++)
@@ -825,7 +867,7 @@ static void check_figures(void)
         { 252, 516096, 1, 1 }, { 240, 491520, 4, 1 }, { 224, 458752, 8, 2 },
         { 192, 393216, 16, 4 }, { 160, 327680, 24, 6 }, { 128, 262144, 32, 8 }
     };
-    struct cnftl_params p = { 512, 4, 4, 4, 4, 4, 192, 20 };
+    struct cnftl_params p = { 512, 4, 4, 4, 4, 4, 192, 20, RATED };
 
     assert(cnftl_table_bytes(&p) == 1052);
     for (size_t i = 0; i < sizeof rows / sizeof rows[0]; i++) {
@@ -842,10 +884,11 @@ static void check_figures(void)
    the largest board. */
 static void check_uneven_figures(void)
 {
-    static const struct cnftl_params uneven = { 16, 1, 1, 4, 3, 2, 10, 7 };
-    static const struct cnftl_params few = { 16, 1, 1, 4, 4, 1, 1, 5 };
+    static const struct cnftl_params uneven =
+        { 16, 1, 1, 4, 3, 2, 10, 7, RATED };
+    static const struct cnftl_params few = { 16, 1, 1, 4, 4, 1, 1, 5, RATED };
     static const struct cnftl_params large =
-        { 16, 1, 16, 16, 1024, 16, 1048576, 16385 };
+        { 16, 1, 16, 16, 1024, 16, 1048576, 16385, RATED };
 
     assert(cnftl_params_allowed(&uneven) && cnftl_params_allowed(&few)
            && cnftl_params_allowed(&large));
@@ -871,6 +914,7 @@ int main(void)
     check_uneven_figures();
     check_session();
     check_cases();
+    check_rated();
     check_release();
     check_queue();
     check_disordered_queue();

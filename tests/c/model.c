@@ -32,18 +32,18 @@ enum { SPARE = 16, NONE = 65535, ERASED = 255 };
 enum { FREE = 0, USED = 1, RESERVED = 2 };
 enum { MOST_REGIONS = 1024 };
 
-/* The eight parameters, with F and P worked out. */
+/* The nine parameters, with F and P worked out. */
 struct params {
-    uint32_t s, alpha, beta, d, mu, gamma, c, n;
+    uint32_t s, alpha, beta, d, mu, gamma, c, n, e;
     uint32_t f, p;
 };
 
 /* "F = beta*d frames make a block, P = alpha*F pages" */
 static struct params make_params(uint32_t s, uint32_t alpha, uint32_t beta,
                                  uint32_t d, uint32_t mu, uint32_t gamma,
-                                 uint32_t c, uint32_t n)
+                                 uint32_t c, uint32_t n, uint32_t e)
 {
-    struct params p = { s, alpha, beta, d, mu, gamma, c, n, 0, 0 };
+    struct params p = { s, alpha, beta, d, mu, gamma, c, n, e, 0, 0 };
 
     p.f = beta * d;
     p.p = alpha * p.f;
@@ -56,7 +56,8 @@ static bool within(uint32_t value, uint32_t low, uint32_t high)
     return low <= value && value <= high;
 }
 
-/* "P at most 256. C/mu rounded up is at most gamma*F - 1." and the table. */
+/* "P at most 256. C/mu rounded up is at most gamma*F - 1." and the table.
+   T-12: "Add a ninth parameter E, 1 to 1,000,000". */
 static bool parameters_allowed(const struct params *p)
 {
     uint32_t most;
@@ -65,7 +66,9 @@ static bool parameters_allowed(const struct params *p)
         || !within(p->beta, 1, 16) || !within(p->d, 1, 16)
         || !within(p->mu, 1, 1024) || !within(p->gamma, 1, 16)
         || !within(p->c, 1, MUTANT(C_UNBOUNDED) ? 2097152 : 1048576)
-        || !within(p->n, 1, 65535))
+        || !within(p->n, 1, 65535)
+        || !within(p->e, MUTANT(E_ZERO) ? 0 : 1,
+                   MUTANT(E_PAST) ? 1000001 : 1000000))
         return false;
     if (p->p > 256 && !MUTANT(P_UNBOUNDED))
         return false;
@@ -1403,7 +1406,7 @@ void model_writes_per_erase(const struct cnftl_params *given,
 {
     struct params p = make_params(given->s, given->alpha, given->beta,
                                   given->d, given->mu, given->gamma, given->c,
-                                  given->n);
+                                  given->n, given->e);
 
     count_clusters(&p, figures);
     for (uint32_t region = 0; region < p.mu; region++)
@@ -1509,6 +1512,7 @@ static uint32_t refuse_write(const struct view *v, uint32_t lba,
    and one erase for each block not bad." */
 uint64_t model_format(uint32_t s, uint32_t alpha, uint32_t beta, uint32_t d,
                       uint32_t mu, uint32_t gamma, uint32_t c, uint32_t n,
+                      uint32_t e,
                       uint8_t *chip, size_t chip_len,
                       uint16_t *ct, size_t ct_len,
                       uint16_t *bt, size_t bt_len,
@@ -1518,7 +1522,7 @@ uint64_t model_format(uint32_t s, uint32_t alpha, uint32_t beta, uint32_t d,
                       uint64_t *marks, size_t marks_len,
                       uint32_t *stamps, size_t stamps_len)
 {
-    struct params p = make_params(s, alpha, beta, d, mu, gamma, c, n);
+    struct params p = make_params(s, alpha, beta, d, mu, gamma, c, n, e);
     struct lengths len = {
         chip_len, ct_len, bt_len, fst_len, bst_len, wear_len, marks_len,
         stamps_len
@@ -1547,6 +1551,7 @@ uint64_t model_format(uint32_t s, uint32_t alpha, uint32_t beta, uint32_t d,
    as the third count. */
 uint64_t model_read(uint32_t s, uint32_t alpha, uint32_t beta, uint32_t d,
                     uint32_t mu, uint32_t gamma, uint32_t c, uint32_t n,
+                    uint32_t e,
                     const uint8_t *chip, size_t chip_len,
                     const uint16_t *ct, size_t ct_len,
                     const uint16_t *bt, size_t bt_len,
@@ -1558,7 +1563,7 @@ uint64_t model_read(uint32_t s, uint32_t alpha, uint32_t beta, uint32_t d,
                     uint32_t lba, uint32_t count,
                     uint8_t *data, size_t data_len)
 {
-    struct params p = make_params(s, alpha, beta, d, mu, gamma, c, n);
+    struct params p = make_params(s, alpha, beta, d, mu, gamma, c, n, e);
     struct lengths len = {
         chip_len, ct_len, bt_len, fst_len, bst_len, wear_len, marks_len,
         stamps_len
@@ -1615,6 +1620,7 @@ static uint64_t accepted_write(struct lent *l, uint32_t lba, uint32_t count,
 /* Refuses or makes the steps of a write. */
 uint64_t model_write(uint32_t s, uint32_t alpha, uint32_t beta, uint32_t d,
                      uint32_t mu, uint32_t gamma, uint32_t c, uint32_t n,
+                     uint32_t e,
                      uint8_t *chip, size_t chip_len,
                      uint16_t *ct, size_t ct_len,
                      uint16_t *bt, size_t bt_len,
@@ -1626,7 +1632,7 @@ uint64_t model_write(uint32_t s, uint32_t alpha, uint32_t beta, uint32_t d,
                      uint32_t lba, uint32_t count,
                      const uint8_t *data, size_t data_len)
 {
-    struct params p = make_params(s, alpha, beta, d, mu, gamma, c, n);
+    struct params p = make_params(s, alpha, beta, d, mu, gamma, c, n, e);
     struct lengths len = {
         chip_len, ct_len, bt_len, fst_len, bst_len, wear_len, marks_len,
         stamps_len
@@ -1677,7 +1683,7 @@ static uint64_t write_single(const struct lent *l, const struct lengths *len,
     const struct params *p = &l->v.p;
 
     return model_write(p->s, p->alpha, p->beta, p->d, p->mu, p->gamma, p->c,
-                       p->n, l->chip, len->chip, l->ct, len->ct,
+                       p->n, p->e, l->chip, len->chip, l->ct, len->ct,
                        l->bt, len->bt, l->fst, len->fst, l->bst, len->bst,
                        l->wear, len->wear, l->marks, len->marks,
                        l->stamps, len->stamps,
@@ -1764,6 +1770,7 @@ static void queue_past_refusals(const struct view *v)
    else the call itself answers 0 with counts 0." */
 uint64_t model_queue(uint32_t s, uint32_t alpha, uint32_t beta, uint32_t d,
                      uint32_t mu, uint32_t gamma, uint32_t c, uint32_t n,
+                     uint32_t e,
                      uint8_t *chip, size_t chip_len,
                      uint16_t *ct, size_t ct_len,
                      uint16_t *bt, size_t bt_len,
@@ -1776,7 +1783,7 @@ uint64_t model_queue(uint32_t s, uint32_t alpha, uint32_t beta, uint32_t d,
                      const uint8_t *data, size_t data_len,
                      uint64_t *answers, size_t answers_len)
 {
-    struct params p = make_params(s, alpha, beta, d, mu, gamma, c, n);
+    struct params p = make_params(s, alpha, beta, d, mu, gamma, c, n, e);
     struct lengths len = {
         chip_len, ct_len, bt_len, fst_len, bst_len, wear_len, marks_len,
         stamps_len
@@ -1826,6 +1833,7 @@ static uint32_t refuse_release(const struct view *v, uint32_t cluster)
 /* T-03: "its CT entry becomes none .. It reports 0 and 0." */
 uint64_t model_release(uint32_t s, uint32_t alpha, uint32_t beta, uint32_t d,
                        uint32_t mu, uint32_t gamma, uint32_t c, uint32_t n,
+                       uint32_t e,
                        const uint8_t *chip, size_t chip_len,
                        uint16_t *ct, size_t ct_len,
                        const uint16_t *bt, size_t bt_len,
@@ -1836,7 +1844,7 @@ uint64_t model_release(uint32_t s, uint32_t alpha, uint32_t beta, uint32_t d,
                        uint32_t *stamps, size_t stamps_len,
                        uint32_t cluster)
 {
-    struct params p = make_params(s, alpha, beta, d, mu, gamma, c, n);
+    struct params p = make_params(s, alpha, beta, d, mu, gamma, c, n, e);
     struct lengths len = {
         chip_len, ct_len, bt_len, fst_len, bst_len, wear_len, marks_len,
         stamps_len
@@ -1970,6 +1978,7 @@ static void tell_all(const struct view *v, uint32_t cluster, uint32_t *list)
    and then the rest. */
 uint64_t model_why(uint32_t s, uint32_t alpha, uint32_t beta, uint32_t d,
                    uint32_t mu, uint32_t gamma, uint32_t c, uint32_t n,
+                   uint32_t e,
                    const uint8_t *chip, size_t chip_len,
                    const uint16_t *ct, size_t ct_len,
                    const uint16_t *bt, size_t bt_len,
@@ -1981,7 +1990,7 @@ uint64_t model_why(uint32_t s, uint32_t alpha, uint32_t beta, uint32_t d,
                    uint32_t lba,
                    uint32_t *list, size_t list_len)
 {
-    struct params p = make_params(s, alpha, beta, d, mu, gamma, c, n);
+    struct params p = make_params(s, alpha, beta, d, mu, gamma, c, n, e);
     struct lengths len = {
         chip_len, ct_len, bt_len, fst_len, bst_len, wear_len, marks_len,
         stamps_len
@@ -2355,6 +2364,7 @@ static uint32_t refuse_start(const struct view *v)
 /* "The start reports its erases." */
 uint64_t model_start(uint32_t s, uint32_t alpha, uint32_t beta, uint32_t d,
                      uint32_t mu, uint32_t gamma, uint32_t c, uint32_t n,
+                     uint32_t e,
                      uint8_t *chip, size_t chip_len,
                      uint16_t *ct, size_t ct_len,
                      uint16_t *bt, size_t bt_len,
@@ -2364,7 +2374,7 @@ uint64_t model_start(uint32_t s, uint32_t alpha, uint32_t beta, uint32_t d,
                      uint64_t *marks, size_t marks_len,
                      uint32_t *stamps, size_t stamps_len)
 {
-    struct params p = make_params(s, alpha, beta, d, mu, gamma, c, n);
+    struct params p = make_params(s, alpha, beta, d, mu, gamma, c, n, e);
     struct lengths len = {
         chip_len, ct_len, bt_len, fst_len, bst_len, wear_len, marks_len,
         stamps_len
@@ -2476,7 +2486,7 @@ static void cut_answers(uint64_t *answers, size_t items)
 /* A format, until its budget is spent. */
 uint64_t model_format_cut(uint32_t s, uint32_t alpha, uint32_t beta,
                           uint32_t d, uint32_t mu, uint32_t gamma,
-                          uint32_t c, uint32_t n,
+                          uint32_t c, uint32_t n, uint32_t e,
                           uint8_t *chip, size_t chip_len,
                           uint16_t *ct, size_t ct_len,
                           uint16_t *bt, size_t bt_len,
@@ -2487,7 +2497,7 @@ uint64_t model_format_cut(uint32_t s, uint32_t alpha, uint32_t beta,
                           uint32_t *stamps, size_t stamps_len,
                           uint64_t budget)
 {
-    struct params p = make_params(s, alpha, beta, d, mu, gamma, c, n);
+    struct params p = make_params(s, alpha, beta, d, mu, gamma, c, n, e);
     struct lengths len = {
         chip_len, ct_len, bt_len, fst_len, bst_len, wear_len, marks_len,
         stamps_len
@@ -2501,7 +2511,7 @@ uint64_t model_format_cut(uint32_t s, uint32_t alpha, uint32_t beta,
         return cut_call(&l, &len);
     limit_power(&l, &len, budget, false);
     return whole_call(&l, &len,
-        model_format(s, alpha, beta, d, mu, gamma, c, n, chip, chip_len,
+        model_format(s, alpha, beta, d, mu, gamma, c, n, e, chip, chip_len,
                      ct, ct_len, bt, bt_len, fst, fst_len, bst, bst_len,
                      wear, wear_len, marks, marks_len, stamps, stamps_len));
 }
@@ -2509,7 +2519,7 @@ uint64_t model_format_cut(uint32_t s, uint32_t alpha, uint32_t beta,
 /* A write, until its budget is spent. */
 uint64_t model_write_cut(uint32_t s, uint32_t alpha, uint32_t beta,
                          uint32_t d, uint32_t mu, uint32_t gamma,
-                         uint32_t c, uint32_t n,
+                         uint32_t c, uint32_t n, uint32_t e,
                          uint8_t *chip, size_t chip_len,
                          uint16_t *ct, size_t ct_len,
                          uint16_t *bt, size_t bt_len,
@@ -2522,7 +2532,7 @@ uint64_t model_write_cut(uint32_t s, uint32_t alpha, uint32_t beta,
                          const uint8_t *data, size_t data_len,
                          uint64_t budget)
 {
-    struct params p = make_params(s, alpha, beta, d, mu, gamma, c, n);
+    struct params p = make_params(s, alpha, beta, d, mu, gamma, c, n, e);
     struct lengths len = {
         chip_len, ct_len, bt_len, fst_len, bst_len, wear_len, marks_len,
         stamps_len
@@ -2536,7 +2546,7 @@ uint64_t model_write_cut(uint32_t s, uint32_t alpha, uint32_t beta,
         return cut_call(&l, &len);
     limit_power(&l, &len, budget, false);
     return whole_call(&l, &len,
-        model_write(s, alpha, beta, d, mu, gamma, c, n, chip, chip_len,
+        model_write(s, alpha, beta, d, mu, gamma, c, n, e, chip, chip_len,
                     ct, ct_len, bt, bt_len, fst, fst_len, bst, bst_len,
                     wear, wear_len, marks, marks_len, stamps, stamps_len,
                     lba, count, data, data_len));
@@ -2546,7 +2556,7 @@ uint64_t model_write_cut(uint32_t s, uint32_t alpha, uint32_t beta,
    it. */
 uint64_t model_queue_cut(uint32_t s, uint32_t alpha, uint32_t beta,
                          uint32_t d, uint32_t mu, uint32_t gamma,
-                         uint32_t c, uint32_t n,
+                         uint32_t c, uint32_t n, uint32_t e,
                          uint8_t *chip, size_t chip_len,
                          uint16_t *ct, size_t ct_len,
                          uint16_t *bt, size_t bt_len,
@@ -2560,7 +2570,7 @@ uint64_t model_queue_cut(uint32_t s, uint32_t alpha, uint32_t beta,
                          uint64_t *answers, size_t answers_len,
                          uint64_t budget)
 {
-    struct params p = make_params(s, alpha, beta, d, mu, gamma, c, n);
+    struct params p = make_params(s, alpha, beta, d, mu, gamma, c, n, e);
     struct lengths len = {
         chip_len, ct_len, bt_len, fst_len, bst_len, wear_len, marks_len,
         stamps_len
@@ -2576,7 +2586,7 @@ uint64_t model_queue_cut(uint32_t s, uint32_t alpha, uint32_t beta,
     }
     limit_power(&l, &len, budget, true);
     return whole_call(&l, &len,
-        model_queue(s, alpha, beta, d, mu, gamma, c, n, chip, chip_len,
+        model_queue(s, alpha, beta, d, mu, gamma, c, n, e, chip, chip_len,
                     ct, ct_len, bt, bt_len, fst, fst_len, bst, bst_len,
                     wear, wear_len, marks, marks_len, stamps, stamps_len,
                     requests, requests_len, data, data_len, answers,
@@ -2586,7 +2596,7 @@ uint64_t model_queue_cut(uint32_t s, uint32_t alpha, uint32_t beta,
 /* A start, until its budget is spent. */
 uint64_t model_start_cut(uint32_t s, uint32_t alpha, uint32_t beta,
                          uint32_t d, uint32_t mu, uint32_t gamma,
-                         uint32_t c, uint32_t n,
+                         uint32_t c, uint32_t n, uint32_t e,
                          uint8_t *chip, size_t chip_len,
                          uint16_t *ct, size_t ct_len,
                          uint16_t *bt, size_t bt_len,
@@ -2597,7 +2607,7 @@ uint64_t model_start_cut(uint32_t s, uint32_t alpha, uint32_t beta,
                          uint32_t *stamps, size_t stamps_len,
                          uint64_t budget)
 {
-    struct params p = make_params(s, alpha, beta, d, mu, gamma, c, n);
+    struct params p = make_params(s, alpha, beta, d, mu, gamma, c, n, e);
     struct lengths len = {
         chip_len, ct_len, bt_len, fst_len, bst_len, wear_len, marks_len,
         stamps_len
@@ -2611,7 +2621,7 @@ uint64_t model_start_cut(uint32_t s, uint32_t alpha, uint32_t beta,
         return cut_call(&l, &len);
     limit_power(&l, &len, budget, false);
     return whole_call(&l, &len,
-        model_start(s, alpha, beta, d, mu, gamma, c, n, chip, chip_len,
+        model_start(s, alpha, beta, d, mu, gamma, c, n, e, chip, chip_len,
                     ct, ct_len, bt, bt_len, fst, fst_len, bst, bst_len,
                     wear, wear_len, marks, marks_len, stamps, stamps_len));
 }

@@ -15,6 +15,8 @@
     X(P_UNBOUNDED, "parameters: P above 256 allowed")                          \
     X(PER_REGION_DOWN, "parameters: C/mu rounded down")                        \
     X(C_UNBOUNDED, "parameters: C above 1,048,576 allowed")                    \
+    X(E_ZERO, "parameters: E = 0 allowed")                                     \
+    X(E_PAST, "parameters: E = 1,000,001 allowed")                             \
     X(LENGTHS_FIRST, "replies: 2 checked before 1")                            \
     X(LENGTH_AT_LEAST, "replies: a table too long is accepted")                \
     X(WEAR_LENGTH, "replies: the length of wear is not checked")               \

@@ -27,6 +27,7 @@
    more. */
 uint64_t cnftl_queue_two(uint32_t s, uint32_t alpha, uint32_t beta, uint32_t d,
                          uint32_t mu, uint32_t gamma, uint32_t c, uint32_t n,
+                         uint32_t e,
                          uint8_t *chip, size_t chip_len,
                          uint16_t *ct, size_t ct_len,
                          uint16_t *bt, size_t bt_len,
@@ -66,7 +67,7 @@ static uint32_t below(uint32_t n)
 }
 
 #define LENT(i)                                                                \
-    p.s, p.alpha, p.beta, p.d, p.mu, p.gamma, p.c, p.n,                        \
+    p.s, p.alpha, p.beta, p.d, p.mu, p.gamma, p.c, p.n, p.e,                   \
     (uint8_t *)lent[i][CHIP], len[CHIP], (uint16_t *)lent[i][CT], len[CT],     \
     (uint16_t *)lent[i][BT], len[BT], (uint16_t *)lent[i][FST], len[FST],      \
     (uint8_t *)lent[i][BST], len[BST], (uint32_t *)lent[i][WEAR], len[WEAR],   \
@@ -77,7 +78,8 @@ static uint32_t below(uint32_t n)
 static void new_board(void)
 {
     p = (struct cnftl_params){ 16 + below(3), 1 + below(3), 1 + below(3),
-                               1 + below(3), 1 + below(3), 2 + below(2), 0, 0 };
+                               1 + below(3), 1 + below(3), 2 + below(2), 0, 0,
+                               1000000 };
     p.c = p.mu * (1 + below(p.gamma * p.beta * p.d - 1));
     p.n = p.mu * p.gamma + 1 + below(3);
     len[CHIP] = cnftl_chip_bytes(&p);
