@@ -21,8 +21,8 @@ use Rattle.rules.specs.Parameters.{blockBytes, frames}
 use Rattle.rules.specs.Regions.{View, assigned, valid, validFrames, view}
 use Rattle.rules.specs.Tables.{Board}
 use Rattle.rules.specs.Write.{Plan, continues, copies, hasRoom, opens, planOf, reclaims}
+use Rattle.rules.proofs.Replays.{fresh-all}
 use Rattle.rules.proofs.Frames.{erased-not, seg-vblock}
-use Rattle.rules.proofs.Opens.{fresh-all}
 use Rattle.rules.proofs.ReclaimView.{body-else, copies-length, copy-at, copy-valid, nth-spec, nthValid, reclaim-base, seg-is}
 use Rattle.rules.proofs.RegionFacts.{Neat}
 use Rattle.rules.proofs.Sizes.{Sizes}

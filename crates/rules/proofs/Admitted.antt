@@ -246,7 +246,7 @@ admitted p b q c =
 pub record FormatAdmitted (p : Params) (b : Board) : Type 0 where
   pub fine : allowed p ≡ true
   pub lengths : lengthsFit p b ≡ true
-  pub enough : p .mu * p .gamma + 1 ≤ goodBlocks p (b .chip)
+  pub enough : p .mu * p .gamma + 1 ≤ goodBlocks p (b .chip) (b .wear)
 
 pub format-admitted : (p : Params) (b : Board) → replyOf p b format ≡ Accepted → FormatAdmitted p b
 unfolding replyOf rowsOf lentRows firstRow badParameter wrongLength tooFewBlocks

@@ -1,7 +1,7 @@
 -- A reclaim never erases a frame before its copy stands. The copies are programs of the free block alone, so that the victim stays as it is until the last of
 -- them is made; then all copies stand, the erase is of another block, and the pages of the new frame lie behind them.
 -- Assumes nothing.
-use mathlib.Core.Path.{_≡_, refl, ap, _∙_}
+use mathlib.Core.Path.{_≡_, refl, sym, ap, _∙_}
 use mathlib.Core.Logic.{_⊎_, inl, inr}
 use Prim.Native.Nat.{ℕ, zero, suc, _+_, _-_, _*_, _≤_, _<_}
 use native.Mathlib.Nat.{mod-lt}
@@ -9,8 +9,9 @@ use native.Mathlib.Omega.{arith}
 use native.Mathlib.Decide.{decLt}
 use mathlib.Core.Bool.{true, false}
 use mathlib.Core.List.{List, [], _∷_, _++_, append-assoc}
-use lib.ListN.{length, getD, take, length-append}
-use lib.Seq.{take-append-add, take-append-le}
+use lib.ListN.{length, getD, take}
+use lib.Seq.{take-all, take-append-add, take-append-le}
+use Rattle.lists.proofs.Lists.{take-append}
 use Rattle.lists.specs.Below.{joinBelow}
 use Rattle.lists.specs.Parts.{part, putPart}
 use Rattle.lists.proofs.Parts.{next, part-length, put-inner, put-length}
@@ -20,9 +21,9 @@ use Rattle.rules.specs.Parameters.{blockBytes, frameBytes, frames, pageB
 use Rattle.rules.specs.Tables.{Board, btAt}
 use Rattle.rules.specs.Pages.{block, frame, page}
 use Rattle.rules.specs.Regions.{View, assigned, validFrames, view}
-use Rattle.rules.specs.Traces.{Op, erase, frameOps, framesOps, onChip, program, replayChip}
+use Rattle.rules.specs.Traces.{Op, eraseOps, frameOps, framesOps, onChip, program, replayChip}
 use Rattle.rules.specs.Requests.{Request, requestCluster, requestRegion}
-use Rattle.rules.specs.Write.{copies, eraseOps, freeBlock, hasRoom, newFrame, nextStamp, planBlock, planErases, planFrame, planOf, planOps, planVBlock, reclaims, roomOps, takesBlock, writeOps}
+use Rattle.rules.specs.Write.{copies, victimOps, freeBlock, hasRoom, newFrame, nextStamp, planBlock, planErases, planFrame, planOf, planOps, planVBlock, reclaims, roomOps, takesBlock, writeOps}
 use Rattle.rules.specs.Machine.{withRoom}
 use Rattle.rules.specs.Words.{CopiesStand, PlanListed}
 use Rattle.rules.proofs.Admitted.{admitted, stamp-left, write-checks, write-free}
@@ -35,7 +36,8 @@ use Rattle.rules.proofs.RegionFacts.{Neat, neat}
 use Rattle.rules.proofs.Replays.{Wholes, other-frame}
 use Rattle.rules.proofs.Sizes.{Sizes}
 use Rattle.rules.proofs.TableFacts.{Tables}
-use Rattle.rules.proofs.Views.{body-size, body-some, free-unnamed, has-block}
+use Rattle.rules.proofs.Views.{block-low, body-size, body-some, free-unnamed, has-block}
+use Rattle.rules.proofs.WornBlocks.{first-else, wear-out-ran}
 use Rattle.rules.proofs.Words.{plan-exactly}
 use Rattle.rules.proofs.WritePromise.{makes}
 
@@ -186,8 +188,8 @@ module _ (p : Params) (z : Sizes p) (b : Board) (t : Tables p b) (r : ℕ) (regi
   adding = frameOps p new (length (validFrames p (view p b r) v)) (newFrame p (view p b r) q (nextStamp b r) v) (p .alpha)
 
   -- these are the plan's operations
-  making-is : making ≡ copying ++ erase old ∷ []
-  unfolding making copying old new roomOps eraseOps planBlock
+  making-is : making ≡ copying ++ eraseOps p (b .wear) old
+  unfolding making copying old new roomOps victimOps planBlock
   making-is = refl
 
   all-is : planOps p b r q (reclaims v) ≡ making ++ adding
@@ -200,42 +202,64 @@ module _ (p : Params) (z : Sizes p) (b : Board) (t : Tables p b) (r : ℕ) (regi
       let f = getD (validFrames p (view p b r) v) i 0 in
       (frame p (block p chip old) f ≡ frame p (block p (b .chip) old) f) ⊎ (frame p (block p chip new) i ≡ frame p (block p (b .chip) old) f)
 
+  copy-fits : new * blockBytes p + blockBytes p ≤ length (b .chip)
+  copy-fits = rw (t .chipLength) (next (blockBytes p) new (p .N) (unfold new in (m .found (unfold takesBlock in refl)) .0))
+
+  copy-from : AllFrom p new 0 copying
+  copy-from =
+      unfold copying in
+      frames-from p new 0 (copies p (view p b r) (reclaims v)) 0 (omega arith) (copies-fit p z r (view p b r) nt full every sized v low few)
+      (wholes p z r (view p b r) nt full every sized v low few)
+
   -- up to the last copy the victim is as it was
   before : (k : ℕ) → k ≤ length copying → block p (replayChip p (b .chip) (take k (planOps p b r q (reclaims v)))) old ≡ block p (b .chip) old
   before k h =
-      rw (all-is, making-is, append-assoc, take-append-le k copying (erase old ∷ [] ++ adding) h)
-      ((all-kept p new 0 (take k copying) (b .chip) fits (from-take p new 0 k copying from)) .else old differ)
-    where
-      fits : new * blockBytes p + blockBytes p ≤ length (b .chip)
-      fits = rw (t .chipLength) (next (blockBytes p) new (p .N) (unfold new in (m .found (unfold takesBlock in refl)) .0))
+      rw (all-is, making-is, append-assoc, take-append-le k copying (eraseOps p (b .wear) old ++ adding) h)
+      ((all-kept p new 0 (take k copying) (b .chip) copy-fits (from-take p new 0 k copying copy-from)) .else old differ)
 
-      from : AllFrom p new 0 copying
-      from =
-          unfold copying in
-          frames-from p new 0 (copies p (view p b r) (reclaims v)) 0 (omega arith) (copies-fit p z r (view p b r) nt full every sized v low few)
-          (wholes p z r (view p b r) nt full every sized v low few)
+  -- from then on the copies stand: the erase and its mark are of another block, and the new frame is behind them
+  fits₁ : new * blockBytes p + blockBytes p ≤ length (replayChip p (b .chip) making)
+  fits₁ = unfold making in rw (m .room .chipLength) (next (blockBytes p) new (p .N) (unfold new in (m .found (unfold takesBlock in refl)) .0))
 
-  -- from then on the copies stand
+  abbrev copied : List ℕ
+  copied = replayChip p (b .chip) copying
+
+  copied-size : length copied ≡ p .N * blockBytes p
+  copied-size = (all-kept p new 0 copying (b .chip) copy-fits copy-from) .size ∙ t .chipLength
+
+  old-fits : old * blockBytes p + blockBytes p ≤ length copied
+  old-fits = rw copied-size (next (blockBytes p) old (p .N) (unfold old in block-low p z b t r v region low (has-block p z b t r v region low (every v low))))
+
+  made-is : replayChip p (b .chip) making ≡ replayChip p copied (eraseOps p (b .wear) old)
+  made-is = rw making-is (replay-append p (b .chip) copying (eraseOps p (b .wear) old))
+
+  copied-here : block p copied new ≡ (withRoom p (view p b r) (reclaims v)) .body v
+  copied-here =
+      sym ((wear-out-ran p z copied old old-fits (b .wear)) .else new (λ e. differ (sym e))) ∙ rw (← made-is) (unfold making new planBlock planVBlock in m .room .here)
+
+  stands-in : (chip : List ℕ) (i : ℕ) → i < length (validFrames p (view p b r) v) → frame p (block p chip new) i ≡ frame p (block p copied new) i
+      → frame p (block p chip new) i ≡ frame p (block p (b .chip) old) (getD (validFrames p (view p b r) v) i 0)
+  stands-in chip i l e =
+      e ∙ ap (λ (blk : List ℕ). frame p blk i) copied-here
+      ∙ unfold nthValid in (frame-copy p z r (view p b r) nt full every sized v low few i l)
+      ∙ ap (λ (blk : List ℕ). frame p blk (getD (validFrames p (view p b r) v) i 0)) (unfold old in body-some p z b t r v region low (has-block p z b t r v region low (every v low)))
+
   after : (k i : ℕ) → length copying < k → i < length (validFrames p (view p b r) v)
       → frame p (block p (replayChip p (b .chip) (take k (planOps p b r q (reclaims v)))) new) i ≡ frame p (block p (b .chip) old) (getD (validFrames p (view p b r) v) i 0)
-  after k i h l =
-      rw (all-is, split, take-append-add making adding (k - length making), replay-append p (b .chip) making (take (k - length making) adding))
-      ((all-kept p new (length (validFrames p (view p b r) v)) (take (k - length making) adding) (replayChip p (b .chip) making) fits (from-take p new _ (k - length making) adding from)) .front i l
-      ∙ ap (λ (blk : List ℕ). frame p blk i) here
-      ∙ unfold nthValid in (frame-copy p z r (view p b r) nt full every sized v low few i l)
-      ∙ ap (λ (blk : List ℕ). frame p blk (getD (validFrames p (view p b r) v) i 0)) (unfold old in body-some p z b t r v region low (has-block p z b t r v region low (every v low))))
+  after k i h l = stands-in _ i l (go (decLt k (length making)))
     where
-      split : k ≡ length making + (k - length making)
-      split = omega (arith, h, ap length making-is ∙ length-append copying (erase old ∷ []))
-
-      here : block p (replayChip p (b .chip) making) new ≡ (withRoom p (view p b r) (reclaims v)) .body v
-      here = unfold making new planBlock planVBlock in m .room .here
-
-      fits : new * blockBytes p + blockBytes p ≤ length (replayChip p (b .chip) making)
-      fits = unfold making in rw (m .room .chipLength) (next (blockBytes p) new (p .N) (unfold new in (m .found (unfold takesBlock in refl)) .0))
-
       from : AllFrom p new (length (validFrames p (view p b r) v)) adding
       from = unfold adding in frame-from p new _ (length (validFrames p (view p b r) v)) (newFrame p (view p b r) q (nextStamp b r) v) (omega arith) few whole (p .alpha) (omega arith)
+
+      go : Dec (k < length making) → frame p (block p (replayChip p (b .chip) (take k (planOps p b r q (reclaims v)))) new) i ≡ frame p (block p copied new) i
+      go (yes a) =
+          rw (all-is, take-append-le k making adding (omega arith), making-is, take-append k copying (eraseOps p (b .wear) old), take-all k copying (omega arith), replay-append p (b .chip) copying)
+          (ap (λ (blk : List ℕ). frame p blk i) (first-else p z copied old old-fits (b .wear) (k - length copying) new (λ e. differ (sym e))))
+      go (no a) =
+          let split : k ≡ length making + (k - length making) = omega arith in
+          rw (all-is, split, take-append-add making adding (k - length making), replay-append p (b .chip) making (take (k - length making) adding))
+          ((all-kept p new (length (validFrames p (view p b r) v)) (take (k - length making) adding) (replayChip p (b .chip) making) fits₁ (from-take p new _ (k - length making) adding from)) .front i l
+          ∙ ap (λ (blk : List ℕ). frame p blk i) (rw made-is ((wear-out-ran p z copied old old-fits (b .wear)) .else new (λ e. differ (sym e)))))
 
   -- so at any time
   plan-stands : (k i : ℕ) → i < length (validFrames p (view p b r) v) → Stands (replayChip p (b .chip) (take k (planOps p b r q (reclaims v)))) i

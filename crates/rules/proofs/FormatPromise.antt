@@ -1,11 +1,11 @@
--- An accepted format leaves an orderly state, whose sectors all read as 255, does not touch a bad block, and erases every other.
+-- An accepted format leaves an orderly state, whose sectors all read as 255, does not touch a bad block, and erases every other, with a mark on those that it wears out.
 -- Assumes nothing.
 use mathlib.Core.Path.{_≡_, refl, sym, ap, _∙_}
 use mathlib.Core.Logic.{inl}
 use Prim.Native.Nat.{ℕ, _+_, _-_, _*_, _≤_, _<_}
 use native.Mathlib.Omega.{arith}
 use native.Mathlib.Decide.{decLt}
-use mathlib.Core.Bool.{Bool, true, false, not, cond}
+use mathlib.Core.Bool.{Bool, true, false, not, _&&_, cond}
 use mathlib.Core.List.{List, []}
 use lib.Dec.{eqb, ltb}
 use lib.ListN.{length, getD, replicate, length-replicate, getD-replicate, List·getD-eq-default}
@@ -23,17 +23,16 @@ use Rattle.rules.specs.Regions.{assigned, bodyAt, sector, sectorIn, view
 use Rattle.rules.specs.Marks.{marksOf}
 use Rattle.rules.specs.Requests.{format}
 use Rattle.rules.specs.Orderly.{enough, orderly, stampRule}
-use Rattle.rules.specs.Traces.{eraseWhere}
+use Rattle.rules.specs.Traces.{eraseWhere, erasedState, worn}
 use Rattle.rules.specs.Format.{bad, formatOps, formatted, goodBlocks}
 use Rattle.rules.specs.Replies.{lengthsFit, replyOf}
-use Rattle.rules.specs.Machine.{erasedBlock}
 use Rattle.rules.proofs.Admitted.{FormatAdmitted, format-admitted, orderly-all}
 use Rattle.rules.proofs.Erases.{Cleared, erases-ran, erasesBelow}
-use Rattle.rules.proofs.Opens.{fresh-all}
 use Rattle.rules.proofs.RegionFacts.{neat-none, regionOrderly}
 use Rattle.rules.proofs.Sizes.{Sizes, sizes}
 use Rattle.rules.proofs.Stamps.{programmed-has, stamps-out}
 use Rattle.rules.proofs.TableFacts.{Lengths, Tables, lengths-in, lengths-out}
+use Rattle.rules.proofs.WornBlocks.{leftBlock, state-free}
 use Rattle.rules.proofs.Writes.{wear-length}
 
 -- ---- the state that is left
@@ -54,13 +53,13 @@ module _ (p : Params) (b : Board) (e : replyOf p b format ≡ Accepted) where
   abbrev good : ℕ → Bool
   good n = not (bad p (b .chip) n)
 
-  cleared : Cleared p good (b .chip) ((formatted p b) .chip) (p .N)
+  cleared : Cleared p (b .wear) good (b .chip) ((formatted p b) .chip) (p .N)
   unfolding formatted formatOps eraseWhere erasesBelow
-  cleared = erases-ran p good (b .chip) chip-fits (p .N) (omega arith)
+  cleared = erases-ran p z (b .wear) good (b .chip) chip-fits (p .N) (omega arith)
 
-  pub kind : (m : ℕ) → m < p .N → bstAt ((formatted p b) .bst) m ≡ cond (bad p (b .chip) m) 2 0
-  unfolding bstAt formatted
-  kind m h = tab-at (p .N) (λ n. cond (bad p (b .chip) n) 2 0) m 0 h
+  pub kind : (m : ℕ) → m < p .N → bstAt ((formatted p b) .bst) m ≡ cond (bad p (b .chip) m) 2 (cond (worn p (b .wear) m) 2 0)
+  unfolding bstAt formatted erasedState
+  kind m h = tab-at (p .N) (λ n. cond (bad p (b .chip) n) 2 (cond (worn p (b .wear) n) 2 0)) m 0 h
 
   getD-none : (n i : ℕ) → getD (replicate n none) i none ≡ none
   getD-none n i = go (decLt i n)
@@ -73,11 +72,14 @@ module _ (p : Params) (b : Board) (e : replyOf p b format ≡ Accepted) where
   unfolding btEntry formatted
   entry i = getD-none (p .mu * p .gamma) i
 
-  two : (t : Bool) → (cond {A = ℕ} t 2 0 ≤ 2) × (cond {A = ℕ} t 2 0 ≡ 1 → ⊥) × (cond {A = ℕ} t 2 0 ≡ 0 → t ≡ false) × (not (eqb (cond t 2 0) 2) ≡ not t)
-  two true = (omega arith, λ x. omega arith, λ x. absurd (omega arith), refl)
-  two false = (omega arith, λ x. omega arith, λ x. refl, refl)
+  -- a bad or a worn block is reserved, every other is free
+  two : (t w : Bool) → (cond {A = ℕ} t 2 (cond w 2 0) ≤ 2) × (cond {A = ℕ} t 2 (cond w 2 0) ≡ 1 → ⊥) × (cond {A = ℕ} t 2 (cond w 2 0) ≡ 0 → (t ≡ false) × (w ≡ false))
+      × (not (eqb (cond t 2 (cond w 2 0)) 2) ≡ not t && not w)
+  two true w = (omega arith, λ x. omega arith, λ x. absurd (omega arith), refl)
+  two false true = (omega arith, λ x. omega arith, λ x. absurd (omega arith), refl)
+  two false false = (omega arith, λ x. omega arith, λ x. (refl, refl), refl)
 
-  good-enough : p .mu * p .gamma + 1 ≤ countBelow (p .N) (λ m. not (bad p (b .chip) m))
+  good-enough : p .mu * p .gamma + 1 ≤ countBelow (p .N) (λ m. not (bad p (b .chip) m) && not (worn p (b .wear) m))
   unfolding goodBlocks
   good-enough = checks .enough
 
@@ -89,15 +91,17 @@ module _ (p : Params) (b : Board) (e : replyOf p b format ≡ Accepted) where
         ctLength = length-replicate (p .C) none;
         btLength = length-replicate (p .mu * p .gamma) none;
         fstLength = length-replicate (p .mu) none;
-        bstLength = tab-length (p .N) (λ n. cond (bad p (b .chip) n) 2 0);
-        wearLength = wear-length (b .wear) (formatOps p (b .chip)) ∙ lengths .wearLength;
+        bstLength = tab-length (p .N) _;
+        wearLength = wear-length (b .wear) (formatOps p (b .chip) (b .wear)) ∙ lengths .wearLength;
         stampsLength = length-replicate (p .mu) 0;
-        kinds = λ m h. rw (kind m h) ((two (bad p (b .chip) m)) .0);
+        kinds = λ m h. rw (kind m h) ((two (bad p (b .chip) m) (worn p (b .wear) m)) .0);
         names = λ i h. inl (entry i);
         once = λ i j hi hj x ne. absurd (ne (entry i));
-        used = λ m h x. absurd ((two (bad p (b .chip) m)) .1 (sym (kind m h) ∙ x));
+        used = λ m h x. absurd ((two (bad p (b .chip) m) (worn p (b .wear) m)) .1 (sym (kind m h) ∙ x));
         usedBack = λ i h m k x. absurd (omega (arith, entry i, x, z .blocks));
-        free = λ m h x. rw (cleared .done m h (ap not ((two (bad p (b .chip) m)) .2 (sym (kind m h) ∙ x)))) (fresh-all p);
+        free = λ m h x.
+            let w = (two (bad p (b .chip) m) (worn p (b .wear) m)) .2 (sym (kind m h) ∙ x) in
+            rw (cleared .done m h (ap not (w .0)), w .1) (state-free p false refl);
       }
 
   -- at least μγ+1 blocks are not reserved
@@ -105,7 +109,8 @@ module _ (p : Params) (b : Board) (e : replyOf p b format ≡ Accepted) where
   unfolding enough
   format-enough =
       le-leb (p .mu * p .gamma + 1) (countBelow (p .N) (λ m. not (eqb (bstAt ((formatted p b) .bst) m) 2)))
-      (rw (count-cong (p .N) (λ m. not (eqb (bstAt ((formatted p b) .bst) m) 2)) (λ m. not (bad p (b .chip) m)) (λ m h. rw (kind m h) ((two (bad p (b .chip) m)) .3)))
+      (rw (count-cong (p .N) (λ m. not (eqb (bstAt ((formatted p b) .bst) m) 2)) (λ m. not (bad p (b .chip) m) && not (worn p (b .wear) m))
+      (λ m h. rw (kind m h) ((two (bad p (b .chip) m) (worn p (b .wear) m)) .3)))
       good-enough)
 
   pub lacks : (r v : ℕ) → assigned (view p (formatted p b) r) v ≡ false
@@ -153,6 +158,6 @@ module _ (p : Params) (b : Board) (e : replyOf p b format ≡ Accepted) where
   pub format-bad : (m : ℕ) → bad p (b .chip) m ≡ true → block p ((formatted p b) .chip) m ≡ block p (b .chip) m
   format-bad m e = cleared .kept m (ap not e)
 
-  -- and every other block is erased
-  pub format-good : (m : ℕ) → m < p .N → bad p (b .chip) m ≡ false → block p ((formatted p b) .chip) m ≡ erasedBlock p
+  -- and every other block is erased, and marked where that wears it out
+  pub format-good : (m : ℕ) → m < p .N → bad p (b .chip) m ≡ false → block p ((formatted p b) .chip) m ≡ leftBlock p (worn p (b .wear) m)
   format-good m h e = cleared .done m h (ap not e)

@@ -19,6 +19,9 @@ pub mod RegionKept
 pub mod NewFrames
 pub mod Continues
 pub mod Opens
+pub mod BadBytes
+pub mod MarkedBlocks
+pub mod WornBlocks
 pub mod Victims
 pub mod ReclaimView
 pub mod Reclaims
@@ -39,4 +42,3 @@ pub mod OrderlyWords
 pub mod BegunWords
 pub mod LooksWords
 pub mod BadBlocks
-pub mod MarkedBlocks

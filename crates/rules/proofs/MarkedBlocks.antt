@@ -22,9 +22,8 @@ use Rattle.rules.specs.Pages.{block, filled, frame, holds, lastIn, page,
 use Rattle.rules.specs.Traces.{clean, erase, erasesIn, isErase, isProgram, mark, markPage, onChip, pageAt, programsIn, replayChip}
 use Rattle.rules.specs.Format.{bad, badMark}
 use Rattle.rules.specs.Words.{MarkExactly, MarksUnreported}
-use Rattle.rules.proofs.BadBlocks.{bytes-bad, frame-spare, page-fits}
-use Rattle.rules.proofs.Opens.{fresh-all}
-use Rattle.rules.proofs.Replays.{Ran, block-size, erase-ran, one-fits}
+use Rattle.rules.proofs.BadBytes.{bytes-bad, frame-spare, page-fits}
+use Rattle.rules.proofs.Replays.{Ran, block-size, erase-ran, fresh-all, one-fits}
 use Rattle.rules.proofs.Sizes.{Sizes, sizes, some-page}
 use Rattle.rules.proofs.TableFacts.{chip-size}
 

@@ -35,7 +35,7 @@ use Rattle.rules.specs.Orderly.{
   rulesOf,
   orderly,
 }
-use Rattle.rules.specs.Traces.{markPage, onChip, onWear, replayChip, replayWear, clean, isProgram, isErase, programsIn, erasesIn, eraseWhere, frameOps, framesOps}
+use Rattle.rules.specs.Traces.{markPage, onChip, onWear, replayChip, replayWear, clean, isProgram, isErase, programsIn, erasesIn, worn, eraseOps, erasedState, eraseWhere, frameOps, framesOps}
 use Rattle.rules.specs.Requests.{lies, itemRequest, itemRequests, lent, lentAnswers}
 use Rattle.rules.specs.Format.{badMark, bad, goodBlocks, formatOps, formatted}
 use Rattle.rules.specs.Start.{
@@ -79,7 +79,7 @@ use Rattle.rules.specs.Write.{
   newFrame,
   freeBlock,
   planBlock,
-  eraseOps,
+  victimOps,
   roomOps,
   planOps,
   followCt,
@@ -125,9 +125,9 @@ unfolding allBelow allTrue countBelow firstBelow lastBelow leastBelow mostBelow 
     frameBytes blockBytes chipBytes perRegion within allowed ctAt btEntry btAt fstAt bstAt wearAt wordAt stampAt block frame page spare le32 bytes32 spareBytes held stampOf vblockIn pageUsed programmed whole holds
     filled isFull lastIn programmedDownTo bodyAt viewOf assigned valid validFrames frameOf sectorIn sector looksIn looksAt regionFrames frameIn stampIn largestStamp wordOf entryOf tableOf marked marksIn bstRule btRule
     onceRule named usedRule freeRule usedPages goodPages goodFrame goodUpTo blockRule regionBlocks blocksRule fullRule openRule regionFst fstRule entryRule clusterRule ctRule marksRule stampsTo regionStamps stampRule
-    rulesOf orderly markPage onChip onWear replayChip replayWear clean isProgram isErase programsIn erasesIn eraseWhere frameOps framesOps lies itemRequest itemRequests lent lentAnswers badMark bad
+    rulesOf orderly markPage onChip onWear replayChip replayWear clean isProgram isErase programsIn erasesIn worn eraseOps erasedState eraseWhere frameOps framesOps lies itemRequest itemRequests lent lentAnswers badMark bad
     goodBlocks formatOps formatted inUse regionNamed vblockNamed sound names namesFull namesOpen fullBlock keptBlock leftOver startOps foundBt foundView soundRule pairRule
-    isOpen openOnce sameStamp stampsApart regionStarts startable foundSegment foundFst started hasRoom lowestUnassigned victim planOf planVBlock takesBlock copies planFrame planErases newSector newPage newFrame freeBlock planBlock eraseOps
+    isOpen openOnce sameStamp stampsApart regionStarts startable foundSegment foundFst started hasRoom lowestUnassigned victim planOf planVBlock takesBlock copies planFrame planErases newSector newPage newFrame freeBlock planBlock victimOps
     roomOps planOps followCt planBst nextStamp writtenBy writeOps written released isAccepted lengthsFit badParameter wrongLength badCount badAddress badCluster wrongData tooFewBlocks
     notOrderly notStartable tooFewAnswers noStampLeft noBlockLeft firstRow lentRows accessRows orderRow stampRow blockRow earlyRows rowsOf replyOf whyRows whyReply answerOf single refuses does readBytes writeWork writeAll queueWork workOf
     opsOf over answersIn outcomeOf

@@ -8,7 +8,7 @@ use native.Mathlib.Decide.{ℕ-discrete}
 use mathlib.Core.Bool.{true, false}
 use mathlib.Core.List.{List}
 use borrow.Author.Tests.{ne-eqb, ltb-false}
-use lib.ListN.{length, replicate, length-set, length-replicate}
+use lib.ListN.{length, replicate, length-set}
 use lib.Seq.{getD-set-same, getD-set-other}
 use Rattle.lists.specs.Parts.{allAre}
 use Rattle.lists.proofs.Joins.{allAre-part, allAre-replicate, replicate-of, updated-other, updated-same}
@@ -21,7 +21,7 @@ use Rattle.rules.specs.Tables.{Board, bstAt, btAt, ctAt, none}
 use Rattle.rules.specs.Pages.{block, filled, frame, held, programmed}
 use Rattle.rules.specs.Regions.{View, assigned, frameOf, sectorIn, view}
 use Rattle.rules.specs.Traces.{clean, framesOps, replayChip}
-use Rattle.rules.specs.Write.{copies, eraseOps, followCt, freeBlock, hasRoom, opens, planBlock, planBst, planFrame, planVBlock, roomOps}
+use Rattle.rules.specs.Write.{copies, victimOps, followCt, freeBlock, hasRoom, opens, planBlock, planBst, planFrame, planVBlock, roomOps}
 use Rattle.rules.specs.Machine.{erasedBlock, withRoom}
 use Rattle.rules.proofs.Continues.{Makes, frames-pos, segs-in, segs-out}
 use Rattle.rules.proofs.Sizes.{Sizes}
@@ -29,21 +29,13 @@ use Rattle.rules.proofs.Stamps.{Stood}
 use Rattle.rules.proofs.Frames.{erased-not}
 use Rattle.rules.proofs.RegionFacts.{Entry, Neat, Open, UpTo, filled-le, neat}
 use Rattle.rules.proofs.RegionKept.{Base}
-use Rattle.rules.proofs.Replays.{block-size}
+use Rattle.rules.proofs.Replays.{block-size, fresh-size}
 use Rattle.rules.proofs.TableFacts.{Tables}
 use Rattle.rules.proofs.Views.{HasFree, free-unnamed, no-block}
 
 pub fresh-frame : (p : Params) (g : ℕ) → allAre 255 (frame p (erasedBlock p) g) ≡ true
 unfolding erasedBlock frame
 fresh-frame p g = allAre-part 255 (frameBytes p) g (replicate (blockBytes p) 255) (allAre-replicate 255 (blockBytes p))
-
-pub fresh-all : (p : Params) → allAre 255 (erasedBlock p) ≡ true
-unfolding erasedBlock
-fresh-all p = allAre-replicate 255 (blockBytes p)
-
-pub fresh-size : (p : Params) → length (erasedBlock p) ≡ blockBytes p
-unfolding erasedBlock
-fresh-size p = length-replicate (blockBytes p) 255
 
 pub erased-fresh : (p : Params) (blk : List ℕ) → length blk ≡ blockBytes p → allAre 255 blk ≡ true → blk ≡ erasedBlock p
 unfolding erasedBlock
@@ -148,7 +140,7 @@ module _ (p : Params) (z : Sizes p) (b : Board) (t : Tables p b) (r : ℕ) (regi
   unnamed = no-block p z b t r v region low (frames-pos p z) lacks
 
   pub open-makes : Makes p b r (opens v)
-  unfolding planVBlock planBlock planFrame roomOps framesOps eraseOps copies followCt replayChip planBst clean
+  unfolding planVBlock planBlock planFrame roomOps framesOps victimOps copies followCt replayChip planBst clean
   open-makes =
       record {
         room =
@@ -174,7 +166,7 @@ module _ (p : Params) (z : Sizes p) (b : Board) (t : Tables p b) (r : ℕ) (regi
         was = λ e. omega (arith, w .1);
         kindHere = getD-set-same (b .bst) (freeBlock p (b .bst) (b .wear)) 1 0 (rw (t .bstLength) (w .0));
         kindOld = λ ne k. absurd (k unnamed);
-        eraseOld = λ ne k. absurd (k unnamed);
+        blockOld = λ ne k. absurd (k unnamed);
         kindElse = λ m h ne k. unfold bstAt in getD-set-other (b .bst) (freeBlock p (b .bst) (b .wear)) m 1 0 ne;
         blockElse = λ m h ne k. refl;
       }

@@ -106,7 +106,7 @@ unfolding outcomeOf single over answersIn
 one-outcome p b c a bytes ops b′ e = rw e
 
 pub format-accepted : (p : Params) (b : Board) → replyOf p b format ≡ Accepted
-    → outcomeOf p b format ≡ record { answer = answerOf Accepted (formatOps p (b .chip)) 0; bytes = []; answers = []; board = formatted p b }
+    → outcomeOf p b format ≡ record { answer = answerOf Accepted (formatOps p (b .chip) (b .wear)) 0; bytes = []; answers = []; board = formatted p b }
 unfolding workOf
 format-accepted p b e = one-outcome p b format _ _ _ _ (work-accepted p b format _ _ _ _ e)
 
@@ -126,7 +126,7 @@ unfolding workOf
 release-accepted p b c e = one-outcome p b (release c) _ _ _ _ (work-accepted p b (release c) _ _ _ _ e)
 
 pub start-accepted : (p : Params) (b : Board) → replyOf p b start ≡ Accepted
-    → outcomeOf p b start ≡ record { answer = answerOf Accepted (startOps p (b .chip)) 0; bytes = []; answers = []; board = started p b }
+    → outcomeOf p b start ≡ record { answer = answerOf Accepted (startOps p (b .chip) (b .wear)) 0; bytes = []; answers = []; board = started p b }
 unfolding workOf
 start-accepted p b e = one-outcome p b start _ _ _ _ (work-accepted p b start _ _ _ _ e)
 

@@ -9,7 +9,7 @@ use native.Mathlib.Decide.{ℕ-discrete, decLt}
 use mathlib.Core.Bool.{Bool, true, false, _&&_}
 use mathlib.Core.List.{List, []}
 use lib.Dec.{eqb, ltb}
-use borrow.Author.Tests.{eqb-true, eq-eqb, ne-eqb, lt-ltb}
+use borrow.Author.Tests.{eq-eqb, ne-eqb, lt-ltb}
 use lib.ListN.{length, getD, length-map}
 use Rattle.lists.specs.Below.{countBelow}
 use Rattle.lists.specs.Parts.{allAre}
@@ -30,11 +30,11 @@ use Rattle.rules.proofs.Following.{follow-hit, follow-miss}
 use Rattle.rules.proofs.FramePut.{last-holds}
 use Rattle.rules.proofs.Sizes.{Sizes}
 use Rattle.rules.proofs.Frames.{erased-holds, erased-not, seg-low, seg-place, seg-vblock}
-use Rattle.rules.proofs.Opens.{all-full, fresh-frame, fresh-size}
+use Rattle.rules.proofs.Opens.{all-full, fresh-frame}
 use Rattle.rules.proofs.RegionFacts.{Entry, GoodFrame, Neat, UpTo, good-held, neat}
 use Rattle.rules.proofs.RegionKept.{Base}
 use Rattle.rules.proofs.Stamps.{Stood}
-use Rattle.rules.proofs.Replays.{Wholes, one-fits, put-frames-else, put-frames-new, put-frames-size}
+use Rattle.rules.proofs.Replays.{Wholes, fresh-size, one-fits, put-frames-else, put-frames-new, put-frames-size}
 use Rattle.rules.proofs.Victims.{Valid, good-at, valid-in, valid-one, valid-out}
 use Rattle.rules.proofs.Views.{some-bytes}
 

@@ -4,7 +4,7 @@ use mathlib.Core.Path.{_≡_, refl, sym, ap, _∙_}
 use Prim.Native.Nat.{ℕ, _+_, _-_, _*_, _≤_, _<_}
 use native.Mathlib.Omega.{arith}
 use mathlib.Core.Bool.{true, false}
-use mathlib.Core.List.{[], _∷_}
+use mathlib.Core.List.{[]}
 use lib.ListN.{length, getD, set, length-set}
 use lib.Seq.{getD-set-same, getD-set-other}
 use Rattle.lists.proofs.Parts.{next}
@@ -14,18 +14,19 @@ use Rattle.rules.specs.Numbers.{regionOf}
 use Rattle.rules.specs.Tables.{Board, bstAt, btAt, btEntry, ctAt, none}
 use Rattle.rules.specs.Pages.{block, held}
 use Rattle.rules.specs.Regions.{assigned, validFrames, view}
-use Rattle.rules.specs.Traces.{clean, erase, framesOps, replayChip}
-use Rattle.rules.specs.Write.{copies, eraseOps, freeBlock, hasRoom, planBlock, planBst, planFrame, planVBlock, reclaims, roomOps}
-use Rattle.rules.specs.Machine.{erasedBlock, follow, putFrames, withRoom}
+use Rattle.rules.specs.Traces.{clean, eraseOps, erasedState, framesOps, replayChip, worn}
+use Rattle.rules.specs.Write.{copies, victimOps, freeBlock, hasRoom, planBlock, planBst, planFrame, planVBlock, reclaims, roomOps}
+use Rattle.rules.specs.Machine.{follow, putFrames, withRoom}
 use Rattle.rules.proofs.Chip.{clean-append, replay-append}
 use Rattle.rules.proofs.Continues.{Makes, segs-in, segs-out}
 use Rattle.rules.proofs.Following.{follow-ct, follow-length, follow-miss}
 use Rattle.rules.proofs.Sizes.{Sizes}
 use Rattle.rules.proofs.Isolation.{index-low}
-use Rattle.rules.proofs.Opens.{free-fresh, fresh-all, fresh-frame}
+use Rattle.rules.proofs.Opens.{free-fresh, fresh-frame}
 use Rattle.rules.proofs.ReclaimView.{body-else, body-here, copies-fit, copies-length, copy-at, nth-spec, nthValid, reclaim-base, reclaim-reads, reclaim-stood, seg-is, wholes}
 use Rattle.rules.proofs.RegionFacts.{GoodFrame, Neat, neat}
-use Rattle.rules.proofs.Replays.{Ran, erase-clean, erase-ran, frames-clean, frames-ran}
+use Rattle.rules.proofs.Replays.{Ran, frames-clean, frames-ran}
+use Rattle.rules.proofs.WornBlocks.{leftBlock, wear-out-clean, wear-out-ran}
 use Rattle.rules.proofs.TableFacts.{Tables}
 use Rattle.rules.proofs.Victims.{good-at}
 use Rattle.rules.proofs.Views.{HasFree, block-low, body-size, chip-fits, free-unnamed, has-block}
@@ -65,13 +66,13 @@ module _ (p : Params) (z : Sizes p) (b : Board) (t : Tables p b) (r : ℕ) (regi
 
   -- the chip once the victim is erased
   chip-is : replayChip p (b .chip) (roomOps p b r (reclaims v)) ≡ replayChip p
-      (replayChip p (b .chip) (framesOps p (freeBlock p (b .bst) (b .wear)) 0 (copies p (view p b r) (reclaims v)))) (erase (btAt p (b .bt) r v) ∷ [])
-  unfolding roomOps eraseOps planBlock
-  chip-is = replay-append p (b .chip) (framesOps p (freeBlock p (b .bst) (b .wear)) 0 (copies p (view p b r) (reclaims v))) (erase (btAt p (b .bt) r v) ∷ [])
+      (replayChip p (b .chip) (framesOps p (freeBlock p (b .bst) (b .wear)) 0 (copies p (view p b r) (reclaims v)))) (eraseOps p (b .wear) (btAt p (b .bt) r v))
+  unfolding roomOps victimOps planBlock
+  chip-is = replay-append p (b .chip) (framesOps p (freeBlock p (b .bst) (b .wear)) 0 (copies p (view p b r) (reclaims v))) (eraseOps p (b .wear) (btAt p (b .bt) r v))
 
   erased : Ran p (replayChip p (b .chip) (framesOps p (freeBlock p (b .bst) (b .wear)) 0 (copies p (view p b r) (reclaims v))))
-      (replayChip p (b .chip) (roomOps p b r (reclaims v))) (btAt p (b .bt) r v) (erasedBlock p)
-  erased = rw chip-is (erase-ran p _ (btAt p (b .bt) r v) old-fits)
+      (replayChip p (b .chip) (roomOps p b r (reclaims v))) (btAt p (b .bt) r v) (leftBlock p (worn p (b .wear) (btAt p (b .bt) r v)))
+  erased = rw chip-is (wear-out-ran p z _ (btAt p (b .bt) r v) old-fits (b .wear))
 
   block-new : block p (replayChip p (b .chip) (roomOps p b r (reclaims v))) (freeBlock p (b .bst) (b .wear)) ≡ (withRoom p (view p b r) (reclaims v)) .body v
   block-new =
@@ -99,11 +100,11 @@ module _ (p : Params) (z : Sizes p) (b : Board) (t : Tables p b) (r : ℕ) (regi
   missed c ne s = follow-miss p v c (copies p (view p b r) (reclaims v)) 0 s (λ i h e. ne (ap (regionOf p) (sym e) ∙ (good-copy i h) .mine))
 
   tidy : clean p (b .chip) (roomOps p b r (reclaims v)) ≡ true
-  unfolding roomOps eraseOps planBlock
+  unfolding roomOps victimOps planBlock
   tidy =
-      clean-append p (b .chip) (framesOps p (freeBlock p (b .bst) (b .wear)) 0 (copies p (view p b r) (reclaims v))) (erase (btAt p (b .bt) r v) ∷ [])
+      clean-append p (b .chip) (framesOps p (freeBlock p (b .bst) (b .wear)) 0 (copies p (view p b r) (reclaims v))) (eraseOps p (b .wear) (btAt p (b .bt) r v))
       (frames-clean p (freeBlock p (b .bst) (b .wear)) (copies p (view p b r) (reclaims v)) 0 (b .chip) free-fits whole fit (λ g a h. rw (free-fresh p z b t w) (fresh-frame p g)))
-      (erase-clean p _ (btAt p (b .bt) r v) old-fits)
+      (wear-out-clean p z _ (btAt p (b .bt) r v) old-fits (b .wear))
 
   pub reclaim-makes : Makes p b r (reclaims v)
   unfolding planVBlock planBlock planFrame planBst
@@ -129,14 +130,15 @@ module _ (p : Params) (z : Sizes p) (b : Board) (t : Tables p b) (r : ℕ) (regi
         reads = reclaim-reads p z r (view p b r) neat no-room every sized v low few;
         stood = reclaim-stood p z r (view p b r) neat no-room every sized v low few;
         found = λ e. w;
-        bstLength = length-set (set (b .bst) (freeBlock p (b .bst) (b .wear)) 1) (btAt p (b .bt) r v) 0 ∙ length-set (b .bst) (freeBlock p (b .bst) (b .wear)) 1 ∙ t .bstLength;
+        bstLength = length-set (set (b .bst) (freeBlock p (b .bst) (b .wear)) 1) (btAt p (b .bt) r v) _ ∙ length-set (b .bst) (freeBlock p (b .bst) (b .wear)) 1 ∙ t .bstLength;
         was = λ e. omega (arith, w .1);
-        kindHere = getD-set-other (set (b .bst) (freeBlock p (b .bst) (b .wear)) 1) (btAt p (b .bt) r v) (freeBlock p (b .bst) (b .wear)) 0 0 (λ e. differ (sym e)) ∙
+        kindHere = getD-set-other (set (b .bst) (freeBlock p (b .bst) (b .wear)) 1) (btAt p (b .bt) r v) (freeBlock p (b .bst) (b .wear)) (erasedState p (b .wear) (btAt p (b .bt) r v)) 0 (λ e. differ (sym e)) ∙
             getD-set-same (b .bst) (freeBlock p (b .bst) (b .wear)) 1 0 (rw (t .bstLength) (w .0));
-        kindOld = λ ne k. getD-set-same (set (b .bst) (freeBlock p (b .bst) (b .wear)) 1) (btAt p (b .bt) r v) 0 0
-            (rw (length-set (b .bst) (freeBlock p (b .bst) (b .wear)) 1, t .bstLength) (block-low p z b t r v region low taken));
-        eraseOld = λ ne k. rw (erased .here) (fresh-all p);
-        kindElse = λ m h ne k. unfold bstAt in (getD-set-other (set (b .bst) (freeBlock p (b .bst) (b .wear)) 1) (btAt p (b .bt) r v) m 0 0 k ∙ getD-set-other (b .bst)
+        kindOld = λ ne k. getD-set-same (set (b .bst) (freeBlock p (b .bst) (b .wear)) 1) (btAt p (b .bt) r v) (erasedState p (b .wear) (btAt p (b .bt) r v)) 0
+            (rw (length-set (b .bst) (freeBlock p (b .bst) (b .wear)) 1, t .bstLength) (block-low p z b t r v region low taken))
+            ∙ unfold erasedState in refl;
+        blockOld = λ ne k. erased .here;
+        kindElse = λ m h ne k. unfold bstAt in (getD-set-other (set (b .bst) (freeBlock p (b .bst) (b .wear)) 1) (btAt p (b .bt) r v) m (erasedState p (b .wear) (btAt p (b .bt) r v)) 0 k ∙ getD-set-other (b .bst)
             (freeBlock p (b .bst) (b .wear)) m 1 0 ne);
         blockElse = λ m h ne k. block-same m ne k;
       }

@@ -1,23 +1,24 @@
 -- A write leaves the tables' rules standing.
 -- Assumes nothing.
 use mathlib.Core.Path.{_≡_, sym, ap, _∙_}
-use mathlib.Core.Logic.{_⊎_, inr}
+use mathlib.Core.Logic.{_⊎_, inl, inr}
 use Prim.Native.Nat.{ℕ, _-_, _*_, _≤_, _<_}
 use native.Mathlib.Omega.{arith}
 use native.Mathlib.Decide.{ℕ-discrete}
-use mathlib.Core.Bool.{true}
-use lib.Dec.{eqb}
-use borrow.Author.Tests.{ne-eqb}
+use mathlib.Core.Bool.{Bool, true, cond}
 use lib.ListN.{length}
 use Rattle.lists.specs.Parts.{allAre}
 use Rattle.rules.specs.declared.Params.{Params}
 use Rattle.rules.specs.Parameters.{blockBytes}
 use Rattle.rules.specs.Tables.{Board, bstAt, btEntry, none}
 use Rattle.rules.specs.Pages.{block}
+use Rattle.rules.specs.Format.{bad}
+use Rattle.rules.proofs.BadBytes.{bytes-bad}
 use Rattle.rules.proofs.Sizes.{Sizes}
 use Rattle.rules.proofs.TableFacts.{Tables}
+use Rattle.rules.proofs.WornBlocks.{left-bad, leftBlock, state-free, state-low, state-reserved}
 
--- entry k of BT comes to name block n, which is used from now on; the block that it named before, if another, is free and erased
+-- entry k of BT comes to name block n, which is used from now on; the block that it named before, if another, is free and erased, or worn out and reserved
 pub record Change (p : Params) (b b′ : Board) (k n : ℕ) : Type 0 where
   pub chipLength : length (b′ .chip) ≡ p .N * blockBytes p
   pub ctLength : length (b′ .ct) ≡ p .C
@@ -33,8 +34,9 @@ pub record Change (p : Params) (b b′ : Board) (k n : ℕ) : Type 0 where
   pub own : (i : ℕ) → i < p .mu * p .gamma → (i ≡ k → ⊥) → (btEntry (b .bt) i ≡ none → ⊥) → btEntry (b .bt) i ≡ n → ⊥
   pub was : bstAt (b .bst) n ≡ 2 → ⊥
   pub kindHere : bstAt (b′ .bst) n ≡ 1
-  pub kindOld : (btEntry (b .bt) k ≡ n → ⊥) → (btEntry (b .bt) k ≡ none → ⊥) → bstAt (b′ .bst) (btEntry (b .bt) k) ≡ 0
-  pub eraseOld : (btEntry (b .bt) k ≡ n → ⊥) → (btEntry (b .bt) k ≡ none → ⊥) → allAre 255 (block p (b′ .chip) (btEntry (b .bt) k)) ≡ true
+  pub wornOut : Bool
+  pub kindOld : (btEntry (b .bt) k ≡ n → ⊥) → (btEntry (b .bt) k ≡ none → ⊥) → bstAt (b′ .bst) (btEntry (b .bt) k) ≡ cond wornOut 2 0
+  pub blockOld : (btEntry (b .bt) k ≡ n → ⊥) → (btEntry (b .bt) k ≡ none → ⊥) → block p (b′ .chip) (btEntry (b .bt) k) ≡ leftBlock p wornOut
   pub kindElse : (m : ℕ) → m < p .N → (m ≡ n → ⊥) → (m ≡ btEntry (b .bt) k → ⊥) → bstAt (b′ .bst) m ≡ bstAt (b .bst) m
   pub blockElse : (m : ℕ) → m < p .N → (m ≡ n → ⊥) → (m ≡ btEntry (b .bt) k → ⊥) → block p (b′ .chip) m ≡ block p (b .chip) m
 
@@ -56,7 +58,7 @@ module _ (p : Params) (z : Sizes p) (b b′ : Board) (t : Tables p b) (k n : ℕ
       go (no e) (yes d) = old e d
       go (no e) (no d) = else e d
 
-  kind-old : (m : ℕ) → m < p .N → (m ≡ n → ⊥) → m ≡ btEntry (b .bt) k → bstAt (b′ .bst) m ≡ 0
+  kind-old : (m : ℕ) → m < p .N → (m ≡ n → ⊥) → m ≡ btEntry (b .bt) k → bstAt (b′ .bst) m ≡ cond (ch .wornOut) 2 0
   kind-old m h ne e = rw e (ch .kindOld (λ x. ne (e ∙ x)) (λ x. not-none m h (e ∙ x)))
 
   kinds : (m : ℕ) → m < p .N → bstAt (b′ .bst) m ≤ 2
@@ -64,7 +66,7 @@ module _ (p : Params) (z : Sizes p) (b b′ : Board) (t : Tables p b) (k n : ℕ
     where
       go : Which m → bstAt (b′ .bst) m ≤ 2
       go (new e) = rw (e, ch .kindHere) (omega arith)
-      go (old ne e) = rw (kind-old m h ne e) (omega arith)
+      go (old ne e) = rw (kind-old m h ne e) ((state-low (ch .wornOut)) .0)
       go (else ne e) = rw (ch .kindElse m h ne e) (t .kinds m h)
 
   names : (i : ℕ) → i < p .mu * p .gamma → (btEntry (b′ .bt) i ≡ none) ⊎ (btEntry (b′ .bt) i < p .N)
@@ -93,7 +95,7 @@ module _ (p : Params) (z : Sizes p) (b b′ : Board) (t : Tables p b) (k n : ℕ
     where
       go : Which m → (i : ℕ) × (i < p .mu * p .gamma) × (btEntry (b′ .bt) i ≡ m)
       go (new x) = (k, ch .index, ch .entryHere ∙ sym x)
-      go (old ne x) = absurd (omega (arith, kind-old m h ne x))
+      go (old ne x) = absurd ((state-low (ch .wornOut)) .1 (sym (kind-old m h ne x) ∙ e))
       go (else ne x) =
           let w = t .used m h (sym (ch .kindElse m h ne x) ∙ e) in
           (w .0, w .1, ch .entryElse (w .0) (λ y. x (sym (w .2) ∙ ap (btEntry (b .bt)) y)) ∙ w .2)
@@ -109,14 +111,33 @@ module _ (p : Params) (z : Sizes p) (b b′ : Board) (t : Tables p b) (k n : ℕ
           absurd (x (t .once i k hi (ch .index) (q ∙ y) (λ w. not-none m h (sym q ∙ w))))
       go (no x) (else ne y) = rw (ch .kindElse m h ne y) (t .usedBack i hi m h (sym (ch .entryElse i x) ∙ e))
 
-  -- no block becomes reserved, and none ceases to be
-  pub reserved : (m : ℕ) → m < p .N → eqb (bstAt (b .bst) m) 2 ≡ eqb (bstAt (b′ .bst) m) 2
-  reserved m h = go (which m)
+  -- a block that is reserved stays so, and one that becomes so is the old one, worn out
+  pub reserved-stays : (m : ℕ) → m < p .N → bstAt (b .bst) m ≡ 2 → bstAt (b′ .bst) m ≡ 2
+  reserved-stays m h e = go (which m)
     where
-      go : Which m → eqb (bstAt (b .bst) m) 2 ≡ eqb (bstAt (b′ .bst) m) 2
-      go (new e) = rw (e, ch .kindHere) (ne-eqb _ _ (ch .was))
-      go (old ne e) = rw (kind-old m h ne e) (ne-eqb (bstAt (b .bst) m) 2 (λ x. omega (arith, t .usedBack k (ch .index) m h (sym e))))
-      go (else ne e) = rw (ch .kindElse m h ne e)
+      go : Which m → bstAt (b′ .bst) m ≡ 2
+      go (new x) = absurd (ch .was (ap (bstAt (b .bst)) (sym x) ∙ e))
+      go (old ne x) = absurd (omega (arith, e, t .usedBack k (ch .index) m h (sym x)))
+      go (else ne x) = ch .kindElse m h ne x ∙ e
+
+  pub reserved-new : (m : ℕ) → m < p .N → bstAt (b′ .bst) m ≡ 2 → (bstAt (b .bst) m ≡ 2) ⊎ ((m ≡ btEntry (b .bt) k) × (ch .wornOut ≡ true) × (m ≡ n → ⊥))
+  reserved-new m h e = go (which m)
+    where
+      go : Which m → (bstAt (b .bst) m ≡ 2) ⊎ ((m ≡ btEntry (b .bt) k) × (ch .wornOut ≡ true) × (m ≡ n → ⊥))
+      go (new x) = absurd (omega (arith, ch .kindHere, ap (bstAt (b′ .bst)) x, e))
+      go (old ne x) = inr (x, state-reserved (ch .wornOut) (sym (kind-old m h ne x) ∙ e), ne)
+      go (else ne x) = inl (sym (ch .kindElse m h ne x) ∙ e)
+
+  -- so where every reserved block is bad, it still is
+  pub reserved-bad : (m : ℕ) → m < p .N → (bstAt (b .bst) m ≡ 2 → bad p (b .chip) m ≡ true) → bstAt (b′ .bst) m ≡ 2 → bad p (b′ .chip) m ≡ true
+  reserved-bad m h was e = go (which m)
+    where
+      go : Which m → bad p (b′ .chip) m ≡ true
+      go (new x) = absurd (omega (arith, ch .kindHere, ap (bstAt (b′ .bst)) x, e))
+      go (old ne x) =
+          let old-is : block p (b′ .chip) m ≡ leftBlock p (ch .wornOut) = rw x (ch .blockOld (λ y. ne (x ∙ y)) (λ y. not-none m h (x ∙ y))) in
+          left-bad p z (b′ .chip) m (ch .wornOut) old-is ∙ state-reserved (ch .wornOut) (sym (kind-old m h ne x) ∙ e)
+      go (else ne x) = bytes-bad p (b .chip) (b′ .chip) m (ch .blockElse m h ne x) ∙ was (sym (ch .kindElse m h ne x) ∙ e)
 
   -- and a reserved one keeps its bytes: it is neither the new one nor the old one
   pub reserved-block : (m : ℕ) → m < p .N → bstAt (b .bst) m ≡ 2 → block p (b′ .chip) m ≡ block p (b .chip) m
@@ -132,7 +153,9 @@ module _ (p : Params) (z : Sizes p) (b b′ : Board) (t : Tables p b) (k n : ℕ
     where
       go : Which m → allAre 255 (block p (b′ .chip) m) ≡ true
       go (new x) = absurd (omega (arith, ch .kindHere, ap (bstAt (b′ .bst)) x))
-      go (old ne x) = rw x (ch .eraseOld (λ y. ne (x ∙ y)) (λ y. not-none m h (x ∙ y)))
+      go (old ne x) =
+          let old-is : block p (b′ .chip) m ≡ leftBlock p (ch .wornOut) = rw x (ch .blockOld (λ y. ne (x ∙ y)) (λ y. not-none m h (x ∙ y))) in
+          rw old-is (state-free p (ch .wornOut) (sym (kind-old m h ne x) ∙ e))
       go (else ne x) = rw (ch .blockElse m h ne x) (t .free m h (sym (ch .kindElse m h ne x) ∙ e))
 
   pub tables-kept : Tables p b′

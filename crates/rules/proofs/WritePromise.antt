@@ -13,7 +13,7 @@ use Rattle.rules.specs.declared.Params.{Params}
 use Rattle.rules.specs.declared.Reply.the-variants.{Accepted}
 use Rattle.rules.specs.Parameters.{blockBytes, frames, pages}
 use Rattle.rules.specs.Numbers.{regionOf, sectorOf, vblockOf}
-use Rattle.rules.specs.Tables.{Board}
+use Rattle.rules.specs.Tables.{Board, btAt}
 use Rattle.rules.specs.Pages.{filled, frame, page}
 use Rattle.rules.specs.Regions.{View, assigned, sector, validFrames, view}
 use Rattle.rules.specs.Orderly.{orderly}
@@ -23,7 +23,7 @@ use Rattle.rules.specs.Write.{
   planErases,
   continues,
   copies,
-  eraseOps,
+  victimOps,
   hasRoom,
   newFrame,
   nextStamp,
@@ -52,6 +52,7 @@ use Rattle.rules.proofs.Reclaims.{reclaim-makes}
 use Rattle.rules.proofs.RegionFacts.{Neat, neat}
 use Rattle.rules.proofs.TableFacts.{Tables, lengths-out}
 use Rattle.rules.proofs.Views.{HasFree, body-size}
+use Rattle.rules.proofs.WornBlocks.{wear-out-counts}
 use Rattle.rules.proofs.Writes.{others-same, own-is, reads-else, reads-given, reads-rest, tables-after, write-clean, write-orderly, write-marks}
 
 -- ---- every plan makes room
@@ -100,11 +101,11 @@ frames-programs p n to (x ∷ xs) =
     let a = frame-programs p n to x (p .alpha) in
     (programs-append (frameOps p n to x (p .alpha)) _ ∙ rw (a .0, w .0) (omega arith), erases-append (frameOps p n to x (p .alpha)) _ ∙ rw (a .1, w .1))
 
-pub erase-counts : (p : Params) (b : Board) (r : ℕ) (pl : Plan) → (programsIn (eraseOps p b r pl) ≡ 0) × (erasesIn (eraseOps p b r pl) ≡ planErases pl)
-unfolding eraseOps programsIn erasesIn isProgram isErase planErases
+pub erase-counts : (p : Params) (b : Board) (r : ℕ) (pl : Plan) → (programsIn (victimOps p b r pl) ≡ 0) × (erasesIn (victimOps p b r pl) ≡ planErases pl)
+unfolding victimOps programsIn erasesIn isProgram isErase planErases
 erase-counts p b r (continues v f) = (refl, refl)
 erase-counts p b r (opens v) = (refl, refl)
-erase-counts p b r (reclaims v) = (refl, refl)
+erase-counts p b r (reclaims v) = wear-out-counts p (b .wear) (btAt p (b .bt) r v)
 
 pub counts : (p : Params) (b : Board) (r : ℕ) (q : Request) (pl : Plan)
     → (programsIn (planOps p b r q pl) ≡ p .alpha * (length (copies p (view p b r) pl) + 1)) × (erasesIn (planOps p b r q pl) ≡ planErases pl)

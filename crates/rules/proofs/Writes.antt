@@ -8,7 +8,7 @@ use native.Mathlib.Omega.{arith}
 use native.Mathlib.Decide.{ℕ-discrete, decLt}
 use mathlib.Core.Bool.{Bool, true, false, _&&_, cond}
 use mathlib.Core.List.{List, [], _∷_}
-use lib.Dec.{eqb, leb}
+use lib.Dec.{leb}
 use borrow.Author.Tests.{lt-leb, le-ltb}
 use lib.ListN.{length, set, length-set}
 use lib.Seq.{getD-set-same, getD-set-other}
@@ -21,7 +21,8 @@ use Rattle.rules.specs.Pages.{block, lastIn}
 use Rattle.rules.specs.Regions.{assigned, sector, sectorIn, view}
 use Rattle.rules.specs.Orderly.{orderly, stampRule}
 use Rattle.rules.specs.Marks.{marksOf}
-use Rattle.rules.specs.Traces.{Op, clean, erase, mark, onWear, program, replayChip, replayWear}
+use Rattle.rules.specs.Traces.{Op, clean, erase, mark, onWear, program, replayChip, replayWear, worn}
+use Rattle.rules.specs.Format.{bad}
 use Rattle.rules.specs.Write.{Plan, copies, followCt, newFrame, newSector, nextStamp, planBlock, planFrame, planOps, planVBlock, roomOps, writtenBy}
 use Rattle.rules.specs.Requests.{Request, requestCluster, requestRegion}
 use Rattle.rules.specs.Machine.{withFrame, withRoom}
@@ -36,7 +37,7 @@ use Rattle.rules.proofs.RegionFacts.{Entry, Neat, neat, regionOrderly}
 use Rattle.rules.proofs.RegionKept.{put-orderly}
 use Rattle.rules.proofs.Stamps.{Bounded, put-bounded, stamps-out, stood-bounded}
 use Rattle.rules.proofs.TableFacts.{Tables}
-use Rattle.rules.proofs.TablesKept.{Change, reserved, reserved-block, tables-kept}
+use Rattle.rules.proofs.TablesKept.{Change, reserved-bad, reserved-block, reserved-new, reserved-stays, tables-kept}
 use Rattle.rules.proofs.Views.{body-size}
 
 pub wear-length : (wear : List ℕ) (os : List Op) → length (replayWear wear os) ≡ length wear
@@ -186,7 +187,8 @@ module _ (p : Params) (b : Board) (q : Request) (acc : Admitted p b q) (r : ℕ)
         was = makes .was;
         kindHere = makes .kindHere;
         kindOld = makes .kindOld;
-        eraseOld = λ ne k. rw (else-block _ ne) (makes .eraseOld ne k);
+        wornOut = worn p (b .wear) (btAt p (b .bt) r (planVBlock pl));
+        blockOld = λ ne k. else-block _ ne ∙ makes .blockOld ne k;
         kindElse = makes .kindElse;
         blockElse = λ m h ne k. else-block m ne ∙ makes .blockElse m h ne k;
       }
@@ -194,9 +196,17 @@ module _ (p : Params) (b : Board) (q : Request) (acc : Admitted p b q) (r : ℕ)
   pub tables-after : Tables p (writtenBy p b r q pl)
   tables-after = tables-kept p (acc .sized) b (writtenBy p b r q pl) (acc .tables) _ _ change
 
-  -- (B) a block is reserved as before, and one that is keeps its bytes
-  pub reserved-same : (m : ℕ) → m < p .N → eqb (bstAt (b .bst) m) 2 ≡ eqb (bstAt ((writtenBy p b r q pl) .bst) m) 2
-  reserved-same = reserved p (acc .sized) b (writtenBy p b r q pl) (acc .tables) _ _ change
+  -- (B) a block that is reserved stays so and keeps its bytes; one that becomes so is the victim's, worn out, and is bad
+  pub write-stays : (m : ℕ) → m < p .N → bstAt (b .bst) m ≡ 2 → bstAt ((writtenBy p b r q pl) .bst) m ≡ 2
+  write-stays = reserved-stays p (acc .sized) b (writtenBy p b r q pl) (acc .tables) _ _ change
+
+  pub write-reserves : (m : ℕ) → m < p .N → bstAt ((writtenBy p b r q pl) .bst) m ≡ 2
+      → (bstAt (b .bst) m ≡ 2) ⊎ ((m ≡ btAt p (b .bt) r (planVBlock pl)) × (worn p (b .wear) (btAt p (b .bt) r (planVBlock pl)) ≡ true) × (m ≡ planBlock p b r pl → ⊥))
+  unfolding btAt change
+  write-reserves = reserved-new p (acc .sized) b (writtenBy p b r q pl) (acc .tables) _ _ change
+
+  pub write-reserved-bad : (m : ℕ) → m < p .N → (bstAt (b .bst) m ≡ 2 → bad p (b .chip) m ≡ true) → bstAt ((writtenBy p b r q pl) .bst) m ≡ 2 → bad p ((writtenBy p b r q pl) .chip) m ≡ true
+  write-reserved-bad = reserved-bad p (acc .sized) b (writtenBy p b r q pl) (acc .tables) _ _ change
 
   pub reserved-bytes : (m : ℕ) → m < p .N → bstAt (b .bst) m ≡ 2 → block p ((writtenBy p b r q pl) .chip) m ≡ block p (b .chip) m
   reserved-bytes = reserved-block p (acc .sized) b (writtenBy p b r q pl) (acc .tables) _ _ change

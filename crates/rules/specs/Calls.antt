@@ -80,12 +80,12 @@ queueWork p b l =
 -- "a format reports 0 programs and one erase for each block not bad"; "A read reports 0 and 0 and writes only its data buffer"; T-03: "It reports 0 and 0".
 -- T-08: "Read and write now report how many", 0 "from other calls". T-07: "The start reports its erases"
 unfoldable pub workOf : Params → Board → Call → Work
-workOf p b format = does p b format (formatOps p (b .chip)) 0 [] (formatted p b)
+workOf p b format = does p b format (formatOps p (b .chip) (b .wear)) 0 [] (formatted p b)
 workOf p b (read q) = does p b (read q) [] (looksAt p b (requestCluster p q)) (readBytes p b q) b
 workOf p b (write q) = writeWork p b q
 workOf p b (release c) = does p b (release c) [] 0 [] (released p b c)
 workOf p b (queue l) = queueWork p b l
-workOf p b start = does p b start (startOps p (b .chip)) 0 [] (started p b)
+workOf p b start = does p b start (startOps p (b .chip) (b .wear)) 0 [] (started p b)
 
 -- the operations of its parts, in order
 unfoldable pub opsOf : List Part → List Op

@@ -83,9 +83,9 @@ badCluster p c = leb (p .C) c
 unfoldable pub wrongData : Params → Request → Bool
 wrongData p q = not (eqb (length (q .bytes)) (q .count * p .s))
 
--- 6: "fewer than μγ+1 blocks are not bad"
+-- 6: "fewer than μγ+1 blocks are not bad", with T-12 "still good after its erases .. before anything is erased"
 unfoldable pub tooFewBlocks : Params → Board → Bool
-tooFewBlocks p b = ltb (goodBlocks p (b .chip)) (p .mu * p .gamma + 1)
+tooFewBlocks p b = ltb (goodBlocks p (b .chip) (b .wear)) (p .mu * p .gamma + 1)
 
 -- 7: "state not orderly"
 unfoldable pub notOrderly : Params → Board → Bool

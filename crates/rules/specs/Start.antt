@@ -12,7 +12,7 @@ use Rattle.rules.specs.Tables.{Board, none, notFound}
 use Rattle.rules.specs.Pages.{block, frame, erased, held, vblockIn, whole, holds, filled, isFull}
 use Rattle.rules.specs.Regions.{View, viewOf, assigned, regionFrames, frameIn, stampIn, largestStamp}
 use Rattle.rules.specs.Orderly.{blockRule, named}
-use Rattle.rules.specs.Traces.{Op, eraseWhere, finish}
+use Rattle.rules.specs.Traces.{Op, eraseWhere, erasedState, finish}
 use Rattle.rules.specs.Format.{bad}
 
 -- ---- one block
@@ -57,8 +57,8 @@ leftOver p chip n =
     let blk = block p chip n in
     inUse p chip n && (not (isFull p blk) && not (eqb (fullBlock p chip (regionNamed p blk) (vblockNamed p blk)) none))
 
-unfoldable pub startOps : Params → List ℕ → List Op
-startOps p chip = eraseWhere p (leftOver p chip)
+unfoldable pub startOps : Params → List ℕ → List ℕ → List Op
+startOps p chip wear = eraseWhere p wear (leftOver p chip)
 
 -- BT, and a region's view with it, which has no CT and no FST entry yet
 unfoldable pub foundBt : Params → List ℕ → List ℕ
@@ -122,16 +122,16 @@ foundFst p vw =
     let v = cond (eqb o notFound) (firstBelow notFound (p .gamma) (assigned vw)) o in
     cond (eqb v notFound) none (segmentOf p v (filled p (vw .body v) - 1))
 
--- "The start rebuilds BST, BT, CT, FST, the marks and the stamps (largest on the region's pages, else 0): bad blocks by T-02's rule; erased ones free"
+-- "The start rebuilds BST, BT, CT, FST, the marks and the stamps (largest on the region's pages, else 0): bad blocks by T-02's rule; erased ones free"; T-12: one that it wears out is reserved
 unfoldable pub started : Params → Board → Board
 started p b =
     let chip = b .chip in
     let bt = foundBt p chip in
-    finish p b (startOps p chip)
+    finish p b (startOps p chip (b .wear))
     (record {
       ct = listBelow (p .C) (λ c. foundSegment p (foundView p chip bt (regionOf p c)) c);
       bt = bt;
       fst = listBelow (p .mu) (λ r. foundFst p (foundView p chip bt r));
-      bst = listBelow (p .N) (λ n. cond (bad p chip n) 2 (cond (named p bt n) 1 0));
+      bst = listBelow (p .N) (λ n. cond (bad p chip n) 2 (cond (named p bt n) 1 (cond (leftOver p chip n) (erasedState p (b .wear) n) 0)));
       stamps = listBelow (p .mu) (λ r. largestStamp p (foundView p chip bt r));
     })

@@ -5,6 +5,7 @@
 use Prim.Native.Nat.{ℕ, suc, _+_, _*_, min}
 use mathlib.Core.Bool.{Bool, true, false, _&&_, cond}
 use mathlib.Core.List.{List, [], _∷_, _++_}
+use lib.Dec.{leb}
 use lib.ListN.{set, replicate}
 use Rattle.lists.specs.Below.{joinBelow}
 use Rattle.lists.specs.Parts.{part, putPart}
@@ -73,9 +74,21 @@ unfoldable pub erasesIn : List Op → ℕ
 erasesIn [] = 0
 erasesIn (o ∷ os) = cond (isErase o) 1 0 + erasesIn os
 
+-- T-12: "When an erase .. brings a block's wear to E or more", from what it was before
+unfoldable pub worn : Params → List ℕ → ℕ → Bool
+worn p wear n = leb (p .E) (wearAt wear n + 1)
+
+-- block n erased, and "its first page gets a zero in spare byte 5" where that wears it out
+unfoldable pub eraseOps : Params → List ℕ → ℕ → List Op
+eraseOps p wear n = erase n ∷ cond (worn p wear n) (mark n ∷ []) []
+
+-- "and the block becomes reserved"; else it is free
+unfoldable pub erasedState : Params → List ℕ → ℕ → ℕ
+erasedState p wear n = cond (worn p wear n) 2 0
+
 -- the blocks below N that pass, erased in rising order
-unfoldable pub eraseWhere : Params → (ℕ → Bool) → List Op
-eraseWhere p f = joinBelow (p .N) (λ n. cond (f n) (erase n ∷ []) [])
+unfoldable pub eraseWhere : Params → List ℕ → (ℕ → Bool) → List Op
+eraseWhere p wear f = joinBelow (p .N) (λ n. cond (f n) (eraseOps p wear n) [])
 
 -- the first k pages of frame f of block n, programmed with those of x in order
 unfoldable pub frameOps : Params → ℕ → ℕ → List ℕ → ℕ → List Op

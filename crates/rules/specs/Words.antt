@@ -18,7 +18,7 @@ use Rattle.rules.specs.Pages.{block, erased, frame, held, lastIn, le32, 
 use Rattle.rules.specs.Regions.{View, assigned, looksAt, valid, validFrames, view}
 use Rattle.rules.specs.Marks.{marksOf}
 use Rattle.rules.specs.Orderly.{orderly}
-use Rattle.rules.specs.Traces.{Op, program, erase, mark, erasesIn, onChip, programsIn, replayChip, replayWear}
+use Rattle.rules.specs.Traces.{Op, erase, eraseOps, erasesIn, mark, onChip, program, programsIn, replayChip, replayWear, worn}
 use Rattle.rules.specs.Format.{bad}
 use Rattle.rules.specs.Write.{Plan, continues, opens, reclaims, freeBlock, planOf, writeOps}
 use Rattle.rules.specs.Requests.{Request, write, requestRegion}
@@ -74,6 +74,10 @@ abbrev pub WearAfter : Type 0
 WearAfter =
     (wear : List ℕ) (ops : List Op) (n : ℕ) → n < length wear → wearAt wear n ≤ 4294967295
     → wearAt (replayWear wear ops) n ≡ min (wearAt wear n + erasesOf n ops) 4294967295
+
+-- T-12: "When an erase .. brings a block's wear to E or more", also where it was so before: by the wear that the erase leaves
+abbrev pub WornExactly : Type 0
+WornExactly = (p : Params) (wear : List ℕ) (n : ℕ) → allowed p ≡ true → n < length wear → (worn p wear n ≡ true) ↔ (p .E ≤ wearAt (replayWear wear (eraseOps p wear n)) n)
 
 -- ---- "When a state is orderly"
 

@@ -14,7 +14,7 @@ use Rattle.rules.specs.Numbers.{sectorOf, vblockOf, segmentOf}
 use Rattle.rules.specs.Tables.{Board, none, notFound, btAt, bstAt, wearAt, stampAt}
 use Rattle.rules.specs.Pages.{frame, spareBytes, held, filled}
 use Rattle.rules.specs.Regions.{View, view, assigned, validFrames, sectorIn}
-use Rattle.rules.specs.Traces.{Op, erase, frameOps, framesOps, finish}
+use Rattle.rules.specs.Traces.{Op, eraseOps, erasedState, frameOps, framesOps, finish}
 use Rattle.rules.specs.Requests.{Request, requestCluster, requestRegion}
 
 -- ---- the plan
@@ -104,15 +104,15 @@ planBlock p b r (continues v f) = btAt p (b .bt) r v
 planBlock p b r (opens v) = freeBlock p (b .bst) (b .wear)
 planBlock p b r (reclaims v) = freeBlock p (b .bst) (b .wear)
 
--- "The victim is erased"
-unfoldable pub eraseOps : Params → Board → ℕ → Plan → List Op
-eraseOps p b r (continues v f) = []
-eraseOps p b r (opens v) = []
-eraseOps p b r (reclaims v) = erase (btAt p (b .bt) r v) ∷ []
+-- "The victim is erased", and marked where that wears it out
+unfoldable pub victimOps : Params → Board → ℕ → Plan → List Op
+victimOps p b r (continues v f) = []
+victimOps p b r (opens v) = []
+victimOps p b r (reclaims v) = eraseOps p (b .wear) (btAt p (b .bt) r v)
 
 -- the operations that make room, copies before the erase; then the new frame's
 unfoldable pub roomOps : Params → Board → ℕ → Plan → List Op
-roomOps p b r pl = framesOps p (planBlock p b r pl) 0 (copies p (view p b r) pl) ++ eraseOps p b r pl
+roomOps p b r pl = framesOps p (planBlock p b r pl) 0 (copies p (view p b r) pl) ++ victimOps p b r pl
 
 -- T-07: "A host write takes the next; copies keep theirs"
 unfoldable pub nextStamp : Board → ℕ → ℕ
@@ -128,11 +128,13 @@ unfoldable pub followCt : Params → ℕ → ℕ → List (List ℕ) → List �
 followCt p v to [] ct = ct
 followCt p v to (x ∷ xs) ct = followCt p v (suc to) xs (set ct (held p x) (segmentOf p v to))
 
--- "takes a free block"; "The victim .. becomes free"
+-- "takes a free block"; "The victim .. becomes free", T-12: or reserved
 unfoldable pub planBst : Params → Board → ℕ → Plan → List ℕ
 planBst p b r (continues v f) = b .bst
 planBst p b r (opens v) = set (b .bst) (freeBlock p (b .bst) (b .wear)) 1
-planBst p b r (reclaims v) = set (set (b .bst) (freeBlock p (b .bst) (b .wear)) 1) (btAt p (b .bt) r v) 0
+planBst p b r (reclaims v) =
+    let n = btAt p (b .bt) r v in
+    set (set (b .bst) (freeBlock p (b .bst) (b .wear)) 1) n (erasedState p (b .wear) n)
 
 -- "BT names the new block"; "Then CT and FST name the segment just written"
 unfoldable pub writtenBy : Params → Board → ℕ → Request → Plan → Board

@@ -21,8 +21,8 @@ use Rattle.rules.specs.Orderly.{blockRule, named}
 use Rattle.rules.specs.Traces.{NewTables, Op, finish, replayChip, replayWear}
 use Rattle.rules.specs.Format.{bad, goodBlocks}
 use Rattle.rules.specs.Start.{foundBt, foundFst, foundSegment, foundView, inUse, keptBlock, leftOver, startOps, startable, started}
+use Rattle.rules.proofs.Replays.{fresh-all, fresh-size}
 use Rattle.rules.proofs.BadBlocks.{blank-good, bytes-bad}
-use Rattle.rules.proofs.Opens.{fresh-all, fresh-size}
 use Rattle.rules.proofs.Sizes.{Sizes, sizes}
 use Rattle.rules.proofs.TableFacts.{Tables}
 use Rattle.starts.specs.Admitted.{StartAdmitted}

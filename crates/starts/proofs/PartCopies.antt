@@ -23,9 +23,9 @@ use Rattle.rules.specs.Machine.{erasedBlock, putFrames}
 use Rattle.rules.proofs.Chip.{put-is, replay-append}
 use Rattle.rules.proofs.FramePut.{Sheet}
 use Rattle.rules.proofs.Frames.{erased-holds}
-use Rattle.rules.proofs.Opens.{fresh-frame, fresh-size}
+use Rattle.rules.proofs.Opens.{fresh-frame}
 use Rattle.rules.proofs.RegionFacts.{GoodFrame, UpTo, block-out, good-all, good-stamp, up-to-filled}
-use Rattle.rules.proofs.Replays.{Ran, Wholes, frames-ran, one-fits, put-frames-else, put-frames-new, put-frames-size}
+use Rattle.rules.proofs.Replays.{Ran, Wholes, frames-ran, fresh-size, one-fits, put-frames-else, put-frames-new, put-frames-size}
 use Rattle.rules.proofs.Sizes.{Sizes}
 use Rattle.starts.proofs.Begun.{begun-good, begun-none, begun-put, begun-size, begun-whole, begunFrame}
 use Rattle.starts.proofs.Prefixes.{take-frames}

@@ -20,9 +20,9 @@ use Rattle.rules.specs.Orderly.{named}
 use Rattle.rules.specs.Traces.{eraseWhere}
 use Rattle.rules.specs.Format.{bad, goodBlocks}
 use Rattle.rules.specs.Start.{foundBt, inUse, keptBlock, leftOver, names, regionNamed, startOps, started, vblockNamed}
+use Rattle.rules.proofs.Replays.{fresh-all}
 use Rattle.rules.proofs.Erases.{Cleared, erases-ran, erasesBelow}
 use Rattle.rules.proofs.Isolation.{index-low}
-use Rattle.rules.proofs.Opens.{fresh-all}
 use Rattle.rules.proofs.Sizes.{Sizes, sizes}
 use Rattle.rules.proofs.TableFacts.{Lengths, Tables, lengths-in, named-in, named-out}
 use Rattle.rules.proofs.Writes.{wear-length}

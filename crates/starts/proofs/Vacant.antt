@@ -24,8 +24,7 @@ use Rattle.rules.specs.Format.{bad}
 use Rattle.rules.specs.Machine.{erasedBlock}
 use Rattle.rules.proofs.BadBlocks.{bytes-bad}
 use Rattle.rules.proofs.Isolation.{index-inj, index-low, view-path}
-use Rattle.rules.proofs.Opens.{fresh-all}
-use Rattle.rules.proofs.Replays.{Ran}
+use Rattle.rules.proofs.Replays.{Ran, fresh-all}
 use Rattle.rules.proofs.Sizes.{Sizes}
 use Rattle.rules.proofs.TableFacts.{Tables}
 use Rattle.rules.proofs.Views.{block-low}
