@@ -6,7 +6,7 @@ use native.Mathlib.Numerals.{add-one}
 use native.Mathlib.Omega.{arith}
 use native.Mathlib.Decide.{ℕ-discrete}
 use mathlib.Core.Bool.{Bool, true, false, _&&_, cond}
-use mathlib.Core.List.{List, [], _∷_, _++_}
+use mathlib.Core.List.{List, [], _∷_, _++_, append-nil}
 use lib.ListN.{length, length-append}
 use lib.Seq.{getD-set-other}
 use Rattle.lists.specs.Below.{countBelow, joinBelow}
@@ -40,6 +40,16 @@ pub none-pass : (p : Params) (wear : List ℕ) (f : ℕ → Bool) (k : ℕ) → 
 unfolding erasesBelow joinBelow
 none-pass p wear f zero h = refl
 none-pass p wear f (suc k) h = rw (h k (omega arith), none-pass p wear f k (λ n l. h n (omega arith)))
+
+-- where one passes alone, they are its own
+pub only-one : (p : Params) (wear : List ℕ) (f : ℕ → Bool) (x k : ℕ) → x < k → f x ≡ true → ((n : ℕ) → n < k → (n ≡ x → ⊥) → f n ≡ false) → erasesBelow p wear f k ≡ eraseOps p wear x
+unfolding erasesBelow joinBelow
+only-one p wear f x zero h e else = absurd (omega arith)
+only-one p wear f x (suc k) h e else = go (ℕ-discrete x k) (λ l. only-one p wear f x k l e (λ n m. else n (omega arith)))
+  where
+    go : Dec (x ≡ k) → (x < k → erasesBelow p wear f k ≡ eraseOps p wear x) → erasesBelow p wear f k ++ cond (f k) (eraseOps p wear k) [] ≡ eraseOps p wear x
+    go (yes y) below = rw (none-pass p wear f k (λ n m. else n (omega arith) (λ w. omega (arith, y))), sym (ap f y) ∙ e, y)
+    go (no y) below = rw (below (omega arith), else k (omega arith) (λ w. y (sym w))) (append-nil (eraseOps p wear x))
 
 -- ---- the counts, and the pages programmed
 

@@ -2,13 +2,15 @@
 -- Assumes nothing.
 use mathlib.Core.Path.{_≡_, sym, _∙_}
 use Prim.Native.Nat.{ℕ, _<_}
+use mathlib.Core.Bool.{Bool}
+use mathlib.Core.List.{List}
 use Rattle.rules.specs.declared.Params.{Params}
 use Rattle.rules.specs.Tables.{Board, none}
 use Rattle.rules.specs.Pages.{frame}
 use Rattle.rules.specs.Regions.{View, view}
 use Rattle.rules.specs.Write.{Plan, planFrame, planVBlock}
 use Rattle.rules.specs.Machine.{withRoom}
-use Rattle.rules.proofs.Continues.{Makes}
+use Rattle.rules.proofs.Continues.{MakesOn}
 use Rattle.rules.proofs.Opens.{seg-same}
 use Rattle.rules.proofs.PlanCases.{Case, goes-on, renews, takes}
 use Rattle.rules.proofs.RegionFacts.{Fronts, Neat}
@@ -25,7 +27,8 @@ pub record Carries (p : Params) (vw vw₁ : View) : Type 0 where
   pub back : (c u g : ℕ) → WholeAt p vw₁ c u g → (u₀ : ℕ) × (g₀ : ℕ) × WholeAt p vw c u₀ g₀ × (frame p (vw₁ .body u) g ≡ frame p (vw .body u₀) g₀)
   pub lives : (c : ℕ) → c < p .C → vw₁ .segOf c ≡ none → vw .segOf c ≡ none
 
-module _ (p : Params) (z : Sizes p) (b : Board) (t : Tables p b) (r : ℕ) (region : r < p .mu) (nt : Neat p r (view p b r)) (pl : Plan) (case : Case p (view p b r) pl) (makes : Makes p b r pl) where
+module _ (p : Params) (z : Sizes p) (b : Board) (t : Tables p b) (r : ℕ) (region : r < p .mu) (nt : Neat p r (view p b r)) (pl : Plan) (case : Case p (view p b r) pl)
+    (chip₁ bst₁ : List ℕ) (worn₁ : Bool) (makes : MakesOn p b r pl chip₁ bst₁ worn₁) where
   pub room-fronts : Fronts p r (withRoom p (view p b r) pl)
   room-fronts = base-fronts p z r (withRoom p (view p b r) pl) (planVBlock pl) (planFrame p (view p b r) pl) (makes .base)
 

@@ -22,6 +22,7 @@ use Rattle.rules.specs.Write.{
   newFrame,
   nextStamp,
   planBlock,
+  planBst,
   planFrame,
   planVBlock,
   roomOps,
@@ -121,6 +122,6 @@ module _ (p : Params) (b : Board) (st : Stands p b) (q : Request) where
     begun-form =
         let chip : List ℕ = replayChip p roomChip (frameOps p (planBlock p b r pl) at new m) in
         let blk : List ℕ = putPart (frameBytes p) at begun body in
-        reads-old (midBoard p b r pl chip) (p .N) (mid-steady p z b st r region pl case makes chip blk (suc at) ran (omega arith) (makes .base .ready .low) upto like)
-        (mid-shown p z b st r region pl case makes chip blk (suc at) ran (omega arith) (makes .base .ready .low) upto like)
-        (mid-old p z b st r region pl case makes chip blk (suc at) ran (omega arith) (makes .base .ready .low) upto like)
+        reads-old (midBoard p b r pl (planBst p b r pl) chip) (p .N) (mid-steady p z b st r region pl case _ _ _ makes chip blk (suc at) ran (omega arith) (makes .base .ready .low) upto like)
+        (mid-shown p z b st r region pl case _ _ _ makes chip blk (suc at) ran (omega arith) (makes .base .ready .low) upto like)
+        (mid-old p z b st r region pl case _ _ _ makes chip blk (suc at) ran (omega arith) (makes .base .ready .low) upto like)

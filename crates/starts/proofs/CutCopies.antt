@@ -19,7 +19,7 @@ use Rattle.rules.specs.Orderly.{blockRule}
 use Rattle.rules.specs.Start.{regionNamed, sound, vblockNamed}
 use Rattle.rules.specs.Traces.{framesOps, replayChip}
 use Rattle.rules.specs.Write.{copies, freeBlock, hasRoom, reclaims}
-use Rattle.rules.proofs.BadBlocks.{bytes-bad}
+use Rattle.rules.proofs.BadBytes.{bytes-bad}
 use Rattle.rules.proofs.FramePut.{Sheet}
 use Rattle.rules.proofs.Opens.{all-full, free-fresh}
 use Rattle.rules.proofs.ReclaimView.{copies-length, copy-at, nth-spec, nthValid}

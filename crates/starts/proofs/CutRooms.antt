@@ -2,13 +2,14 @@
 -- victim's virtual block has no block. Each reads as before.
 -- Assumes nothing.
 use mathlib.Core.Path.{_≡_, refl, sym, ap, _∙_}
-use Prim.Native.Nat.{ℕ, _+_, _-_, _*_, _/_, _%_, _≤_, _<_}
+use mathlib.Core.Logic.{_⊎_, inl, inr}
+use Prim.Native.Nat.{ℕ, zero, suc, _+_, _-_, _*_, _/_, _%_, _≤_, _<_}
 use native.Mathlib.Nat.{div-add-mod', div-lt-iff-lt-mul, mod-lt}
 use native.Mathlib.Omega.{arith}
 use native.Mathlib.Decide.{decLt, ℕ-discrete}
-use mathlib.Core.Bool.{true, false}
+use mathlib.Core.Bool.{Bool, true, false, cond}
 use mathlib.Core.List.{List, [], _∷_, _++_, append-nil}
-use lib.ListN.{length, length-append, take}
+use lib.ListN.{length, take}
 use lib.Seq.{take-all}
 use Rattle.lists.specs.Parts.{allAre}
 use Rattle.lists.proofs.Joins.{allAre-part, updated-other, updated-same}
@@ -20,31 +21,21 @@ use Rattle.rules.specs.Tables.{Board, bstAt, btAt, none}
 use Rattle.rules.specs.Pages.{filled, frame}
 use Rattle.rules.specs.Regions.{assigned, validFrames, view}
 use Rattle.rules.specs.Format.{bad}
-use Rattle.rules.specs.Traces.{Op, erase, framesOps, replayChip}
-use Rattle.rules.specs.Write.{
-  copies,
-  eraseOps,
-  freeBlock,
-  hasRoom,
-  planBlock,
-  planFrame,
-  planVBlock,
-  reclaims,
-  roomOps,
-  takesBlock,
-}
-use Rattle.rules.specs.Machine.{erasedBlock, follow, withRoom}
-use Rattle.rules.proofs.Continues.{Makes}
+use Rattle.rules.specs.Traces.{Op, erase, eraseOps, framesOps, mark, replayChip, worn}
+use Rattle.rules.specs.Write.{copies, victimOps, freeBlock, hasRoom, planBlock, planFrame, planVBlock, reclaims, roomOps}
+use Rattle.rules.specs.Machine.{follow, withRoom}
+use Rattle.rules.proofs.Continues.{MakesOn}
 use Rattle.rules.proofs.Frames.{erased-holds}
 use Rattle.rules.proofs.Opens.{all-full}
 use Rattle.rules.proofs.PlanCases.{Case}
 use Rattle.rules.proofs.ReclaimView.{body-else, copies-length, frame-rest, seg-is}
-use Rattle.rules.proofs.Reclaims.{taken}
+use Rattle.rules.proofs.Reclaims.{gone-makes, goneBst, goneChip, taken}
 use Rattle.rules.proofs.RegionFacts.{Neat, UpTo}
-use Rattle.rules.proofs.Replays.{Ran, erase-ran}
+use Rattle.rules.proofs.Replays.{Ran}
 use Rattle.rules.proofs.Sizes.{Sizes, sizes}
 use Rattle.rules.proofs.TableFacts.{Tables}
-use Rattle.rules.proofs.Views.{body-size, chip-fits}
+use Rattle.rules.proofs.Views.{HasFree, body-size, chip-fits}
+use Rattle.rules.proofs.WornBlocks.{first-ops, left-ran, leftBlock}
 use Rattle.rules.proofs.WritePromise.{makes}
 use Rattle.starts.specs.Stands.{Stands}
 use Rattle.starts.proofs.Alike.{Alike, equal, neither}
@@ -56,7 +47,7 @@ use Rattle.starts.proofs.Vacant.{vacant-marked, vacant-others, vacant-o
 
 module _ (p : Params) (b : Board) (st : Stands p b) (r : ℕ) (region : r < p .mu) (no-room : hasRoom p (view p b r) ≡ false)
     (every : (u : ℕ) → u < p .gamma → assigned (view p b r) u ≡ true) (v : ℕ) (low : v < p .gamma)
-    (few : length (validFrames p (view p b r) v) < frames p) (case : Case p (view p b r) (reclaims v)) (makes : Makes p b r (reclaims v)) where
+    (few : length (validFrames p (view p b r) v) < frames p) (case : Case p (view p b r) (reclaims v)) (w : HasFree p b) where
   z : Sizes p
   z = sizes p (st .fine)
 
@@ -72,24 +63,32 @@ module _ (p : Params) (b : Board) (st : Stands p b) (r : ℕ) (region : r < p .m
   copied : length (copies p (view p b r) (reclaims v)) ≡ length (validFrames p (view p b r) v)
   copied = copies-length p z r (view p b r) nt no-room every sized v low few
 
-  abbrev roomed : List ℕ
-  roomed = replayChip p (b .chip) (roomOps p b r (reclaims v))
+  -- the chip once the erase is made, with its mark or without, and BST
+  abbrev roomed : Bool → List ℕ
+  roomed = goneChip p z b t r region nt no-room every v low few w
+
+  abbrev kinds : Bool → List ℕ
+  kinds = goneBst p z b t r region nt no-room every v low few w
+
+  made-room : (t′ : Bool) → MakesOn p b r (reclaims v) (roomed t′) (kinds t′) t′
+  made-room = gone-makes p z b t r region nt no-room every v low few w
 
   -- the erase is made, some frame was copied
-  roomed-form : 0 < length (validFrames p (view p b r) v) → ReadsOld p b roomed
-  roomed-form some =
+  roomed-form : (t′ : Bool) → 0 < length (validFrames p (view p b r) v) → ReadsOld p b (roomed t′)
+  roomed-form t′ some =
+      let makes = made-room t′ in
       let k : ℕ = planFrame p (view p b r) (reclaims v) in
       let pos : 0 < planFrame p (view p b r) (reclaims v) = unfold planFrame in some in
       let blk : List ℕ = (withRoom p (view p b r) (reclaims v)) .body (planVBlock (reclaims v)) in
-      let ran : Ran p roomed roomed (planBlock p b r (reclaims v)) blk = record { here = makes .room .here; else = λ m ne. refl; size = refl } in
+      let ran : Ran p (roomed t′) (roomed t′) (planBlock p b r (reclaims v)) blk = record { here = makes .room .here; else = λ m ne. refl; size = refl } in
       let upto : UpTo p r (planVBlock (reclaims v)) k blk = makes .base .front in
       let most : k ≤ frames p = omega (arith, makes .base .ready .low) in
-      reads-old (midBoard p b r (reclaims v) roomed) (p .N) (mid-steady p z b st r region (reclaims v) case makes roomed blk k ran pos most upto (λ g h. equal refl))
-      (mid-shown p z b st r region (reclaims v) case makes roomed blk k ran pos most upto (λ g h. equal refl))
-      (mid-old p z b st r region (reclaims v) case makes roomed blk k ran pos most upto (λ g h. equal refl))
+      reads-old (midBoard p b r (reclaims v) (kinds t′) (roomed t′)) (p .N) (mid-steady p z b st r region (reclaims v) case _ _ _ makes (roomed t′) blk k ran pos most upto (λ g h. equal refl))
+      (mid-shown p z b st r region (reclaims v) case _ _ _ makes (roomed t′) blk k ran pos most upto (λ g h. equal refl))
+      (mid-old p z b st r region (reclaims v) case _ _ _ makes (roomed t′) blk k ran pos most upto (λ g h. equal refl))
 
   -- the erase is made, and there was nothing to copy
-  module _ (nothing : length (validFrames p (view p b r) v) ≡ 0) where
+  module _ (t′ : Bool) (nothing : length (validFrames p (view p b r) v) ≡ 0) where
     nil : {A : Type 0} (l : List A) → length l ≡ 0 → l ≡ []
     nil [] e = refl
     nil (x ∷ l) e = absurd (omega (arith, e))
@@ -98,14 +97,14 @@ module _ (p : Params) (b : Board) (st : Stands p b) (r : ℕ) (region : r < p .m
     no-copies = nil (copies p (view p b r) (reclaims v)) (copied ∙ nothing)
 
     has : btAt p (b .bt) r v ≡ none → ⊥
-    has = taken p z b t r region nt no-room every v low few (makes .found (unfold takesBlock in refl))
+    has = taken p z b t r region nt no-room every v low few w
 
-    ops-are : roomOps p b r (reclaims v) ≡ erase (btAt p (b .bt) r v) ∷ []
-    unfolding roomOps eraseOps framesOps
-    ops-are = rw no-copies
+    chip-is : roomed t′ ≡ replayChip p (b .chip) (erase (btAt p (b .bt) r v) ∷ cond t′ (mark (btAt p (b .bt) r v) ∷ []) [])
+    unfolding framesOps
+    chip-is = rw no-copies
 
-    vacated : Ran p (b .chip) roomed (btAt p (b .bt) r v) (erasedBlock p)
-    vacated = rw ops-are (erase-ran p (b .chip) (btAt p (b .bt) r v) (chip-fits p z b t r v region low has))
+    vacated : Ran p (b .chip) (roomed t′) (btAt p (b .bt) r v) (leftBlock p t′)
+    vacated = rw chip-is (left-ran p z (b .chip) (btAt p (b .bt) r v) (chip-fits p z b t r v region low has) t′)
 
     segs : (c : ℕ) → (vacantView p b r v) .segOf c ≡ (withRoom p (view p b r) (reclaims v)) .segOf c
     unfolding vacantView
@@ -146,26 +145,26 @@ module _ (p : Params) (b : Board) (st : Stands p b) (r : ℕ) (region : r < p .m
     full : (u : ℕ) → u < p .gamma → assigned (vacantView p b r v) u ≡ true → (u ≡ planVBlock (reclaims v) → ⊥) → filled p ((vacantView p b r v) .body u) ≡ frames p
     full u h a ne = let w = has-was u a in rw (bodies-else u (w .0)) (all-full p z r (view p b r) nt no-room u h (w .1))
 
-    tables₂ : Tables p (vacantBoard p b r v roomed)
-    tables₂ = vacant-tables p z b t (st .marked) r region v low has roomed vacated
+    tables₂ : Tables p (vacantBoard p b r v t′ (roomed t′))
+    tables₂ = vacant-tables p z b t (st .marked) r region v low has t′ (roomed t′) vacated
 
-    marked₂ : (n : ℕ) → n < p .N → bstAt ((vacantBoard p b r v roomed) .bst) n ≡ 2 → bad p ((vacantBoard p b r v roomed) .chip) n ≡ true
-    marked₂ = vacant-marked p z b t (st .marked) r region v low has roomed vacated
+    marked₂ : (n : ℕ) → n < p .N → bstAt ((vacantBoard p b r v t′ (roomed t′)) .bst) n ≡ 2 → bad p ((vacantBoard p b r v t′ (roomed t′)) .chip) n ≡ true
+    marked₂ = vacant-marked p z b t (st .marked) r region v low has t′ (roomed t′) vacated
 
-    own₂ : view p (vacantBoard p b r v roomed) r ≡ vacantView p b r v
-    own₂ = vacant-own p z b t (st .marked) r region v low has roomed vacated
+    own₂ : view p (vacantBoard p b r v t′ (roomed t′)) r ≡ vacantView p b r v
+    own₂ = vacant-own p z b t (st .marked) r region v low has t′ (roomed t′) vacated
 
-    others₂ : (r′ : ℕ) → r′ < p .mu → (r′ ≡ r → ⊥) → view p (vacantBoard p b r v roomed) r′ ≡ view p b r′
-    others₂ = vacant-others p z b t (st .marked) r region v low has roomed vacated
+    others₂ : (r′ : ℕ) → r′ < p .mu → (r′ ≡ r → ⊥) → view p (vacantBoard p b r v t′ (roomed t′)) r′ ≡ view p b r′
+    others₂ = vacant-others p z b t (st .marked) r region v low has t′ (roomed t′) vacated
 
-    steady₂ : Steady p (vacantBoard p b r v roomed)
-    steady₂ = settled p z b st r region (reclaims v) case makes (vacantBoard p b r v roomed) tables₂ marked₂ (vacantView p b r v) own₂ others₂ segs alike blocks full
+    steady₂ : Steady p (vacantBoard p b r v t′ (roomed t′))
+    steady₂ = settled p z b st r region (reclaims v) case _ _ _ (made-room t′) (vacantBoard p b r v t′ (roomed t′)) tables₂ marked₂ (vacantView p b r v) own₂ others₂ segs alike blocks full
 
-    vacant-form : ReadsOld p b roomed
+    vacant-form : ReadsOld p b (roomed t′)
     vacant-form =
-        reads-old (vacantBoard p b r v roomed) (p .N) steady₂
-        (same-shown p z (vacantBoard p b r v roomed) steady₂ roomed (vacated .size ∙ t .chipLength) (λ m h. unfold vacantBoard in refl))
-        (settled-old p z b st r region (reclaims v) case makes (vacantBoard p b r v roomed) tables₂ marked₂ (vacantView p b r v) own₂ others₂ segs alike blocks full)
+        reads-old (vacantBoard p b r v t′ (roomed t′)) (p .N) steady₂
+        (same-shown p z (vacantBoard p b r v t′ (roomed t′)) steady₂ (roomed t′) (vacated .size ∙ t .chipLength) (λ m h. unfold vacantBoard in refl))
+        (settled-old p z b st r region (reclaims v) case _ _ _ (made-room t′) (vacantBoard p b r v t′ (roomed t′)) tables₂ marked₂ (vacantView p b r v) own₂ others₂ segs alike blocks full)
 
   -- among the copies
   copies-form : (k : ℕ) → 0 < k → k ≤ length (copies p (view p b r) (reclaims v)) * p .alpha
@@ -177,27 +176,45 @@ module _ (p : Params) (b : Board) (st : Stands p b) (r : ℕ) (region : r < p .m
       let lm : (k - 1) % p .alpha < p .alpha = mod-lt (k - 1) (z .sectors) in
       let li : i < length (copies p (view p b r) (reclaims v)) = div-lt-iff-lt-mul (z .sectors) .1 (omega arith) in
       rw (← e) (reads-old b (freeBlock p (b .bst) (b .wear)) (stands-steady p b st)
-      (cut-copies p b st r region no-room every v low few (makes .found (unfold takesBlock in refl)) i m li (omega arith) (omega (arith, lm))) (old-refl p b))
+      (cut-copies p b st r region no-room every v low few w i m li (omega arith) (omega (arith, lm))) (old-refl p b))
+
+  -- the erase is made
+  gone-form : (t′ : Bool) → ReadsOld p b (roomed t′)
+  gone-form t′ = go (ℕ-discrete (length (validFrames p (view p b r) v)) 0)
+    where
+      go : Dec (length (validFrames p (view p b r) v) ≡ 0) → ReadsOld p b (roomed t′)
+      go (yes f) = vacant-form t′ f
+      go (no f) = roomed-form t′ (omega arith)
 
   -- the operations that make room
-  pub room-form : (k : ℕ) → k ≤ length (roomOps p b r (reclaims v)) → ReadsOld p b (replayChip p (b .chip) (take k (roomOps p b r (reclaims v))))
-  unfolding roomOps eraseOps planBlock
-  room-form k h = go (ℕ-discrete k 0) (decLt (length (copies p (view p b r) (reclaims v)) * p .alpha) k) (ℕ-discrete (length (validFrames p (view p b r) v)) 0)
+  pub room-form : (k : ℕ) → ReadsOld p b (replayChip p (b .chip) (take k (roomOps p b r (reclaims v))))
+  unfolding roomOps victimOps planBlock
+  room-form k = go (ℕ-discrete k 0) (decLt (length (copies p (view p b r) (reclaims v)) * p .alpha) k)
     where
+      old : ℕ
+      old = btAt p (b .bt) r v
+
       made : List Op
       made = framesOps p (freeBlock p (b .bst) (b .wear)) 0 (copies p (view p b r) (reclaims v))
 
       len : length made ≡ length (copies p (view p b r) (reclaims v)) * p .alpha
       len = frames-length p (freeBlock p (b .bst) (b .wear)) 0 (copies p (view p b r) (reclaims v))
 
-      all : length (made ++ erase (btAt p (b .bt) r v) ∷ []) ≡ length made + 1
-      all = length-append made (erase (btAt p (b .bt) r v) ∷ [])
+      past : (xs : List Op) → length made < k → (xs ≡ []) ⊎ ((xs ≡ erase old ∷ []) ⊎ (xs ≡ eraseOps p (b .wear) old)) → xs ≡ take (k - length made) (eraseOps p (b .wear) old)
+          → ReadsOld p b (replayChip p (b .chip) (made ++ xs))
+      past xs h (inl e) is = absurd (omega (arith, ap length (sym e ∙ is), some-taken (k - length made) (omega arith)))
+        where
+          some-taken : (m : ℕ) → 0 < m → 0 < length (take m (eraseOps p (b .wear) old))
+          some-taken zero l = absurd (omega arith)
+          some-taken (suc m) l = unfold eraseOps in omega arith
+      past xs h (inr (inl e)) is = rw e (gone-form false)
+      past xs h (inr (inr e)) is = rw e (unfold eraseOps in gone-form (worn p (b .wear) old))
 
-      go : Dec (k ≡ 0) → Dec (length (copies p (view p b r) (reclaims v)) * p .alpha < k) → Dec (length (validFrames p (view p b r) v) ≡ 0)
-          → ReadsOld p b (replayChip p (b .chip) (take k (made ++ erase (btAt p (b .bt) r v) ∷ [])))
-      go (yes e) d f = rw e (unfold replayChip in untouched p b st)
-      go (no e) (no d) f =
+      go : Dec (k ≡ 0) → Dec (length (copies p (view p b r) (reclaims v)) * p .alpha < k) → ReadsOld p b (replayChip p (b .chip) (take k (made ++ eraseOps p (b .wear) old)))
+      go (yes e) d = rw e (unfold replayChip in untouched p b st)
+      go (no e) (no d) =
           let o : k - length made ≡ 0 = omega (arith, len) in
-          rw (take-append k made (erase (btAt p (b .bt) r v) ∷ []), o, append-nil (take k made)) (copies-form k (omega arith) (omega arith))
-      go (no e) (yes d) (yes f) = rw (take-all k (made ++ erase (btAt p (b .bt) r v) ∷ []) (omega (arith, len, all))) (unfold roomOps eraseOps planBlock in vacant-form f)
-      go (no e) (yes d) (no f) = rw (take-all k (made ++ erase (btAt p (b .bt) r v) ∷ []) (omega (arith, len, all))) (unfold roomOps eraseOps planBlock in roomed-form (omega arith))
+          rw (take-append k made (eraseOps p (b .wear) old), o, append-nil (take k made)) (copies-form k (omega arith) (omega arith))
+      go (no e) (yes d) =
+          rw (take-append k made (eraseOps p (b .wear) old), take-all k made (omega (arith, len)))
+          (past (take (k - length made) (eraseOps p (b .wear) old)) (omega (arith, len)) (first-ops p (b .wear) old (k - length made)) refl)

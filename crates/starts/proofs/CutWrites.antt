@@ -20,7 +20,7 @@ use Rattle.rules.specs.Traces.{Op, frameOps, framesOps, replayChip}
 use Rattle.rules.specs.Write.{
   Plan,
   copies,
-  eraseOps,
+  victimOps,
   newFrame,
   nextStamp,
   planBlock,
@@ -29,6 +29,7 @@ use Rattle.rules.specs.Write.{
   planOps,
   planVBlock,
   roomOps,
+  takesBlock,
   writeOps,
   written,
   writtenBy,
@@ -73,15 +74,15 @@ module _ (p : Params) (b : Board) (st : Stands p b) (q : Request) (ok : replyOf 
       rw n (unfold replayChip in untouched p b st)
     where
       none-there : length (roomOps p b r₀ pl) ≡ 0
-      none-there = rw e (unfold roomOps framesOps eraseOps copies in refl)
+      none-there = rw e (unfold roomOps framesOps victimOps copies in refl)
   before-new pl (takes h v lv lacks e) mk k low =
       let n : k ≡ 0 = omega (arith, none-there, low) in
       rw n (unfold replayChip in untouched p b st)
     where
       none-there : length (roomOps p b r₀ pl) ≡ 0
-      none-there = rw e (unfold roomOps framesOps eraseOps copies in refl)
+      none-there = rw e (unfold roomOps framesOps victimOps copies in refl)
   before-new pl (renews h every v lv few e) mk k low =
-      rw e (room-form p b st r₀ region₀ h every v lv few (renews h every v lv few refl) (rw e at mk) k (rw e at low))
+      rw e (room-form p b st r₀ region₀ h every v lv few (renews h every v lv few refl) (mk .found (rw e (unfold takesBlock in refl))) k)
 
   plan-form : (pl : Plan) → pl ≡ planOf p (view p b r₀) → Case p (view p b r₀) pl → Makes p b r₀ pl → (k : ℕ) → k ≤ length (planOps p b r₀ q pl)
       → CutForm p b q (replayChip p (b .chip) (take k (planOps p b r₀ q pl)))

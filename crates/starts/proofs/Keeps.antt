@@ -16,9 +16,9 @@ use Rattle.rules.specs.Numbers.{regionOf}
 use Rattle.rules.specs.Tables.{Board, bstAt, btAt, btEntry, ctAt, none}
 use Rattle.rules.specs.Regions.{sector, sectorIn, view}
 use Rattle.rules.specs.Orderly.{named}
-use Rattle.rules.specs.Traces.{replayChip, replayWear}
+use Rattle.rules.specs.Traces.{erasedState, replayChip, replayWear}
 use Rattle.rules.specs.Format.{bad}
-use Rattle.rules.specs.Start.{foundBt, keptBlock, startOps, started}
+use Rattle.rules.specs.Start.{foundBt, keptBlock, leftOver, startOps, started}
 use Rattle.rules.proofs.Continues.{segs-in}
 use Rattle.rules.proofs.RegionFacts.{Entry}
 use Rattle.rules.proofs.Sizes.{Sizes, sizes}
@@ -28,7 +28,7 @@ use Rattle.starts.specs.Stands.{Clear, Stands}
 use Rattle.starts.proofs.Latest.{latest-is}
 use Rattle.starts.proofs.Returns.{bad-is, returns-admitted, returns-bodies, returns-clear, returns-live, returns-read, returns-stands}
 use Rattle.starts.proofs.Shows.{kept-is}
-use Rattle.starts.proofs.ShowsStarts.{no-erase}
+use Rattle.starts.proofs.ShowsStarts.{no-erase, none-left}
 use Rattle.starts.proofs.Steady.{Shown, Steady, own-shown, stands-steady}
 
 module _ (p : Params) (b : Board) (st : Stands p b) where
@@ -46,8 +46,8 @@ module _ (p : Params) (b : Board) (st : Stands p b) where
 
   -- ---- the chip
 
-  operations : startOps p (b .chip) ≡ []
-  operations = no-erase p z (b .chip) b t (shown .shows)
+  operations : startOps p (b .chip) (b .wear) ≡ []
+  operations = no-erase p z (b .chip) b t (shown .shows) (b .wear)
 
   chip : (started p b) .chip ≡ b .chip
   unfolding started
@@ -85,9 +85,13 @@ module _ (p : Params) (b : Board) (st : Stands p b) where
       go (suc (suc zero)) e l = rw e
       go (suc (suc (suc k))) e l = absurd (omega arith)
 
+  -- and no block is left over
+  found-kind : (n : ℕ) → n < p .N → bstAt (b .bst) n ≡ cond (bad p (b .chip) n) 2 (cond (named p (foundBt p (b .chip)) n) 1 (cond (leftOver p (b .chip) n) (erasedState p (b .wear) n) 0))
+  found-kind n h = rw (none-left p z (b .chip) b t (shown .shows) n h) (kind n h)
+
   bst : (started p b) .bst ≡ b .bst
   unfolding started bstAt
-  bst = sym (list-is 0 (p .N) (λ n. cond (bad p (b .chip) n) 2 (cond (named p (foundBt p (b .chip)) n) 1 0)) (b .bst) (t .bstLength) kind)
+  bst = sym (list-is 0 (p .N) (λ n. cond (bad p (b .chip) n) 2 (cond (named p (foundBt p (b .chip)) n) 1 (cond (leftOver p (b .chip) n) (erasedState p (b .wear) n) 0))) (b .bst) (t .bstLength) found-kind)
 
   -- ---- CT, and what is read
 

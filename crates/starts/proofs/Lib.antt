@@ -14,6 +14,7 @@ pub mod Again
 pub mod Accepted
 pub mod Refound
 pub mod Steady
+pub mod Retired
 pub mod Returns
 pub mod Latest
 pub mod Keeps

@@ -3,12 +3,10 @@
 -- Assumes nothing.
 use mathlib.Core.Path.{_≡_, _∙_}
 use mathlib.Core.Logic.{_⊎_, inl, inr}
-use Prim.Native.Nat.{ℕ, zero, suc, _≤_}
-use native.Mathlib.Omega.{arith}
+use Prim.Native.Nat.{ℕ, _≤_}
 use mathlib.Core.Bool.{true}
 use mathlib.Core.List.{List}
 use lib.ListN.{length, take}
-use lib.Seq.{take-all}
 use Rattle.rules.specs.declared.Params.{Params}
 use Rattle.rules.specs.declared.Reply.the-variants.{Accepted}
 use Rattle.rules.specs.Parameters.{allowed}
@@ -16,13 +14,13 @@ use Rattle.rules.specs.Tables.{Board}
 use Rattle.rules.specs.Requests.{Request, write}
 use Rattle.rules.specs.Replies.{lengthsFit, replyOf}
 use Rattle.rules.specs.Traces.{replayChip}
-use Rattle.rules.specs.Start.{startOps, started}
+use Rattle.rules.specs.Start.{startOps}
 use Rattle.rules.specs.Write.{writeOps, written}
 use Rattle.starts.specs.Recovers.{Recovers}
 use Rattle.starts.specs.Stands.{Stands}
 use Rattle.starts.proofs.CutWrites.{CutForm, before, cut-form, is-whole}
 use Rattle.starts.proofs.Latest.{latest-is}
-use Rattle.starts.proofs.Returns.{returns-admitted, returns-clear, returns-once, returns-read, returns-shown, returns-stands}
+use Rattle.starts.proofs.Returns.{returns-admitted, returns-clear, returns-cut, returns-once, returns-read, returns-stands}
 use Rattle.starts.proofs.Stands.{written-stands}
 use Rattle.starts.proofs.Steady.{ReadsOld, reads-old, untouched}
 
@@ -33,19 +31,16 @@ module _ (p : Params) (fine : allowed p ≡ true) (b₀ b : Board) (lengths : le
   old-recovers (reads-old b′ x st sh old) =
       record {
         admitted = returns-admitted p fine b₀ b′ x lengths st sh;
-        once = (returns-once p fine b₀ b′ x lengths st sh) .0;
+        once = returns-once p fine b₀ b′ x lengths st sh;
         reads = λ c h clear j. returns-read p fine b₀ b′ x lengths st sh c h (old .clear c h clear) j ∙ old .reads c h j;
         returns = λ c h j. latest-is p fine b₀ b′ x lengths st sh c h j;
         stands = returns-stands p fine b₀ b′ x lengths st sh;
         clear = returns-clear p fine b₀ b′ x lengths st sh;
       }
 
-  -- cut after any of its operations, of which there is one at most
-  pub start-cut : ReadsOld p b (b₀ .chip) → (k : ℕ) → ReadsOld p b (replayChip p (b₀ .chip) (take k (startOps p (b₀ .chip))))
-  start-cut old zero = unfold replayChip in old
-  start-cut (reads-old b′ x st sh old) (suc k) =
-      rw (take-all (suc k) (startOps p (b₀ .chip)) (omega (arith, (returns-once p fine b₀ b′ x lengths st sh) .1)))
-      (reads-old b′ (p .N) st (unfold started in returns-shown p fine b₀ b′ x lengths st sh) old)
+  -- cut after any of its operations: the erase of one block at most, and its mark
+  pub start-cut : ReadsOld p b (b₀ .chip) → (k : ℕ) → ReadsOld p b (replayChip p (b₀ .chip) (take k (startOps p (b₀ .chip) (b₀ .wear))))
+  start-cut (reads-old b′ x st sh old) k = returns-cut p fine b₀ b′ x lengths st sh b old k
 
 -- ---- a write
 

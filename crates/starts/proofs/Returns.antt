@@ -3,36 +3,38 @@
 -- Assumes nothing.
 use mathlib.Core.Path.{_≡_, refl, sym, ap, _∙_}
 use mathlib.Core.Logic.{_⊎_, inl, inr}
-use Prim.Native.Nat.{ℕ, zero, suc, _+_, _-_, _*_, _≤_, _<_}
+use Prim.Native.Nat.{ℕ, zero, suc, _-_, _≤_, _<_}
 use native.Mathlib.Nat.{mod-lt}
 use native.Mathlib.Omega.{arith}
 use native.Mathlib.Decide.{ℕ-discrete, decLt}
-use mathlib.Core.Bool.{true, false, not}
-use mathlib.Core.List.{List}
+use mathlib.Core.Bool.{Bool, true, false, cond}
+use mathlib.Core.List.{List, [], _∷_}
 use lib.Dec.{eqb}
 use borrow.Author.Tests.{eq-eqb, ne-eqb}
 use lib.ListN.{List·getD-eq-default, length, replicate, take}
+use lib.Seq.{take-nil}
 use Rattle.lists.specs.Below.{countBelow}
 use Rattle.lists.proofs.Lists.{list-at}
 use Rattle.lists.proofs.Parts.{next}
-use Rattle.lists.proofs.Tests.{and-intro, count-cong}
+use Rattle.lists.proofs.Tests.{and-intro}
 use Rattle.rules.specs.declared.Params.{Params}
 use Rattle.rules.specs.Parameters.{allowed, blockBytes, frames}
 use Rattle.rules.specs.Numbers.{regionOf, segmentOf, vblockOf}
 use Rattle.rules.specs.Tables.{Board, bstAt, btAt, ctAt, none}
 use Rattle.rules.specs.Pages.{block, frame, held, holds, le32, page, spare, whole}
 use Rattle.rules.specs.Regions.{frameOf, sector, sectorIn, view, viewOf}
-use Rattle.rules.specs.Format.{bad, goodBlocks}
+use Rattle.rules.specs.Format.{bad}
 use Rattle.rules.specs.Start.{foundBt, foundSegment, foundView, inUse, leftOver, startOps, startable, started}
 use Rattle.rules.specs.Replies.{lengthsFit}
-use Rattle.rules.specs.Traces.{eraseWhere, erasesIn}
-use Rattle.rules.proofs.BadBlocks.{blank-good}
-use Rattle.rules.proofs.Erases.{erases-counted, erases-long, erasesBelow}
+use Rattle.rules.specs.Traces.{erase, eraseOps, eraseWhere, erasesIn, mark, replayChip, worn}
+use Rattle.rules.proofs.BadBytes.{blank-good}
+use Rattle.rules.proofs.Erases.{erases-counted, erasesBelow}
 use Rattle.rules.proofs.Frames.{seg-low}
 use Rattle.rules.proofs.RegionFacts.{Entry, Fronts, good-holds}
 use Rattle.rules.proofs.Replays.{block-size}
 use Rattle.rules.proofs.Sizes.{Sizes, sizes}
 use Rattle.rules.proofs.TableFacts.{Tables}
+use Rattle.rules.proofs.WornBlocks.{first-ops, left-ran}
 use Rattle.starts.specs.Admitted.{StartAdmitted}
 use Rattle.starts.specs.Stands.{Clear, Stands}
 use Rattle.starts.specs.Timely.{Timely, WholeAt, frameStamp}
@@ -41,11 +43,12 @@ use Rattle.starts.proofs.Found.{found-frame, same-segment}
 use Rattle.starts.proofs.KeptBlocks.{named-use, use-good}
 use Rattle.starts.proofs.Refound.{found-live, refound-frame, refound-timely, timely-apart}
 use Rattle.starts.proofs.Shows.{LeftOver, Shows, found-body, own-use, owner}
-use Rattle.starts.proofs.ShowsStarts.{left-x, one-passes, shows-startable, swept-same}
+use Rattle.starts.proofs.ShowsStarts.{left-x, one-passes, shows-startable, start-ops}
 use Rattle.starts.proofs.StartPromise.{body-same, start-lengths, start-orderly}
-use Rattle.starts.proofs.StartTables.{start-tables, swept}
+use Rattle.starts.proofs.StartTables.{start-tables}
 use Rattle.starts.proofs.Timely.{whole-good}
-use Rattle.starts.proofs.Steady.{Shown, Steady, same-shown}
+use Rattle.starts.proofs.Retired.{retired-reads}
+use Rattle.starts.proofs.Steady.{Old, ReadsOld, Shown, Steady, reads-old}
 
 module _ (p : Params) (fine : allowed p ≡ true) (b₀ b : Board) (x : ℕ) (lengths : lengthsFit p b₀ ≡ true) (st : Steady p b) (sh : Shown p (b₀ .chip) b x) where
   z : Sizes p
@@ -224,12 +227,34 @@ module _ (p : Params) (fine : allowed p ≡ true) (b₀ b : Board) (x : ℕ) (le
   one-left =
       one-passes (p .N) (leftOver p (b₀ .chip)) (λ i j hi hj a c. (left-x p z (b₀ .chip) b t x s i hi a) .0 ∙ sym ((left-x p z (b₀ .chip) b t x s j hj c) .0))
 
-  pub returns-once : (erasesIn (startOps p (b₀ .chip)) ≤ 1) × (length (startOps p (b₀ .chip)) ≤ 1)
+  pub returns-once : erasesIn (startOps p (b₀ .chip) (b₀ .wear)) ≤ 1
   unfolding startOps eraseWhere erasesBelow
-  returns-once = (rw ((erases-counted (leftOver p (b₀ .chip)) (p .N)) .1) one-left, rw (erases-long (leftOver p (b₀ .chip)) (p .N)) one-left)
+  returns-once = rw ((erases-counted p (b₀ .wear) (leftOver p (b₀ .chip)) (p .N)) .1) one-left
 
-  -- the chip that is left shows the board, no block left over
-  pub returns-shown : Shown p ((started p b₀) .chip) b (p .N)
-  returns-shown =
-      same-shown p z b st ((started p b₀) .chip) ((swept p b₀ returns-admitted) .size ∙ s .size)
-      (swept-same p z (b₀ .chip) b t x s ((started p b₀) .chip) (swept p b₀ returns-admitted))
+  -- ---- and where it is cut
+
+  erased-else : (t′ : Bool) → x < p .N → (m : ℕ) → m < p .N → (m ≡ x → ⊥) → block p (replayChip p (b₀ .chip) (erase x ∷ cond t′ (mark x ∷ []) [])) m ≡ block p (b .chip) m
+  erased-else t′ h m k ne = (left-ran p z (b₀ .chip) x (rw (s .size) (next (blockBytes p) x (p .N) h)) t′) .else m ne ∙ s .else m k ne
+
+  -- with block x erased, and marked or not, the chip shows a board that reads the same
+  erased-reads : (t′ : Bool) → x < p .N → (b₁ : Board) → Old p b₁ b → ReadsOld p b₁ (replayChip p (b₀ .chip) (erase x ∷ cond t′ (mark x ∷ []) []))
+  erased-reads t′ h b₁ old =
+      let ran = left-ran p z (b₀ .chip) x (rw (s .size) (next (blockBytes p) x (p .N) h)) t′ in
+      retired-reads p z b st x h (s .free) t′ (replayChip p (b₀ .chip) (erase x ∷ cond t′ (mark x ∷ []) [])) (ran .size ∙ s .size) (ran .here) (erased-else t′ h) b₁ old
+
+  pub returns-cut : (b₁ : Board) → Old p b₁ b → (k : ℕ) → ReadsOld p b₁ (replayChip p (b₀ .chip) (take k (startOps p (b₀ .chip) (b₀ .wear))))
+  returns-cut b₁ old k = go (start-ops p z (b₀ .chip) b t x s (b₀ .wear))
+    where
+      as-it-was : ReadsOld p b₁ (b₀ .chip)
+      as-it-was = reads-old b x st sh old
+
+      part : x < p .N → (take k (eraseOps p (b₀ .wear) x) ≡ []) ⊎ ((take k (eraseOps p (b₀ .wear) x) ≡ erase x ∷ []) ⊎ (take k (eraseOps p (b₀ .wear) x) ≡ eraseOps p (b₀ .wear) x))
+          → ReadsOld p b₁ (replayChip p (b₀ .chip) (take k (eraseOps p (b₀ .wear) x)))
+      part h (inl e) = rw e (unfold replayChip in as-it-was)
+      part h (inr (inl e)) = rw e (erased-reads false h b₁ old)
+      part h (inr (inr e)) = rw e (unfold eraseOps in erased-reads (worn p (b₀ .wear) x) h b₁ old)
+
+      go : ((x < p .N) × (startOps p (b₀ .chip) (b₀ .wear) ≡ eraseOps p (b₀ .wear) x)) ⊎ (startOps p (b₀ .chip) (b₀ .wear) ≡ [])
+          → ReadsOld p b₁ (replayChip p (b₀ .chip) (take k (startOps p (b₀ .chip) (b₀ .wear))))
+      go (inl w) = rw (w .1) (part (w .0) (first-ops p (b₀ .wear) x k))
+      go (inr e) = rw (e, take-nil k) (unfold replayChip in as-it-was)

@@ -5,9 +5,8 @@ use mathlib.Core.Logic.{_⊎_}
 use Prim.Native.Nat.{ℕ, _+_, _*_, _≤_, _<_}
 use native.Mathlib.Nat.{mod-lt}
 use native.Mathlib.Decide.{ℕ-discrete}
-use mathlib.Core.Bool.{true}
+use mathlib.Core.Bool.{Bool, true}
 use mathlib.Core.List.{List}
-use borrow.Author.Tests.{eq-eqb, eqb-true}
 use lib.ListN.{length, length-set, set}
 use lib.Seq.{getD-set-other, getD-set-same}
 use Rattle.lists.specs.Below.{updated}
@@ -20,18 +19,16 @@ use Rattle.rules.specs.Pages.{filled, frame}
 use Rattle.rules.specs.Regions.{View, assigned, sector, view, viewOf}
 use Rattle.rules.specs.Format.{bad}
 use Rattle.rules.specs.Start.{openOnce}
-use Rattle.rules.specs.Traces.{replayChip}
-use Rattle.rules.specs.Write.{Plan, copies, followCt, planBlock, planBst, planVBlock, roomOps}
+use Rattle.rules.specs.Write.{Plan, copies, followCt, planBlock, planVBlock}
 use Rattle.rules.specs.Machine.{withRoom}
-use Rattle.rules.proofs.BadBlocks.{bytes-bad}
-use Rattle.rules.proofs.Continues.{Makes}
+use Rattle.rules.proofs.Continues.{MakesOn}
 use Rattle.rules.proofs.Isolation.{Effect, index-low, others-view, own-view}
 use Rattle.rules.proofs.PlanCases.{Case}
 use Rattle.rules.proofs.RegionFacts.{Entry, Neat, UpTo, up-to-filled}
 use Rattle.rules.proofs.Replays.{Ran}
 use Rattle.rules.proofs.Sizes.{Sizes}
 use Rattle.rules.proofs.TableFacts.{Tables}
-use Rattle.rules.proofs.TablesKept.{Change, reserved, reserved-block, tables-kept}
+use Rattle.rules.proofs.TablesKept.{Change, reserved-bad, tables-kept}
 use Rattle.starts.specs.Stands.{Clear, Stands}
 use Rattle.starts.specs.Timely.{Timely, WholeAt}
 use Rattle.starts.proofs.Alike.{Alike, alike-entries, alike-reads, alike-timely, equal, whole-back}
@@ -39,7 +36,8 @@ use Rattle.starts.proofs.Carries.{Carries, carries, room-fronts}
 use Rattle.starts.proofs.Steady.{Old, Shown, Steady, one-open, same-shown, stands-neat, stands-steady, stands-tables}
 use Rattle.starts.proofs.Timely.{whole-low}
 
-module _ (p : Params) (z : Sizes p) (b : Board) (st : Stands p b) (r : ℕ) (region : r < p .mu) (pl : Plan) (case : Case p (view p b r) pl) (makes : Makes p b r pl) where
+module _ (p : Params) (z : Sizes p) (b : Board) (st : Stands p b) (r : ℕ) (region : r < p .mu) (pl : Plan) (case : Case p (view p b r) pl)
+    (chip₁ bst₁ : List ℕ) (worn₁ : Bool) (makes : MakesOn p b r pl chip₁ bst₁ worn₁) where
   t : Tables p b
   t = stands-tables p b st
 
@@ -47,10 +45,10 @@ module _ (p : Params) (z : Sizes p) (b : Board) (st : Stands p b) (r : ℕ) (reg
   nt = stands-neat p b st r region
 
   carried : Carries p (view p b r) (withRoom p (view p b r) pl)
-  carried = carries p z b t r region nt pl case makes
+  carried = carries p z b t r region nt pl case chip₁ bst₁ worn₁ makes
 
   room-entries : (c u g : ℕ) → WholeAt p (withRoom p (view p b r) pl) c u g → ((withRoom p (view p b r) pl) .segOf c ≡ none) ⊎ Entry p (withRoom p (view p b r) pl) c
-  room-entries c u g a = makes .base .entries c (whole-low p z r (withRoom p (view p b r) pl) (room-fronts p z b t r region nt pl case makes) c u g a)
+  room-entries c u g a = makes .base .entries c (whole-low p z r (withRoom p (view p b r) pl) (room-fronts p z b t r region nt pl case chip₁ bst₁ worn₁ makes) c u g a)
 
   -- a board with the region's view like the one with room made
   module _ (b′ : Board) (t′ : Tables p b′) (marked : (n : ℕ) → n < p .N → bstAt (b′ .bst) n ≡ 2 → bad p (b′ .chip) n ≡ true) (vw′ : View) (own : view p b′ r ≡ vw′)
@@ -108,14 +106,14 @@ module _ (p : Params) (z : Sizes p) (b : Board) (st : Stands p b) (r : ℕ) (reg
 
 -- ---- room made, and block n as given
 
-unfoldable pub midBoard : Params → Board → ℕ → Plan → List ℕ → Board
-midBoard p b r pl chip =
+unfoldable pub midBoard : Params → Board → ℕ → Plan → List ℕ → List ℕ → Board
+midBoard p b r pl bst chip =
     record {
       chip = chip;
       ct = followCt p (planVBlock pl) 0 (copies p (view p b r) pl) (b .ct);
       bt = set (b .bt) (r * p .gamma + planVBlock pl) (planBlock p b r pl);
       fst = b .fst;
-      bst = planBst p b r pl;
+      bst = bst;
       wear = b .wear;
       marks = b .marks;
       stamps = b .stamps;
@@ -124,8 +122,8 @@ midBoard p b r pl chip =
 unfoldable pub midView : Params → Board → ℕ → Plan → List ℕ → View
 midView p b r pl blk = record { segOf = (withRoom p (view p b r) pl) .segOf; lastSeg = (view p b r) .lastSeg; body = updated ((withRoom p (view p b r) pl) .body) (planVBlock pl) blk }
 
-module _ (p : Params) (z : Sizes p) (b : Board) (st : Stands p b) (r : ℕ) (region : r < p .mu) (pl : Plan) (case : Case p (view p b r) pl) (makes : Makes p b r pl)
-    (chip′ blk : List ℕ) (k : ℕ) (ran : Ran p (replayChip p (b .chip) (roomOps p b r pl)) chip′ (planBlock p b r pl) blk) (some : 0 < k) (most : k ≤ frames p) (upto : UpTo p r (planVBlock pl) k blk)
+module _ (p : Params) (z : Sizes p) (b : Board) (st : Stands p b) (r : ℕ) (region : r < p .mu) (pl : Plan) (case : Case p (view p b r) pl)
+    (chip₁ bst₁ : List ℕ) (worn₁ : Bool) (makes : MakesOn p b r pl chip₁ bst₁ worn₁) (chip′ blk : List ℕ) (k : ℕ) (ran : Ran p chip₁ chip′ (planBlock p b r pl) blk) (some : 0 < k) (most : k ≤ frames p) (upto : UpTo p r (planVBlock pl) k blk)
     (like : (g : ℕ) → g < frames p → Alike p (frame p ((withRoom p (view p b r) pl) .body (planVBlock pl)) g) (frame p blk g)) where
   t₂ : Tables p b
   t₂ = stands-tables p b st
@@ -133,15 +131,15 @@ module _ (p : Params) (z : Sizes p) (b : Board) (st : Stands p b) (r : ℕ) (reg
   at-index : r * p .gamma + planVBlock pl < length (b .bt)
   at-index = rw (t₂ .btLength) (index-low p r (planVBlock pl) region (makes .base .ready .mine))
 
-  entry-else : (i : ℕ) → (i ≡ r * p .gamma + planVBlock pl → ⊥) → btEntry ((midBoard p b r pl chip′) .bt) i ≡ btEntry (b .bt) i
+  entry-else : (i : ℕ) → (i ≡ r * p .gamma + planVBlock pl → ⊥) → btEntry ((midBoard p b r pl bst₁ chip′) .bt) i ≡ btEntry (b .bt) i
   unfolding btEntry midBoard
   entry-else i ne = getD-set-other (b .bt) (r * p .gamma + planVBlock pl) i (planBlock p b r pl) none ne
 
-  entry-here : btEntry ((midBoard p b r pl chip′) .bt) (r * p .gamma + planVBlock pl) ≡ planBlock p b r pl
+  entry-here : btEntry ((midBoard p b r pl bst₁ chip′) .bt) (r * p .gamma + planVBlock pl) ≡ planBlock p b r pl
   unfolding btEntry midBoard
   entry-here = getD-set-same (b .bt) (r * p .gamma + planVBlock pl) (planBlock p b r pl) none at-index
 
-  mid-effect : Effect p b (midBoard p b r pl chip′) r (planVBlock pl) (planBlock p b r pl) (midView p b r pl blk)
+  mid-effect : Effect p b (midBoard p b r pl bst₁ chip′) r (planVBlock pl) (planBlock p b r pl) (midView p b r pl blk)
   unfolding midBoard midView
   mid-effect =
       record {
@@ -158,7 +156,7 @@ module _ (p : Params) (z : Sizes p) (b : Board) (st : Stands p b) (r : ℕ) (reg
         blockElse = λ i h ne x. ran .else (btEntry (b .bt) i) (makes .room .own i h ne x) ∙ makes .room .blockElse i h ne x;
       }
 
-  mid-change : Change p b (midBoard p b r pl chip′) (r * p .gamma + planVBlock pl) (planBlock p b r pl)
+  mid-change : Change p b (midBoard p b r pl bst₁ chip′) (r * p .gamma + planVBlock pl) (planBlock p b r pl)
   unfolding midBoard btAt btEntry bstAt
   mid-change =
       record {
@@ -177,18 +175,17 @@ module _ (p : Params) (z : Sizes p) (b : Board) (st : Stands p b) (r : ℕ) (reg
         was = makes .was;
         kindHere = makes .kindHere;
         kindOld = makes .kindOld;
-        eraseOld = λ ne x. rw (ran .else _ ne) (makes .eraseOld ne x);
+        wornOut = worn₁;
+        blockOld = λ ne x. ran .else _ ne ∙ makes .blockOld ne x;
         kindElse = makes .kindElse;
         blockElse = λ m h ne x. ran .else m ne ∙ makes .blockElse m h ne x;
       }
 
-  mid-tables : Tables p (midBoard p b r pl chip′)
-  mid-tables = tables-kept p z b (midBoard p b r pl chip′) t₂ _ _ mid-change
+  mid-tables : Tables p (midBoard p b r pl bst₁ chip′)
+  mid-tables = tables-kept p z b (midBoard p b r pl bst₁ chip′) t₂ _ _ mid-change
 
-  mid-marked : (n : ℕ) → n < p .N → bstAt ((midBoard p b r pl chip′) .bst) n ≡ 2 → bad p ((midBoard p b r pl chip′) .chip) n ≡ true
-  mid-marked n h e =
-      let was : bstAt (b .bst) n ≡ 2 = eqb-true _ _ (reserved p z b (midBoard p b r pl chip′) t₂ _ _ mid-change n h ∙ eq-eqb _ _ e) in
-      bytes-bad p (b .chip) ((midBoard p b r pl chip′) .chip) n (reserved-block p z b (midBoard p b r pl chip′) t₂ _ _ mid-change n h was) ∙ st .marked n h was
+  mid-marked : (n : ℕ) → n < p .N → bstAt ((midBoard p b r pl bst₁ chip′) .bst) n ≡ 2 → bad p ((midBoard p b r pl bst₁ chip′) .chip) n ≡ true
+  mid-marked n h e = reserved-bad p z b (midBoard p b r pl bst₁ chip′) t₂ _ _ mid-change n h (st .marked n h) e
 
   body-here : (midView p b r pl blk) .body (planVBlock pl) ≡ blk
   unfolding midView
@@ -224,17 +221,17 @@ module _ (p : Params) (z : Sizes p) (b : Board) (st : Stands p b) (r : ℕ) (reg
   unfolding midView
   mid-segs c = refl
 
-  mid-own : view p (midBoard p b r pl chip′) r ≡ midView p b r pl blk
-  mid-own = own-view p b (midBoard p b r pl chip′) r (planVBlock pl) (planBlock p b r pl) (midView p b r pl blk) (makes .base .ready .mine) region mid-effect
+  mid-own : view p (midBoard p b r pl bst₁ chip′) r ≡ midView p b r pl blk
+  mid-own = own-view p b (midBoard p b r pl bst₁ chip′) r (planVBlock pl) (planBlock p b r pl) (midView p b r pl blk) (makes .base .ready .mine) region mid-effect
 
-  mid-others : (r′ : ℕ) → r′ < p .mu → (r′ ≡ r → ⊥) → view p (midBoard p b r pl chip′) r′ ≡ view p b r′
-  mid-others = others-view p b (midBoard p b r pl chip′) r (planVBlock pl) (planBlock p b r pl) (midView p b r pl blk) (makes .base .ready .mine) region mid-effect
+  mid-others : (r′ : ℕ) → r′ < p .mu → (r′ ≡ r → ⊥) → view p (midBoard p b r pl bst₁ chip′) r′ ≡ view p b r′
+  mid-others = others-view p b (midBoard p b r pl bst₁ chip′) r (planVBlock pl) (planBlock p b r pl) (midView p b r pl blk) (makes .base .ready .mine) region mid-effect
 
-  pub mid-steady : Steady p (midBoard p b r pl chip′)
-  mid-steady = settled p z b st r region pl case makes (midBoard p b r pl chip′) mid-tables mid-marked (midView p b r pl blk) mid-own mid-others mid-segs mid-alike mid-blocks mid-full
+  pub mid-steady : Steady p (midBoard p b r pl bst₁ chip′)
+  mid-steady = settled p z b st r region pl case chip₁ bst₁ worn₁ makes (midBoard p b r pl bst₁ chip′) mid-tables mid-marked (midView p b r pl blk) mid-own mid-others mid-segs mid-alike mid-blocks mid-full
 
-  pub mid-old : Old p b (midBoard p b r pl chip′)
-  mid-old = settled-old p z b st r region pl case makes (midBoard p b r pl chip′) mid-tables mid-marked (midView p b r pl blk) mid-own mid-others mid-segs mid-alike mid-blocks mid-full
+  pub mid-old : Old p b (midBoard p b r pl bst₁ chip′)
+  mid-old = settled-old p z b st r region pl case chip₁ bst₁ worn₁ makes (midBoard p b r pl bst₁ chip′) mid-tables mid-marked (midView p b r pl blk) mid-own mid-others mid-segs mid-alike mid-blocks mid-full
 
-  pub mid-shown : Shown p chip′ (midBoard p b r pl chip′) (p .N)
-  mid-shown = same-shown p z (midBoard p b r pl chip′) mid-steady chip′ (ran .size ∙ makes .room .chipLength) (λ m h. unfold midBoard in refl)
+  pub mid-shown : Shown p chip′ (midBoard p b r pl bst₁ chip′) (p .N)
+  mid-shown = same-shown p z (midBoard p b r pl bst₁ chip′) mid-steady chip′ (ran .size ∙ makes .room .chipLength) (λ m h. unfold midBoard in refl)

@@ -6,18 +6,16 @@ use mathlib.Core.Logic.{_⊎_, inl, inr}
 use Prim.Native.Nat.{ℕ, _+_, _≤_, _<_}
 use native.Mathlib.Omega.{arith}
 use native.Mathlib.Decide.{ℕ-discrete, decLt}
-use mathlib.Core.Bool.{Bool, true, false, not, _&&_, _||_}
+use mathlib.Core.Bool.{Bool, true, false, not, _&&_, _||_, cond}
 use mathlib.Core.List.{List, []}
 use lib.Dec.{eqb, leb}
 use borrow.Author.Tests.{eq-eqb, le-leb, lt-ltb, ne-eqb}
-use Rattle.lists.specs.Below.{countBelow}
+use Rattle.lists.specs.Below.{countBelow, joinBelow}
 use Rattle.lists.proofs.Counts.{count-split}
-use Rattle.lists.proofs.Parts.{next}
 use Rattle.lists.proofs.Searches.{pigeon}
 use Rattle.lists.proofs.Tests.{all-below-intro, all-true, and-intro, and-left, never, or-right, so}
 use Rattle.rules.specs.declared.Params.{Params}
-use Rattle.rules.specs.Parameters.{blockBytes}
-use Rattle.rules.specs.Tables.{Board, bstAt, btAt, none}
+use Rattle.rules.specs.Tables.{Board, btAt, none}
 use Rattle.rules.specs.Pages.{block, isFull}
 use Rattle.rules.specs.Regions.{view}
 use Rattle.rules.specs.Start.{
@@ -41,10 +39,8 @@ use Rattle.rules.specs.Start.{
   startable,
   vblockNamed,
 }
-use Rattle.rules.specs.Traces.{eraseWhere}
-use Rattle.rules.proofs.Erases.{Cleared, erasesBelow, none-pass}
-use Rattle.rules.proofs.Opens.{erased-fresh}
-use Rattle.rules.proofs.Replays.{block-size}
+use Rattle.rules.specs.Traces.{eraseOps, eraseWhere}
+use Rattle.rules.proofs.Erases.{erasesBelow, none-pass, only-one}
 use Rattle.rules.proofs.Sizes.{Sizes}
 use Rattle.rules.proofs.TableFacts.{Tables}
 use Rattle.starts.proofs.Found.{same-apart, same-once}
@@ -148,30 +144,36 @@ module _ (p : Params) (z : Sizes p) (chip : List ℕ) (b : Board) (t : Tables p 
   x-left l =
       left-back (regionNamed p (block p chip x)) (vblockNamed p (block p chip x)) (region-low p z (block p chip x)) (vblock-low p (block p chip x) (l .sound)) (own-names p z chip x (l .used)) l
 
-  -- the chip that the start leaves is the board's, block by block
-  pub swept-same : (chip′ : List ℕ) → Cleared p (leftOver p chip) chip chip′ (p .N) → (m : ℕ) → m < p .N → block p chip′ m ≡ block p (b .chip) m
-  swept-same chip′ c m h = go (so (leftOver p chip m))
+  -- the operations of a start: of block x, where it is left over, or none
+  pub start-ops : (wear : List ℕ) → ((x < p .N) × (startOps p chip wear ≡ eraseOps p wear x)) ⊎ (startOps p chip wear ≡ [])
+  unfolding startOps eraseWhere erasesBelow
+  start-ops wear = go (decLt x (p .N)) (so (leftOver p chip x))
     where
-      go : (leftOver p chip m ≡ true) ⊎ (leftOver p chip m ≡ false) → block p chip′ m ≡ block p (b .chip) m
-      go (inl e) =
-          let k = (left-x m h e) .0 in
-          let f : bstAt (b .bst) m ≡ 0 = ap (bstAt (b .bst)) k ∙ s .free in
-          c .done m h e ∙ sym (erased-fresh p (block p (b .chip) m) (block-size p (b .chip) m (rw (t .chipLength) (next (blockBytes p) m (p .N) h))) (t .free m h f))
-      go (inr e) = c .kept m e ∙ pick (ℕ-discrete m x)
+      other : (n : ℕ) → n < p .N → (n ≡ x → ⊥) → leftOver p chip n ≡ false
+      other n h ne = pick (so (leftOver p chip n))
         where
-          pick : Dec (m ≡ x) → block p chip m ≡ block p (b .chip) m
-          pick (no k) = s .else m h k
-          pick (yes k) = rw k (same (s .here (rw (← k) h)))
-            where
-              same : (block p chip x ≡ block p (b .chip) x) ⊎ LeftOver p chip b x → block p chip x ≡ block p (b .chip) x
-              same (inl y) = y
-              same (inr l) = absurd (never (x-left l) (sym (ap (leftOver p chip) k) ∙ e))
+          pick : (leftOver p chip n ≡ true) ⊎ (leftOver p chip n ≡ false) → leftOver p chip n ≡ false
+          pick (inl e) = absurd (ne ((left-x n h e) .0))
+          pick (inr e) = e
+
+      go : Dec (x < p .N) → (leftOver p chip x ≡ true) ⊎ (leftOver p chip x ≡ false)
+          → ((x < p .N) × (joinBelow (p .N) (λ n. cond (leftOver p chip n) (eraseOps p wear n) []) ≡ eraseOps p wear x)) ⊎ (joinBelow (p .N) (λ n. cond (leftOver p chip n) (eraseOps p wear n) []) ≡ [])
+      go (yes h) (inl e) = inl (h, only-one p wear (leftOver p chip) x (p .N) h e other)
+      go (yes h) (inr e) = inr (none-pass p wear (leftOver p chip) (p .N) (λ n k. pick n k (ℕ-discrete n x)))
+        where
+          pick : (n : ℕ) → n < p .N → Dec (n ≡ x) → leftOver p chip n ≡ false
+          pick n k (yes y) = ap (leftOver p chip) y ∙ e
+          pick n k (no y) = other n k y
+      go (no h) s′ = inr (none-pass p wear (leftOver p chip) (p .N) (λ n k. other n k (λ y. h (rw (← y) k))))
 
 -- where no block is left over it erases none
-pub no-erase : (p : Params) (z : Sizes p) (chip : List ℕ) (b : Board) (t : Tables p b) → Shows p chip b (p .N) → startOps p chip ≡ []
-unfolding startOps eraseWhere erasesBelow
-no-erase p z chip b t s = none-pass (leftOver p chip) (p .N) (λ n h. go n h (so (leftOver p chip n)))
+pub none-left : (p : Params) (z : Sizes p) (chip : List ℕ) (b : Board) (t : Tables p b) → Shows p chip b (p .N) → (n : ℕ) → n < p .N → leftOver p chip n ≡ false
+none-left p z chip b t s n h = go (so (leftOver p chip n))
   where
-    go : (n : ℕ) → n < p .N → (leftOver p chip n ≡ true) ⊎ (leftOver p chip n ≡ false) → leftOver p chip n ≡ false
-    go n h (inl e) = absurd (omega (arith, (left-x p z chip b t (p .N) s n h e) .0))
-    go n h (inr e) = e
+    go : (leftOver p chip n ≡ true) ⊎ (leftOver p chip n ≡ false) → leftOver p chip n ≡ false
+    go (inl e) = absurd (omega (arith, (left-x p z chip b t (p .N) s n h e) .0))
+    go (inr e) = e
+
+pub no-erase : (p : Params) (z : Sizes p) (chip : List ℕ) (b : Board) (t : Tables p b) → Shows p chip b (p .N) → (wear : List ℕ) → startOps p chip wear ≡ []
+unfolding startOps eraseWhere erasesBelow
+no-erase p z chip b t s wear = none-pass p wear (leftOver p chip) (p .N) (none-left p z chip b t s)

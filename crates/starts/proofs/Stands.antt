@@ -3,23 +3,22 @@
 use mathlib.Core.Path.{_≡_, refl, sym, _∙_}
 use Prim.Native.Nat.{ℕ, _<_}
 use native.Mathlib.Omega.{arith}
-use mathlib.Core.Bool.{Bool, true, false, cond}
-use borrow.Author.Tests.{eq-eqb, eqb-true}
+use mathlib.Core.Bool.{Bool, true, false, _||_, cond}
 use Rattle.lists.proofs.Tests.{never}
 use Rattle.rules.specs.declared.Params.{Params}
 use Rattle.rules.specs.declared.Reply.the-variants.{Accepted}
 use Rattle.rules.specs.Numbers.{regionOf}
-use Rattle.rules.specs.Tables.{Board, bstAt, none}
+use Rattle.rules.specs.Tables.{Board, none}
 use Rattle.rules.specs.Regions.{view}
 use Rattle.rules.specs.Requests.{Request, format, requestCluster, write}
 use Rattle.rules.specs.Format.{bad, formatted}
 use Rattle.rules.specs.Machine.{without}
 use Rattle.rules.specs.Release.{released}
 use Rattle.rules.specs.Replies.{replyOf}
-use Rattle.rules.specs.Traces.{replayChip}
+use Rattle.rules.specs.Traces.{replayChip, worn}
 use Rattle.rules.specs.Write.{written}
 use Rattle.rules.proofs.Admitted.{format-admitted}
-use Rattle.rules.proofs.BadBlocks.{format-same-bad, write-same-bad, write-same-reserved}
+use Rattle.rules.proofs.BadBlocks.{format-bad-is, write-bad-reserved}
 use Rattle.rules.proofs.FormatPromise.{format-lengths, format-orderly, kind, lacks}
 use Rattle.rules.proofs.Releases.{release-lengths, release-orderly, released-view, other}
 use Rattle.rules.proofs.Sizes.{Sizes, sizes}
@@ -38,9 +37,10 @@ module _ (p : Params) (b : Board) (e : replyOf p b format ≡ Accepted) where
   pub formatted-timely : (r : ℕ) → Timely p (view p (formatted p b) r)
   formatted-timely r = none-timely p (view p (formatted p b) r) (nothing-left r)
 
-  two : (t : Bool) → cond {A = ℕ} t 2 0 ≡ 2 → t ≡ true
-  two true x = refl
-  two false x = absurd (omega arith)
+  two : (t w : Bool) → cond {A = ℕ} t 2 (cond w 2 0) ≡ 2 → t || w ≡ true
+  two true w x = refl
+  two false true x = refl
+  two false false x = absurd (omega arith)
 
   pub formatted-stands : Stands p (formatted p b)
   formatted-stands =
@@ -49,7 +49,7 @@ module _ (p : Params) (b : Board) (e : replyOf p b format ≡ Accepted) where
         lengths = format-lengths p b e;
         order = format-orderly p b e;
         timely = λ r h. formatted-timely r;
-        marked = λ n h x. format-same-bad p b e n h ∙ two (bad p (b .chip) n) (sym (kind p b e n h) ∙ x);
+        marked = λ n h x. format-bad-is p b e n h ∙ two (bad p (b .chip) n) (worn p (b .wear) n) (sym (kind p b e n h) ∙ x);
       }
 
   pub formatted-clear : (d : ℕ) → Clear p (formatted p b) d
@@ -66,15 +66,11 @@ written-stands p b st q e =
         lengths = done .lengths;
         order = done .orderlyLeft;
         timely = λ r h. written-timely p b q e r h (st .timely r h);
-        marked = λ n h x. write-same-bad p b q e n h ∙ st .marked n h (was n h x);
+        marked = λ n h. write-bad-reserved p b q e n h (st .marked n h);
       },
       written-clear p b q e,
       written-live p b q e,
     )
-  where
-    -- a block is reserved as before
-    was : (n : ℕ) → n < p .N → bstAt ((written p b q) .bst) n ≡ 2 → bstAt (b .bst) n ≡ 2
-    was n h x = eqb-true _ _ (write-same-reserved p b q e n h ∙ eq-eqb _ _ x)
 
 -- ---- a release
 

@@ -1,30 +1,28 @@
 -- The tables that a start leaves, on any chip where it is not refused: BST, BT and the free blocks are in order. What it erased is erased, and what it kept is as it was.
 -- Assumes nothing.
-use mathlib.Core.Path.{_≡_, refl, sym, _∙_}
+use mathlib.Core.Path.{_≡_, refl, sym, ap, _∙_}
 use mathlib.Core.Logic.{_⊎_, inl, inr}
 use Prim.Native.Nat.{ℕ, _+_, _*_, _/_, _%_, _≤_, _<_}
 use native.Mathlib.Omega.{arith}
 use native.Mathlib.Decide.{ℕ-discrete}
 use mathlib.Core.Bool.{Bool, true, false, not, _&&_, cond}
-use lib.Dec.{eqb}
 use borrow.Author.Tests.{not-false}
-use Rattle.lists.specs.Below.{countBelow}
 use Rattle.lists.specs.Parts.{allAre}
 use Rattle.lists.proofs.Lists.{list-at, list-length}
 use Rattle.lists.proofs.Parts.{rejoin}
-use Rattle.lists.proofs.Tests.{count-cong, never, so}
+use Rattle.lists.proofs.Tests.{never, so}
 use Rattle.rules.specs.declared.Params.{Params}
 use Rattle.rules.specs.Tables.{Board, bstAt, btAt, btEntry, none}
 use Rattle.rules.specs.Pages.{block}
 use Rattle.rules.specs.Orderly.{named}
-use Rattle.rules.specs.Traces.{eraseWhere}
-use Rattle.rules.specs.Format.{bad, goodBlocks}
+use Rattle.rules.specs.Traces.{eraseWhere, erasedState, worn}
+use Rattle.rules.specs.Format.{bad}
 use Rattle.rules.specs.Start.{foundBt, inUse, keptBlock, leftOver, names, regionNamed, startOps, started, vblockNamed}
-use Rattle.rules.proofs.Replays.{fresh-all}
 use Rattle.rules.proofs.Erases.{Cleared, erases-ran, erasesBelow}
 use Rattle.rules.proofs.Isolation.{index-low}
 use Rattle.rules.proofs.Sizes.{Sizes, sizes}
 use Rattle.rules.proofs.TableFacts.{Lengths, Tables, lengths-in, named-in, named-out}
+use Rattle.rules.proofs.WornBlocks.{state-free}
 use Rattle.rules.proofs.Writes.{wear-length}
 use Rattle.starts.specs.Admitted.{StartAdmitted}
 use Rattle.starts.proofs.KeptBlocks.{at-is, entry-is, kept-names, left-over, named-region, named-use, named-vblock, region-low, sounds, use-good, vblock-low}
@@ -36,20 +34,26 @@ module _ (p : Params) (b : Board) (acc : StartAdmitted p b) where
   lengths : Lengths p b
   lengths = lengths-in p b (acc .lengths)
 
-  -- what is left over is erased, and all else is as it was
-  pub swept : Cleared p (leftOver p (b .chip)) (b .chip) ((started p b) .chip) (p .N)
+  -- what is left over is erased, and marked where that wears it out, and all else is as it was
+  pub swept : Cleared p (b .wear) (leftOver p (b .chip)) (b .chip) ((started p b) .chip) (p .N)
   unfolding started startOps eraseWhere erasesBelow
-  swept = erases-ran p (leftOver p (b .chip)) (b .chip) (lengths .chipLength) (p .N) (omega arith)
+  swept = erases-ran p z (b .wear) (leftOver p (b .chip)) (b .chip) (lengths .chipLength) (p .N) (omega arith)
 
-  pub kind : (m : ℕ) → m < p .N → bstAt ((started p b) .bst) m ≡ cond (bad p (b .chip) m) 2 (cond (named p (foundBt p (b .chip)) m) 1 0)
-  unfolding bstAt started
-  kind m h = list-at (p .N) (λ n. cond (bad p (b .chip) n) 2 (cond (named p (foundBt p (b .chip)) n) 1 0)) m 0 h
+  both : (s t : Bool) → cond {A = ℕ} s (cond t 2 0) 0 ≡ cond (s && t) 2 0
+  both true t = refl
+  both false t = refl
 
-  three : (s t : Bool) → (cond {A = ℕ} s 2 (cond t 1 0) ≤ 2) × (cond {A = ℕ} s 2 (cond t 1 0) ≡ 1 → t ≡ true) × (cond {A = ℕ} s 2 (cond t 1 0) ≡ 0 → (s ≡ false) × (t ≡ false))
-      × (not (eqb (cond s 2 (cond t 1 0)) 2) ≡ not s)
-  three true t = (omega arith, λ x. absurd (omega arith), λ x. absurd (omega arith), refl)
-  three false true = (omega arith, λ x. refl, λ x. absurd (omega arith), refl)
-  three false false = (omega arith, λ x. absurd (omega arith), λ x. (refl, refl), refl)
+  pub kind : (m : ℕ) → m < p .N → bstAt ((started p b) .bst) m ≡ cond (bad p (b .chip) m) 2 (cond (named p (foundBt p (b .chip)) m) 1 (cond (leftOver p (b .chip) m && worn p (b .wear) m) 2 0))
+  unfolding bstAt started erasedState
+  kind m h = list-at (p .N) (λ n. cond (bad p (b .chip) n) 2 (cond (named p (foundBt p (b .chip)) n) 1 (cond (leftOver p (b .chip) n) (cond (worn p (b .wear) n) 2 0) 0))) m 0 h
+      ∙ ap (λ (y : ℕ). cond (bad p (b .chip) m) 2 (cond (named p (foundBt p (b .chip)) m) 1 y)) (both (leftOver p (b .chip) m) (worn p (b .wear) m))
+
+  three : (s t u : Bool) → (cond {A = ℕ} s 2 (cond t 1 (cond u 2 0)) ≤ 2) × (cond {A = ℕ} s 2 (cond t 1 (cond u 2 0)) ≡ 1 → t ≡ true)
+      × (cond {A = ℕ} s 2 (cond t 1 (cond u 2 0)) ≡ 0 → (s ≡ false) × (t ≡ false) × (u ≡ false))
+  three true t u = (omega arith, λ x. absurd (omega arith), λ x. absurd (omega arith))
+  three false true u = (omega arith, λ x. refl, λ x. absurd (omega arith))
+  three false false true = (omega arith, λ x. absurd (omega arith), λ x. absurd (omega arith))
+  three false false false = (omega arith, λ x. absurd (omega arith), λ x. (refl, refl, refl))
 
   -- entry i, where it is not none, is of a block that names it
   entry-names : (i : ℕ) → i < p .mu * p .gamma → (btEntry (foundBt p (b .chip)) i ≡ none → ⊥)
@@ -84,11 +88,14 @@ module _ (p : Params) (b : Board) (acc : StartAdmitted p b) where
   free : (n : ℕ) → n < p .N → bstAt ((started p b) .bst) n ≡ 0 → allAre 255 (block p ((started p b) .chip) n) ≡ true
   free n h e = go (so (inUse p (b .chip) n))
     where
-      w : (bad p (b .chip) n ≡ false) × (named p (foundBt p (b .chip)) n ≡ false)
-      w = (three (bad p (b .chip) n) (named p (foundBt p (b .chip)) n)) .2 (sym (kind n h) ∙ e)
+      w : (bad p (b .chip) n ≡ false) × (named p (foundBt p (b .chip)) n ≡ false) × (leftOver p (b .chip) n && worn p (b .wear) n ≡ false)
+      w = (three (bad p (b .chip) n) (named p (foundBt p (b .chip)) n) (leftOver p (b .chip) n && worn p (b .wear) n)) .2 (sym (kind n h) ∙ e)
 
       go : (inUse p (b .chip) n ≡ true) ⊎ (inUse p (b .chip) n ≡ false) → allAre 255 (block p ((started p b) .chip) n) ≡ true
-      go (inl u) = rw (swept .done n h (left-over p z (b .chip) (acc .starts) n h u unkept)) (fresh-all p)
+      go (inl u) =
+          let l = left-over p z (b .chip) (acc .starts) n h u unkept in
+          let new : worn p (b .wear) n ≡ false = rw l at (w .2) in
+          rw (swept .done n h l, new) (state-free p false refl)
         where
           unkept : keptBlock p (b .chip) (regionNamed p (block p (b .chip) n)) (vblockNamed p (block p (b .chip) n)) ≡ n → ⊥
           unkept k =
@@ -109,12 +116,12 @@ module _ (p : Params) (b : Board) (acc : StartAdmitted p b) where
         btLength = unfold foundBt in list-length (p .mu * p .gamma) _;
         fstLength = list-length (p .mu) _;
         bstLength = list-length (p .N) _;
-        wearLength = wear-length (b .wear) (startOps p (b .chip)) ∙ lengths .wearLength;
+        wearLength = wear-length (b .wear) (startOps p (b .chip) (b .wear)) ∙ lengths .wearLength;
         stampsLength = list-length (p .mu) _;
-        kinds = λ n h. rw (kind n h) ((three (bad p (b .chip) n) (named p (foundBt p (b .chip)) n)) .0);
+        kinds = λ n h. rw (kind n h) ((three (bad p (b .chip) n) (named p (foundBt p (b .chip)) n) (leftOver p (b .chip) n && worn p (b .wear) n)) .0);
         names = range;
         once = once;
-        used = λ n h e. named-in p (started p b) n ((three (bad p (b .chip) n) (named p (foundBt p (b .chip)) n)) .1 (sym (kind n h) ∙ e));
+        used = λ n h e. named-in p (started p b) n ((three (bad p (b .chip) n) (named p (foundBt p (b .chip)) n) (leftOver p (b .chip) n && worn p (b .wear) n)) .1 (sym (kind n h) ∙ e));
         usedBack = used-back;
         free = free;
       }

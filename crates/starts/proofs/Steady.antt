@@ -21,7 +21,7 @@ use Rattle.rules.specs.Orderly.{blockRule}
 use Rattle.rules.specs.Format.{bad}
 use Rattle.rules.specs.Start.{isOpen, openOnce, regionNamed, vblockNamed}
 use Rattle.rules.proofs.Admitted.{orderly-region}
-use Rattle.rules.proofs.BadBlocks.{bytes-bad}
+use Rattle.rules.proofs.BadBytes.{bytes-bad}
 use Rattle.rules.proofs.RegionFacts.{Entry, Neat, Open, UpTo, block-out, neat}
 use Rattle.rules.proofs.Sizes.{Sizes, sizes}
 use Rattle.rules.proofs.TableFacts.{Tables, tables-in}

@@ -14,7 +14,7 @@ use Rattle.rules.specs.Parameters.{blockBytes, frameBytes}
 use Rattle.rules.specs.Pages.{block, bytes32, filled, frame, programmed, spareBytes, vblockIn}
 use Rattle.rules.specs.Orderly.{blockRule, usedPages}
 use Rattle.rules.specs.Start.{inUse, regionNamed, vblockNamed}
-use Rattle.rules.proofs.BadBlocks.{up-to-good}
+use Rattle.rules.proofs.BadBytes.{up-to-good}
 use Rattle.rules.proofs.Frames.{erased-not}
 use Rattle.rules.proofs.RegionFacts.{GoodFrame, UpTo, block-in, good-used}
 use Rattle.rules.proofs.Sizes.{Sizes}

@@ -55,10 +55,10 @@ module _ (p : Params) (b : Board) (q : Request) (e : replyOf p b (write q) ≡ A
   made = makes p (acc .sized) b (acc .tables) region low in-order (write-free p b q e)
 
   carried : Carries p here room
-  carried = carries p (acc .sized) b (acc .tables) region low in-order plan (plan-case p (acc .sized) region here in-order) made
+  carried = carries p (acc .sized) b (acc .tables) region low in-order plan (plan-case p (acc .sized) region here in-order) _ _ _ made
 
   fronts : Fronts p region room
-  fronts = room-fronts p (acc .sized) b (acc .tables) region low in-order plan (plan-case p (acc .sized) region here in-order) made
+  fronts = room-fronts p (acc .sized) b (acc .tables) region low in-order plan (plan-case p (acc .sized) region here in-order) _ _ _ made
 
   own-sheet : Sheet p (planVBlock plan) (requestCluster p q) (newFrame p here q (nextStamp b region) (planVBlock plan))
   own-sheet = sheet p b q acc region refl plan made (stamp-left p b q e)

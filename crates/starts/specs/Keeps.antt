@@ -15,7 +15,7 @@ use Rattle.starts.specs.Stands.{Clear, Stands}
 pub record StartKeeps (p : Params) (b : Board) : Type 0 where
   -- it is not refused, and it erases nothing
   pub admitted : StartAdmitted p b
-  pub operations : startOps p (b .chip) ≡ []
+  pub operations : startOps p (b .chip) (b .wear) ≡ []
   pub chip : (started p b) .chip ≡ b .chip
   pub wear : (started p b) .wear ≡ b .wear
   -- it finds the same blocks, so every region has the same bytes

@@ -14,7 +14,7 @@ use Rattle.starts.specs.Stands.{Clear, Stands}
 pub record Recovers (p : Params) (b₀ b : Board) : Type 0 where
   -- it is not refused, and it erases one block at most
   pub admitted : StartAdmitted p b₀
-  pub once : erasesIn (startOps p (b₀ .chip)) ≤ 1
+  pub once : erasesIn (startOps p (b₀ .chip) (b₀ .wear)) ≤ 1
   -- every cluster reads as on b, but one that was released and has whole frames left; and any as its latest whole frame on the chip
   pub reads : (c : ℕ) → c < p .C → Clear p b c → (j : ℕ) → sector p (started p b₀) c j ≡ sector p b c j
   pub returns : (c : ℕ) → c < p .C → (j : ℕ) → sector p (started p b₀) c j ≡ latest p (b₀ .chip) c j
