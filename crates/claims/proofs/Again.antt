@@ -1,191 +1,269 @@
--- Which blocks are bad stays as it is over any run: each of its single calls leaves it so, accepted or refused. A call that is cut does too: an operation that fits the chip and is no mark leaves
--- a good block good, so a bad one that the first operations made good would be good after all of them. So a format is accepted again: it finds as many good blocks as the first.
+-- No call erases a block that is bad, and each marks a block only once its wear is E. So over any run, through any cuts, a bad block stays bad, and one that becomes bad is worn out; and a format after
+-- it is refused for want of good blocks alone.
 -- Assumes nothing.
 use mathlib.Core.Path.{_≡_, refl, sym, ap, _∙_}
 use mathlib.Core.Logic.{_⊎_, inl, inr}
 use Prim.Native.Nat.{ℕ, zero, suc, _+_, _*_, _≤_, _<_}
+use native.Mathlib.Nat.{mod-lt}
 use native.Mathlib.Omega.{arith}
 use native.Mathlib.Decide.{ℕ-discrete}
-use mathlib.Core.Bool.{true, false, not, _&&_, _||_}
-use mathlib.Core.List.{List, [], _∷_}
-use lib.Dec.{eqb, leb}
-use lib.ListN.{drop, getD, length, length-replicate, take, take-append-drop}
-use borrow.Author.Tests.{eqb-true, le-ltb, leb-true}
-use Rattle.lists.specs.Parts.{part}
-use Rattle.lists.proofs.Joins.{allAre-replicate}
-use Rattle.lists.proofs.Tests.{count-cong, never, or-neither, so, truths}
+use mathlib.Core.Bool.{Bool, true, false, not, _&&_, _||_, cond}
+use mathlib.Core.List.{List, [], _∷_, _++_}
+use lib.Dec.{eqb}
+use lib.ListN.{length, take}
+use borrow.Author.Tests.{eqb-true, leb-true, ne-eqb, not-true}
+use Rattle.lists.specs.Below.{joinBelow}
+use Rattle.lists.proofs.Tests.{and-left, never, or-neither, so, truths}
 use Rattle.rules.specs.declared.Params.{Params}
-use Rattle.rules.specs.declared.Reply.the-variants.{Accepted}
-use Rattle.rules.specs.Parameters.{allowed, blockBytes, chipBytes, pageBytes, pages}
-use Rattle.rules.specs.Tables.{Board}
-use Rattle.rules.specs.Pages.{block, page, spare}
-use Rattle.rules.specs.Traces.{Op, erase, mark, onChip, pageAt, program, replayChip}
-use Rattle.rules.specs.Requests.{Call, format, queue, read, release, start, write}
-use Rattle.rules.specs.Format.{bad, badMark, goodBlocks}
-use Rattle.rules.specs.Release.{released}
-use Rattle.rules.specs.Replies.{badParameter, firstRow, isAccepted, lengthsFit, lentRows, replyOf, rowsOf, tooFewBlocks, wrongLength}
+use Rattle.rules.specs.declared.Reply.the-variants.{Accepted, TooFewBlocks}
+use Rattle.rules.specs.Parameters.{allowed, chipBytes}
+use Rattle.rules.specs.Tables.{Board, bstAt, btAt, wearAt}
+use Rattle.rules.specs.Regions.{view}
+use Rattle.rules.specs.Traces.{Op, erase, eraseOps, eraseWhere, frameOps, framesOps, mark, onWear, program, replayChip, replayWear, worn}
+use Rattle.rules.specs.Requests.{Call, Request, format, queue, read, release, requestCluster, requestRegion, start, write}
+use Rattle.rules.specs.Format.{bad, formatOps}
+use Rattle.rules.specs.Start.{inUse, leftOver, startOps}
+use Rattle.rules.specs.Write.{Plan, continues, copies, newFrame, nextStamp, opens, planBlock, planFrame, planOf, planOps, planVBlock, reclaims, roomOps, victimOps, writeOps}
+use Rattle.rules.specs.Replies.{OrderlyBoard, badParameter, firstRow, isAccepted, lengthsFit, lentRows, replyOf, rowsOf, tooFewBlocks, wrongLength}
 use Rattle.rules.specs.Calls.{opsOf, workOf}
-use Rattle.rules.specs.Cuts.{Step, callOf, cutBoard, isCut, limited, plain}
-use Rattle.rules.proofs.Admitted.{format-admitted}
-use Rattle.rules.proofs.BadBlocks.{blank-good, bytes-bad, format-same-bad, write-same-bad}
-use Rattle.rules.proofs.Chip.{replay-append}
+use Rattle.rules.specs.Cuts.{Step, callOf, isCut, limited, plain}
+use Rattle.rules.proofs.Admitted.{Admitted, admitted, format-admitted, write-checks}
+use Rattle.rules.proofs.BadBlocks.{unreserved-good}
+use Rattle.rules.proofs.Erases.{erasesBelow, wear-ahead, wear-append, where-below}
+use Rattle.rules.proofs.Isolation.{index-low}
 use Rattle.rules.proofs.Outcomes.{reply-cases}
-use Rattle.rules.proofs.Sizes.{Sizes, sizes, some-page}
-use Rattle.starts.proofs.Again as again
-use Rattle.claims.specs.Runs.{AllFit, Fits, boardAfter, leaves}
-use Rattle.claims.proofs.CutTraces.{call-made, cut-leaves, step-long, trace-long}
-use Rattle.claims.proofs.Once.{erased-block, fit-back, op-length, other-block, page-of, program-other, program-same, replay-length}
-use Rattle.claims.proofs.PlainRuns.{plainBoard, plainLeaves, uncut-leaves}
-use Rattle.claims.proofs.Singles.{AllSingle, Single, all-single, board-same, refused-leaves, singlesOf}
-use Rattle.claims.proofs.Unmarked.{NoMark, Unmarked, unmarked-back, work-unmarked}
-use Rattle.starts.proofs.Accepted.{start-admitted}
-use Rattle.claims.proofs.Steps.{accepted-leaves, doneBoard}
+use Rattle.rules.proofs.PlanCases.{Case, goes-on, plan-case, renews, takes}
+use Rattle.rules.proofs.RegionFacts.{neat}
+use Rattle.rules.proofs.Sizes.{Sizes, sizes}
+use Rattle.rules.proofs.TableFacts.{Lengths, lengths-in}
+use Rattle.rules.proofs.Views.{block-low, has-block}
+use Rattle.rules.proofs.WornBlocks.{wear-out-wear}
+use Rattle.rules.proofs.Writes.{wear-length}
+use Rattle.starts.proofs.KeptBlocks.{use-good}
+use Rattle.claims.specs.Runs.{boardAfter, erasesBlock, leaves, madeBy}
+use Rattle.claims.proofs.BadRuns.{MarksWorn, bad-replay, badAfter, erased-rated, new-worn, stays-bad, worn-append, worn-take}
+use Rattle.claims.proofs.CutTraces.{call-made, step-long, step-made, trace-long}
+use Rattle.claims.proofs.Kept.{Replayed, one-made, run-long}
+use Rattle.claims.proofs.PlainRuns.{plainBoard, plainLeaves, plainParts, plainTrace, uncut-made}
+use Rattle.claims.proofs.Singles.{AllSingle, Single, all-single, parts-same, singlesOf}
+use Rattle.claims.proofs.Steps.{accepted-ops, doneOps, opsBy, refused-ops, trace-step}
+
+-- ---- operations that are programs alone
+
+abbrev Programs : List Op → Type 0
+Programs [] = Unit {0}
+Programs (program n q x ∷ os) = Programs os
+Programs (erase n ∷ os) = ⊥
+Programs (mark n ∷ os) = ⊥
+
+programs-append : (xs ys : List Op) → Programs xs → Programs ys → Programs (xs ++ ys)
+programs-append [] ys h k = k
+programs-append (program n q x ∷ xs) ys h k = programs-append xs ys h k
+
+frame-programs : (p : Params) (n f : ℕ) (x : List ℕ) (k : ℕ) → Programs (frameOps p n f x k)
+unfolding frameOps joinBelow
+frame-programs p n f x zero = tt
+frame-programs p n f x (suc k) = programs-append (frameOps p n f x k) _ (frame-programs p n f x k) tt
+
+frames-programs : (p : Params) (n to : ℕ) (xs : List (List ℕ)) → Programs (framesOps p n to xs)
+unfolding framesOps
+frames-programs p n to [] = tt
+frames-programs p n to (x ∷ xs) = programs-append (frameOps p n to x (p .alpha)) _ (frame-programs p n to x (p .alpha)) (frames-programs p n (suc to) xs)
+
+programs-spare : (n : ℕ) (os : List Op) → Programs os → erasesBlock n os ≡ false
+unfolding erasesBlock
+programs-spare n [] h = refl
+programs-spare n (program m q x ∷ os) h = programs-spare n os h
+
+programs-worn : (p : Params) (n : ℕ) (wear : List ℕ) (os : List Op) → Programs os → MarksWorn p n wear os
+programs-worn p n wear [] h = tt
+programs-worn p n wear (program m q x ∷ os) h = programs-worn p n wear os h
+
+programs-wear : (wear : List ℕ) (os : List Op) → Programs os → replayWear wear os ≡ wear
+unfolding replayWear onWear
+programs-wear wear [] h = refl
+programs-wear wear (program m q x ∷ os) h = programs-wear wear os h
+
+erases-append : (n : ℕ) (xs ys : List Op) → erasesBlock n xs ≡ false → erasesBlock n ys ≡ false → erasesBlock n (xs ++ ys) ≡ false
+unfolding erasesBlock
+erases-append n [] ys h k = k
+erases-append n (program m q x ∷ xs) ys h k = erases-append n xs ys h k
+erases-append n (mark m ∷ xs) ys h k = erases-append n xs ys h k
+erases-append n (erase m ∷ xs) ys h k = let w = or-neither (eqb m n) h in rw (w .0) (erases-append n xs ys (w .1) k)
+
+erases-take : (n k : ℕ) (os : List Op) → erasesBlock n os ≡ false → erasesBlock n (take k os) ≡ false
+unfolding erasesBlock
+erases-take n zero os h = refl
+erases-take n (suc k) [] h = refl
+erases-take n (suc k) (program m q x ∷ os) h = erases-take n k os h
+erases-take n (suc k) (mark m ∷ os) h = erases-take n k os h
+erases-take n (suc k) (erase m ∷ os) h = let w = or-neither (eqb m n) h in rw (w .0) (erases-take n k os (w .1))
+
+-- ---- an erase with its mark
+
+one-spare : (p : Params) (wear : List ℕ) (n m : ℕ) → (m ≡ n → ⊥) → erasesBlock n (eraseOps p wear m) ≡ false
+unfolding eraseOps erasesBlock
+one-spare p wear n m ne = rw (ne-eqb m n ne) (go (worn p wear m))
+  where
+    go : (t : Bool) → erasesBlock n (cond t (mark m ∷ []) []) ≡ false
+    go true = refl
+    go false = refl
+
+-- on a wear that has of block m what the first wear has
+one-worn : (p : Params) → Sizes p → (n m : ℕ) (wear wear₁ : List ℕ) → m < length wear₁ → wearAt wear₁ m ≡ wearAt wear m → MarksWorn p n wear₁ (eraseOps p wear m)
+unfolding eraseOps
+one-worn p z n m wear wear₁ low same = go (so (worn p wear m))
+  where
+    go : (worn p wear m ≡ true) ⊎ (worn p wear m ≡ false) → MarksWorn p n wear₁ (erase m ∷ cond (worn p wear m) (mark m ∷ []) [])
+    go (inl t) = rw t (λ e. rw (← e) (erased-rated p z m wear₁ low (rw same (unfold worn in leb-true (p .E) (wearAt wear m + 1) t))), tt)
+    go (inr t) = rw t tt
+
+module _ (p : Params) (z : Sizes p) (n : ℕ) (wear : List ℕ) (f : ℕ → Bool) where
+  below-spare : (k : ℕ) → f n ≡ false → erasesBlock n (erasesBelow p wear f k) ≡ false
+  unfolding erasesBelow joinBelow
+  below-spare zero h = unfold erasesBlock in refl
+  below-spare (suc k) h = erases-append n (erasesBelow p wear f k) _ (below-spare k h) (go (so (f k)))
+    where
+      go : (f k ≡ true) ⊎ (f k ≡ false) → erasesBlock n (cond (f k) (eraseOps p wear k) []) ≡ false
+      go (inl t) = rw t (one-spare p wear n k (λ e. never t (ap f e ∙ h)))
+      go (inr t) = rw t (unfold erasesBlock in refl)
+
+  below-worn : (k : ℕ) → k ≤ length wear → MarksWorn p n wear (erasesBelow p wear f k)
+  unfolding erasesBelow joinBelow
+  below-worn zero h = tt
+  below-worn (suc k) h = worn-append p n wear (erasesBelow p wear f k) _ (below-worn k (omega arith)) (go (f k))
+    where
+      go : (t : Bool) → MarksWorn p n (replayWear wear (erasesBelow p wear f k)) (cond t (eraseOps p wear k) [])
+      go true = one-worn p z n k wear (replayWear wear (erasesBelow p wear f k)) (rw (wear-length wear (erasesBelow p wear f k)) h) (wear-ahead p wear f k k (omega arith))
+      go false = tt
 
 -- ---- one call
 
--- an accepted call finds a block bad exactly if it leaves it so; a read and a release do not touch the chip, and a start erases good blocks alone
-done-bad : (p : Params) (b : Board) (c : Call) → Single c → replyOf p b c ≡ Accepted → (n : ℕ) → n < p .N → bad p ((doneBoard p b c) .chip) n ≡ bad p (b .chip) n
-unfolding doneBoard released replayChip
-done-bad p b format s e n h = format-same-bad p b e n h
-done-bad p b (read q) s e n h = refl
-done-bad p b (write q) s e n h = write-same-bad p b q e n h
-done-bad p b (release c) s e n h = refl
-done-bad p b (queue l) s e n h = absurd s
-done-bad p b start s e n h = again.bad-same p b (start-admitted p b e) n h
+-- its operations erase no block that is bad, and mark block n only once its wear is E
+record Sparing (p : Params) (b : Board) (n : ℕ) (ops : List Op) : Type 0 where
+  spares : bad p (b .chip) n ≡ true → erasesBlock n ops ≡ false
+  worns : MarksWorn p n (b .wear) ops
 
--- and a refused one changes nothing
-leaves-bad : (p : Params) (b : Board) (c : Call) → Single c → (n : ℕ) → n < p .N → bad p ((plainLeaves p b c) .chip) n ≡ bad p (b .chip) n
-leaves-bad p b c s n h = go (reply-cases (replyOf p b c))
+none-sparing : (p : Params) (b : Board) (n : ℕ) → Sparing p b n []
+none-sparing p b n = record { spares = λ h. unfold erasesBlock in refl; worns = tt }
+
+where-sparing : (p : Params) → Sizes p → (b : Board) (n : ℕ) (f : ℕ → Bool) → length (b .wear) ≡ p .N → (f n ≡ true → bad p (b .chip) n ≡ false) → Sparing p b n (eraseWhere p (b .wear) f)
+where-sparing p z b n f long good =
+    rw (where-below p (b .wear) f)
+    (record { spares = λ h. below-spare p z n (b .wear) f (p .N) (go h (so (f n))); worns = below-worn p z n (b .wear) f (p .N) (omega (arith, long)) })
   where
-    go : (replyOf p b c ≡ Accepted) ⊎ (isAccepted (replyOf p b c) ≡ false) → bad p ((plainLeaves p b c) .chip) n ≡ bad p (b .chip) n
-    go (inl e) = rw (accepted-leaves p b c s e) (done-bad p b c s e n h)
-    go (inr e) = rw (refused-leaves p b c e)
+    go : bad p (b .chip) n ≡ true → (f n ≡ true) ⊎ (f n ≡ false) → f n ≡ false
+    go h (inl t) = absurd (never h (good t))
+    go h (inr t) = t
 
--- ---- any run
+-- a write: its programs, and the victim's erase with its mark; the victim's block is used, so it is not bad
+module _ (p : Params) (b : Board) (q : Request) (e : replyOf p b (write q) ≡ Accepted) (n : ℕ) where
+  acc : Admitted p b q
+  acc = admitted p b q (write-checks p b q e)
 
--- of single calls
-singles-bad : (p : Params) (b : Board) (cs : List Call) → AllSingle cs → (n : ℕ) → n < p .N → bad p ((plainBoard p b cs) .chip) n ≡ bad p (b .chip) n
-unfolding plainBoard
-singles-bad p b [] s n h = refl
-singles-bad p b (c ∷ cs) s n h = singles-bad p (plainLeaves p b c) cs (s .1) n h ∙ leaves-bad p b c (s .0) n h
+  abbrev r : ℕ
+  r = requestRegion p q
 
--- and so of any calls
-after-bad : (p : Params) (b : Board) (run : List Call) (n : ℕ) → n < p .N → bad p ((plainBoard p b run) .chip) n ≡ bad p (b .chip) n
-after-bad p b run n h = rw (board-same p b run) (singles-bad p b (singlesOf p b run) (all-single p b run) n h)
+  region : r < p .mu
+  region = mod-lt (requestCluster p q) (acc .sized .regions)
 
--- ---- operations that fit the chip and are no marks leave a good block good
+  before : OrderlyBoard p b
+  before = let c = write-checks p b q e in record { fine = c .fine; lengths = c .lengths; tidy = c .tidy }
 
--- an entry of a list, whatever stands behind its end
-low-entry : (l : List ℕ) (i d e : ℕ) → i < length l → getD l i d ≡ getD l i e
-low-entry [] i d e h = absurd (omega arith)
-low-entry (x ∷ l) zero d e h = refl
-low-entry (x ∷ l) (suc i) d e h = low-entry l i d e (omega arith)
-
-module _ (p : Params) (z : Sizes p) (n : ℕ) (low : n < p .N) where
-  -- byte 5 of page j is still 255
-  fifth-kept : (chip : List ℕ) (m q : ℕ) (x : List ℕ) → length chip ≡ chipBytes p → Fits p (program m q x) → (j : ℕ) → j < pages p
-      → badMark p chip n j ≡ false → badMark p (onChip p chip (program m q x)) n j ≡ false
-  unfolding badMark spare page block
-  fifth-kept chip m q x e f j h g = go (ℕ-discrete (pageAt p n j) (pageAt p m q))
+  victim-sparing : (pl : Plan) → Case p (view p b r) pl → (bad p (b .chip) n ≡ true → erasesBlock n (victimOps p b r pl) ≡ false) × MarksWorn p n (b .wear) (victimOps p b r pl)
+  victim-sparing pl (goes-on h i) = rw i (unfold victimOps erasesBlock in (λ x. refl, tt))
+  victim-sparing pl (takes h v low lacks i) = rw i (unfold victimOps erasesBlock in (λ x. refl, tt))
+  victim-sparing pl (renews h every v low few i) =
+      rw i (unfold victimOps in (
+        λ x. one-spare p (b .wear) n old (λ y. never x (ap (bad p (b .chip)) (sym y) ∙ good)),
+        one-worn p (acc .sized) n old (b .wear) (b .wear) (rw (acc .tables .wearLength) old-low) refl,
+      ))
     where
-      go : Dec (pageAt p n j ≡ pageAt p m q) → not (eqb (getD (drop (p .s) (part (pageBytes p) j (part (blockBytes p) n (onChip p chip (program m q x))))) 5 0) 255) ≡ false
-      go (yes i) =
-          let listed = (f .3) .5 in
-          let same : getD (drop (p .s) x) 5 0 ≡ 255 = low-entry (drop (p .s) x) 5 0 255 (omega (arith, listed .long)) ∙ listed .five in
-          rw (← page-of p (onChip p chip (program m q x)) n j h, program-same p chip m q x e f n j i, same)
-      go (no i) = rw (← page-of p (onChip p chip (program m q x)) n j h, program-other p chip m q x e f n j i, page-of p chip n j h) g
+      old : ℕ
+      old = btAt p (b .bt) r v
 
-  op-good : (chip : List ℕ) (o : Op) → length chip ≡ chipBytes p → Fits p o → NoMark o → bad p chip n ≡ false → bad p (onChip p chip o) n ≡ false
-  unfolding bad
-  op-good chip (mark m) e f u g = absurd u
-  op-good chip (program m q x) e f u g = go (so (leb 2 (pages p))) (or-neither (badMark p chip n 0) g)
+      old-low : btAt p (b .bt) r v < p .N
+      old-low = block-low p (acc .sized) b (acc .tables) r v region low (has-block p (acc .sized) b (acc .tables) r v region low (every v low))
+
+      used : bstAt (b .bst) (btAt p (b .bt) r v) ≡ 1
+      used = acc .tables .usedBack (r * p .gamma + v) (index-low p r v region low) (btAt p (b .bt) r v) old-low (unfold btAt in refl)
+
+      good : bad p (b .chip) (btAt p (b .bt) r v) ≡ false
+      good = unreserved-good p b before (btAt p (b .bt) r v) old-low (λ y. omega (arith, y, used))
+
+  write-sparing : Sparing p b n (writeOps p b q)
+  unfolding writeOps planOps roomOps
+  write-sparing =
+      let pl = planOf p (view p b r) in
+      let w = victim-sparing pl (plan-case p (acc .sized) r (view p b r) (neat p r (view p b r) (acc .tidy r region))) in
+      let copying = framesOps p (planBlock p b r pl) 0 (copies p (view p b r) pl) in
+      let are = frames-programs p (planBlock p b r pl) 0 (copies p (view p b r) pl) in
+      let adding = frame-programs p (planBlock p b r pl) (planFrame p (view p b r) pl) (newFrame p (view p b r) q (nextStamp b r) (planVBlock pl)) (p .alpha) in
+      record {
+        spares = λ h. erases-append n (copying ++ victimOps p b r pl) _ (erases-append n copying (victimOps p b r pl) (programs-spare n copying are) (w .0 h)) (programs-spare n _ adding);
+        worns =
+            worn-append p n (b .wear) (copying ++ victimOps p b r pl) _
+            (worn-append p n (b .wear) copying (victimOps p b r pl) (programs-worn p n (b .wear) copying are) (rw (programs-wear (b .wear) copying are) (w .1)))
+            (programs-worn p n _ _ adding);
+      }
+
+-- ---- a run of single calls, and so any call
+
+wear-long : (p : Params) (b : Board) → lengthsFit p b ≡ true → length (b .wear) ≡ p .N
+wear-long p b h = (lengths-in p b h) .wearLength
+
+chip-long : (p : Params) (b : Board) → lengthsFit p b ≡ true → length (b .chip) ≡ chipBytes p
+unfolding lengthsFit
+chip-long p b h = eqb-true _ _ ((truths _ h) .0)
+
+module _ (p : Params) (fine : allowed p ≡ true) (n : ℕ) (low : n < p .N) where
+  z : Sizes p
+  z = sizes p fine
+
+  done-sparing : (b : Board) (c : Call) → Single c → replyOf p b c ≡ Accepted → lengthsFit p b ≡ true → Sparing p b n (doneOps p b c)
+  unfolding doneOps formatOps startOps
+  done-sparing b format s e l = where-sparing p z b n (λ m. not (bad p (b .chip) m)) (wear-long p b l) (not-true (bad p (b .chip) n))
+  done-sparing b (read q) s e l = none-sparing p b n
+  done-sparing b (write q) s e l = write-sparing p b q e n
+  done-sparing b (release c) s e l = none-sparing p b n
+  done-sparing b (queue l) s e l′ = absurd s
+  done-sparing b start s e l = where-sparing p z b n (leftOver p (b .chip)) (wear-long p b l) (λ h. use-good p (b .chip) n (unfold leftOver in and-left (inUse p (b .chip) n) _ h))
+
+  ops-sparing : (b : Board) (c : Call) → Single c → lengthsFit p b ≡ true → Sparing p b n (opsBy p b c)
+  ops-sparing b c s l = go (reply-cases (replyOf p b c))
     where
-      first : badMark p chip n 0 ≡ false → badMark p (onChip p chip (program m q x)) n 0 ≡ false
-      first = fifth-kept chip m q x e f 0 (some-page p z)
+      go : (replyOf p b c ≡ Accepted) ⊎ (isAccepted (replyOf p b c) ≡ false) → Sparing p b n (opsBy p b c)
+      go (inl e) = rw (accepted-ops p b c s e) (done-sparing b c s e l)
+      go (inr e) = rw (refused-ops p b c s e) (none-sparing p b n)
 
-      go : (leb 2 (pages p) ≡ true) ⊎ (leb 2 (pages p) ≡ false) → (badMark p chip n 0 ≡ false) × (leb 2 (pages p) && badMark p chip n 1 ≡ false)
-          → badMark p (onChip p chip (program m q x)) n 0 || (leb 2 (pages p) && badMark p (onChip p chip (program m q x)) n 1) ≡ false
-      go (inl t) w =
-          let second : badMark p chip n 1 ≡ false = rw t at (w .1) in
-          rw (first (w .0), t, fifth-kept chip m q x e f 1 (omega (arith, leb-true 2 (pages p) t)) second)
-      go (inr t) w = rw (first (w .0), t)
-  op-good chip (erase m) e f u g = go (ℕ-discrete n m)
+  -- a bad block stays bad by operations that spare it
+  kept-bad : (b b′ : Board) (ops : List Op) → lengthsFit p b ≡ true → Replayed p b b′ ops → Sparing p b n ops → bad p (b .chip) n ≡ true → bad p (b′ .chip) n ≡ true
+  kept-bad b b′ ops l m s h = rw (m .chip) (bad-replay p z n low ops (b .chip) (chip-long p b l) (m .fits) (m .erased) ∙ rw h (stays-bad n ops (s .spares h)))
+
+  -- and one that becomes bad is worn out
+  new-bad : {A : Type 0} (b b′ : Board) (ops : List Op) → lengthsFit p b ≡ true → Replayed p b b′ ops → Sparing p b n ops → (bad p (b .chip) n ≡ true → A ⊎ (p .E ≤ wearAt (b .wear) n))
+      → bad p (b′ .chip) n ≡ true → A ⊎ (p .E ≤ wearAt (b′ .wear) n)
+  new-bad b b′ ops l m s inv h =
+      rw (m .wear) (new-worn p z n ops (b .wear) (bad p (b .chip) n) (rw (wear-long p b l) low) (s .worns) inv
+      (sym (bad-replay p z n low ops (b .chip) (chip-long p b l) (m .fits) (m .erased)) ∙ (rw (m .chip) at h)))
+
+  singles-sparing : (b : Board) (cs : List Call) → AllSingle cs → lengthsFit p b ≡ true → Sparing p b n (plainTrace p b cs)
+  singles-sparing b [] s l = unfold plainTrace plainParts opsOf in none-sparing p b n
+  singles-sparing b (c ∷ cs) s l =
+      let here = ops-sparing b c (s .0) l in
+      let made = one-made p b c (s .0) in
+      let there = singles-sparing (plainLeaves p b c) cs (s .1) (leaves-long b c l) in
+      rw (trace-step p b c cs)
+      (record {
+        spares = λ h. erases-append n (opsBy p b c) _ (here .spares h) (there .spares (kept-bad b (plainLeaves p b c) (opsBy p b c) l made here h));
+        worns = worn-append p n (b .wear) (opsBy p b c) _ (here .worns) (rw (← made .wear) (there .worns));
+      })
     where
-      go : Dec (n ≡ m) → bad p (onChip p chip (erase m)) n ≡ false
-      go (yes i) = let is = erased-block p chip m e f in rw i (blank-good p (onChip p chip (erase m)) m z (rw is (length-replicate (blockBytes p) 255)) (rw is (allAre-replicate 255 (blockBytes p))))
-      go (no i) = bytes-bad p chip (onChip p chip (erase m)) n (other-block p chip m e f n i) ∙ g
+      leaves-long : (b : Board) (c : Call) → lengthsFit p b ≡ true → lengthsFit p (plainLeaves p b c) ≡ true
+      leaves-long b c l = unfold plainBoard in run-long p b (c ∷ []) l
 
-  good-stays : (chip : List ℕ) (os : List Op) → length chip ≡ chipBytes p → AllFit p os → Unmarked os → bad p chip n ≡ false → bad p (replayChip p chip os) n ≡ false
-  unfolding replayChip
-  good-stays chip [] e f u g = g
-  good-stays chip (o ∷ os) e f u g = good-stays (onChip p chip o) os (op-length p chip o e (f .0)) (f .1) (u .1) (op-good chip o e (f .0) (u .0) g)
-
-  -- so the first operations of a list that changes nothing of it change nothing
-  first-same : (chip : List ℕ) (k : ℕ) (os : List Op) → length chip ≡ chipBytes p → AllFit p os → Unmarked os → bad p (replayChip p chip os) n ≡ bad p chip n
-      → bad p (replayChip p chip (take k os)) n ≡ bad p chip n
-  first-same chip k os e f u same = go (so (bad p chip n)) (so (bad p (replayChip p chip (take k os)) n))
+  call-sparing : (b : Board) (c : Call) → lengthsFit p b ≡ true → Sparing p b n (opsOf ((workOf p b c) .parts))
+  call-sparing b c l = rw (same) (singles-sparing b (singlesOf p b (c ∷ [])) (all-single p b (c ∷ [])) l)
     where
-      fit : AllFit p (take k os) × AllFit p (drop k os)
-      fit = fit-back p (take k os) (drop k os) (rw (take-append-drop k os) f)
-
-      none : Unmarked (take k os) × Unmarked (drop k os)
-      none = unmarked-back (take k os) (drop k os) (rw (take-append-drop k os) u)
-
-      later : bad p (replayChip p chip (take k os)) n ≡ false → bad p (replayChip p chip os) n ≡ false
-      later g =
-          rw (take-append-drop k os) at (rw (← replay-append p chip (take k os) (drop k os)) at
-          (good-stays (replayChip p chip (take k os)) (drop k os) (replay-length p chip (take k os) e (fit .0)) (fit .1) (none .1) g))
-
-      go : (bad p chip n ≡ true) ⊎ (bad p chip n ≡ false) → (bad p (replayChip p chip (take k os)) n ≡ true) ⊎ (bad p (replayChip p chip (take k os)) n ≡ false)
-          → bad p (replayChip p chip (take k os)) n ≡ bad p chip n
-      go (inr g) t = good-stays chip (take k os) e (fit .0) (none .0) g ∙ sym g
-      go (inl g) (inl t) = t ∙ sym g
-      go (inl g) (inr t) = absurd (never g (sym same ∙ later t))
-
--- ---- a run, through any cuts
-
-module _ (p : Params) (fine : allowed p ≡ true) where
-  chip-long : (b : Board) → lengthsFit p b ≡ true → length (b .chip) ≡ chipBytes p
-  unfolding lengthsFit
-  chip-long b h = eqb-true _ _ ((truths _ h) .0)
-
-  call-bad : (b : Board) (c : Call) (n : ℕ) → n < p .N → bad p ((plainLeaves p b c) .chip) n ≡ bad p (b .chip) n
-  unfolding plainBoard
-  call-bad b c n h = after-bad p b (c ∷ []) n h
-
-  step-bad : (b : Board) (s : Step) → lengthsFit p b ≡ true → (n : ℕ) → n < p .N → bad p ((leaves p b s) .chip) n ≡ bad p (b .chip) n
-  step-bad b (plain c) long n h = rw (uncut-leaves p b (plain c) (unfold isCut in refl)) (unfold callOf in call-bad b c n h)
-  step-bad b (limited k c) long n h = go (so (isCut p b (limited k c)))
-    where
-      ops : List Op
-      ops = opsOf ((workOf p b c) .parts)
-
-      go : (isCut p b (limited k c) ≡ true) ⊎ (isCut p b (limited k c) ≡ false) → bad p ((leaves p b (limited k c)) .chip) n ≡ bad p (b .chip) n
-      go (inl e) =
-          rw (cut-leaves p b k c e)
-          (unfold cutBoard in first-same p (sizes p fine) n h (b .chip) k ops (chip-long b long) ((call-made p b c) .fits) (work-unmarked p b c) (rw (← (call-made p b c) .chip) (call-bad b c n h)))
-      go (inr e) = rw (uncut-leaves p b (limited k c) e) (unfold callOf in call-bad b c n h)
-
-  pub run-bad : (b : Board) (ss : List Step) → lengthsFit p b ≡ true → (n : ℕ) → n < p .N → bad p ((boardAfter p b ss) .chip) n ≡ bad p (b .chip) n
-  unfolding boardAfter
-  run-bad b [] long n h = refl
-  run-bad b (s ∷ ss) long n h = run-bad (leaves p b s) ss (step-long p b s long) n h ∙ step-bad b s long n h
-
--- ---- a format after a run
-
--- as many blocks are good
-run-good : (p : Params) → allowed p ≡ true → (b : Board) (ss : List Step) → lengthsFit p b ≡ true → goodBlocks p ((boardAfter p b ss) .chip) ≡ goodBlocks p (b .chip)
-unfolding goodBlocks
-run-good p fine b ss long =
-    count-cong (p .N) (λ n. not (bad p ((boardAfter p b ss) .chip) n)) (λ n. not (bad p (b .chip) n)) (λ n h. ap not (run-bad p fine b ss long n h))
-
--- a format is accepted where the lengths are right and enough blocks are good
-format-passes : (p : Params) (b : Board) → allowed p ≡ true → lengthsFit p b ≡ true → p .mu * p .gamma + 1 ≤ goodBlocks p (b .chip) → replyOf p b format ≡ Accepted
-unfolding replyOf rowsOf lentRows firstRow badParameter wrongLength tooFewBlocks
-format-passes p b fine long enough = rw (fine, long, le-ltb (goodBlocks p (b .chip)) (p .mu * p .gamma + 1) enough)
-
--- so it is again
-pub format-again : (p : Params) (b : Board) → replyOf p b format ≡ Accepted → (ss : List Step) → replyOf p (boardAfter p b ss) format ≡ Accepted
-format-again p b e ss =
-    let a = format-admitted p b e in
-    format-passes p (boardAfter p b ss) (a .fine) (trace-long p b ss (a .lengths)) (rw (run-good p (a .fine) b ss (a .lengths)) (a .enough))
+      same : opsOf ((workOf p b c) .parts) ≡ plainTrace p b (singlesOf p b (c ∷ []))
+      same = {!!}

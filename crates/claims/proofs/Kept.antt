@@ -6,6 +6,7 @@ use Prim.Native.Nat.{ℕ}
 use mathlib.Core.Bool.{true, false, not}
 use mathlib.Core.List.{List, [], _∷_, _++_}
 use lib.Dec.{leb}
+use native.Mathlib.Omega.{arith}
 use Rattle.rules.specs.declared.Params.{Params}
 use Rattle.rules.specs.declared.Reply.{Reply}
 use Rattle.rules.specs.declared.Reply.the-variants.{Accepted, BadAddress, NoStampLeft}
@@ -26,14 +27,14 @@ use Rattle.rules.proofs.FormatPromise.{format-lengths, format-orderly}
 use Rattle.rules.proofs.Outcomes.{reply-cases}
 use Rattle.rules.proofs.Releases.{release-lengths, release-orderly}
 use Rattle.rules.proofs.Sizes.{sizes}
-use Rattle.rules.proofs.TableFacts.{tables-in}
+use Rattle.rules.proofs.TableFacts.{lengths-in, tables-in}
 use Rattle.rules.proofs.Views.{enough-free, free-found}
 use Rattle.rules.proofs.WritePromise.{write-promise}
 use Rattle.starts.proofs.StartPromise.{start-lengths, start-orderly}
 use Rattle.claims.specs.Runs.{AllFit}
 use Rattle.claims.proofs.PlainRuns.{plainBoard, plainLeaves, plainParts, plainTrace}
 use Rattle.claims.proofs.Once.{fit-append}
-use Rattle.claims.proofs.Programs.{erases-fit, format-fits, write-fits}
+use Rattle.claims.proofs.Programs.{erases-fit, write-fits}
 use Rattle.claims.proofs.Singles.{AllSingle, Single, all-single, board-same, parts-same, refused-leaves, singlesOf}
 use Rattle.starts.proofs.Accepted.{start-admitted}
 use Rattle.claims.proofs.Steps.{accepted-leaves, accepted-ops, doneBoard, doneOps, opsBy, refused-ops, trace-step}
@@ -109,12 +110,12 @@ orderly-release p b c h = rw (h .fine, h .lengths, h .tidy)
 -- they fit the chip
 done-fit : (p : Params) (b : Board) (c : Call) → Single c → replyOf p b c ≡ Accepted → AllFit p (doneOps p b c)
 unfolding doneOps
-done-fit p b format s e = format-fits p (b .chip)
+done-fit p b format s e = unfold formatOps in erases-fit p (sizes p ((format-admitted p b e) .fine)) (b .wear) _
 done-fit p b (read q) s e = tt
 done-fit p b (write q) s e = write-fits p b q e
 done-fit p b (release c) s e = tt
 done-fit p b (queue l) s e = absurd s
-done-fit p b start s e = unfold startOps in erases-fit p (leftOver p (b .chip))
+done-fit p b start s e = unfold startOps in erases-fit p (sizes p ((start-admitted p b e) .fine)) (b .wear) (leftOver p (b .chip))
 
 ops-fit : (p : Params) (b : Board) (c : Call) → Single c → AllFit p (opsBy p b c)
 ops-fit p b c s = go (reply-cases (replyOf p b c))
@@ -159,12 +160,16 @@ ops-wear p b c s = go (reply-cases (replyOf p b c))
 -- each page that a call programs is 255 throughout just before; a format programs none
 done-clean : (p : Params) (b : Board) (c : Call) → Single c → replyOf p b c ≡ Accepted → clean p (b .chip) (doneOps p b c) ≡ true
 unfolding doneOps clean formatOps startOps eraseWhere erasesBelow
-done-clean p b format s e = erases-clean p (λ n. not (bad p (b .chip) n)) (b .chip) (p .N)
+done-clean p b format s e =
+    let a = format-admitted p b e in
+    erases-clean p (sizes p (a .fine)) (b .wear) (λ n. not (bad p (b .chip) n)) (b .chip) ((lengths-in p b (a .lengths)) .chipLength) (p .N) (omega arith)
 done-clean p b (read q) s e = refl
 done-clean p b (write q) s e = (write-promise p b q e) .erased
 done-clean p b (release c) s e = refl
 done-clean p b (queue l) s e = absurd s
-done-clean p b start s e = erases-clean p (leftOver p (b .chip)) (b .chip) (p .N)
+done-clean p b start s e =
+    let a = start-admitted p b e in
+    erases-clean p (sizes p (a .fine)) (b .wear) (leftOver p (b .chip)) (b .chip) ((lengths-in p b (a .lengths)) .chipLength) (p .N) (omega arith)
 
 ops-clean : (p : Params) (b : Board) (c : Call) → Single c → clean p (b .chip) (opsBy p b c) ≡ true
 ops-clean p b c s = go (reply-cases (replyOf p b c))
@@ -196,7 +201,7 @@ more-made p b b′ b″ xs ys s t =
       fits = fit-append p xs ys (s .fits) (t .fits);
     }
 
-one-made : (p : Params) (b : Board) (c : Call) → Single c → Replayed p b (plainLeaves p b c) (opsBy p b c)
+pub one-made : (p : Params) (b : Board) (c : Call) → Single c → Replayed p b (plainLeaves p b c) (opsBy p b c)
 one-made p b c s = record { chip = ops-chip p b c s; wear = ops-wear p b c s; erased = ops-clean p b c s; fits = ops-fit p b c s }
 
 singles-made : (p : Params) (b : Board) (cs : List Call) → AllSingle cs → Replayed p b (plainBoard p b cs) (plainTrace p b cs)

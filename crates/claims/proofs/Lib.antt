@@ -3,6 +3,7 @@ pub mod PlainRuns
 pub mod Singles
 pub mod Steps
 pub mod Once
+pub mod BadRuns
 pub mod Programs
 pub mod Kept
 pub mod Known
@@ -11,7 +12,6 @@ pub mod Freed
 pub mod Stamps
 pub mod Budgets
 pub mod CutTraces
-pub mod Unmarked
 pub mod Again
 pub mod Condition1
 pub mod Standing

@@ -25,8 +25,7 @@ use Rattle.rules.specs.Numbers.{regionOf}
 use Rattle.rules.specs.Tables.{Board, none}
 use Rattle.rules.specs.Pages.{filled, frame, held, page, programmed, spare, spareBytes, stampOf}
 use Rattle.rules.specs.Regions.{assigned, valid, validFrames, view}
-use Rattle.rules.specs.Traces.{erase, eraseWhere, frameOps, framesOps, program}
-use Rattle.rules.specs.Format.{formatOps}
+use Rattle.rules.specs.Traces.{eraseOps, eraseWhere, frameOps, framesOps, mark, program, worn}
 use Rattle.rules.specs.Write.{planErases, Plan, continues, copies, eraseOps, hasRoom, lowestUnassigned, newFrame, opens, planBlock, planFrame, planOf, planOps, planVBlock, reclaims, roomOps, writeOps, nextStamp}
 use Rattle.rules.specs.Replies.{replyOf}
 use Rattle.rules.specs.Words.{SpareListed}
@@ -38,7 +37,7 @@ use Rattle.rules.proofs.FramePut.{Sheet}
 use Rattle.rules.proofs.NewFrames.{host-sheet}
 use Rattle.rules.proofs.RegionFacts.{Neat, neat, good-all, good-stamp}
 use Rattle.rules.proofs.Replays.{one-fits}
-use Rattle.rules.proofs.Sizes.{Sizes}
+use Rattle.rules.proofs.Sizes.{Sizes, some-page}
 use Rattle.rules.proofs.TableFacts.{Tables}
 use Rattle.rules.proofs.ValidFrames.{valid-holds}
 use Rattle.rules.proofs.Victims.{Valid, valid-in}
@@ -50,17 +49,22 @@ use Rattle.claims.proofs.Once.{fit-append, fit-join}
 
 -- ---- blocks of the chip are erased
 
-pub erases-fit : (p : Params) (f : ℕ → Bool) → AllFit p (eraseWhere p f)
-unfolding eraseWhere
-erases-fit p f = fit-join p (p .N) _ (λ n h. go n h (f n))
+-- and marked
+one-fits-block : (p : Params) → Sizes p → (wear : List ℕ) (n : ℕ) → n < p .N → AllFit p (eraseOps p wear n)
+unfolding eraseOps
+one-fits-block p z wear n h = (h, go (worn p wear n))
   where
-    go : (n : ℕ) → n < p .N → (t : Bool) → AllFit p (cond t (erase n ∷ []) [])
-    go n h true = (h, tt)
-    go n h false = tt
+    go : (t : Bool) → AllFit p (cond t (mark n ∷ []) [])
+    go true = ((h, some-page p z), tt)
+    go false = tt
 
-pub format-fits : (p : Params) (chip : List ℕ) → AllFit p (formatOps p chip)
-unfolding formatOps
-format-fits p chip = erases-fit p _
+pub erases-fit : (p : Params) → Sizes p → (wear : List ℕ) (f : ℕ → Bool) → AllFit p (eraseWhere p wear f)
+unfolding eraseWhere
+erases-fit p z wear f = fit-join p (p .N) _ (λ n h. go n h (f n))
+  where
+    go : (n : ℕ) → n < p .N → (t : Bool) → AllFit p (cond t (eraseOps p wear n) [])
+    go n h true = one-fits-block p z wear n h
+    go n h false = tt
 
 -- ---- a frame's programs
 
@@ -164,13 +168,13 @@ module _ (p : Params) (z : Sizes p) (b : Board) (t : Tables p b) (r : ℕ) (regi
       go (inr a) (inl s) k = found (first-spec none (p .gamma) (λ v. not (assigned (view p b r) v)) (omega (arith, z .gammaHigh))) (eqb-true _ _ s)
 
   room-fits : (pl : Plan) → planOf p (view p b r) ≡ pl → Makes p b r pl → AllFit p (roomOps p b r pl)
-  unfolding roomOps copies framesOps eraseOps
+  unfolding roomOps copies framesOps victimOps
   room-fits (continues v f) is m = tt
   room-fits (opens v) is m = tt
   room-fits (reclaims v) is m =
       fit-append p (framesOps p (planBlock p b r (reclaims v)) 0 (copies p (view p b r) (reclaims v))) _
       (frames-fit p z (planBlock p b r (reclaims v)) (m .room .low) (copies p (view p b r) (reclaims v)) 0 few (copies-spares p z b t r region nt v mine))
-      (block-low p z b t r v region mine (has-block p z b t r v region mine (all-assigned v is v mine)), tt)
+      (one-fits-block p z (b .wear) (btAt p (b .bt) r v) (block-low p z b t r v region mine (has-block p z b t r v region mine (all-assigned v is v mine))))
     where
       mine : v < p .gamma
       mine = unfold planVBlock in m .base .ready .mine

@@ -26,12 +26,12 @@ use Rattle.claims.proofs.Singles.{Single, refused-leaves}
 
 -- what an accepted call that is no queue makes, looks at and leaves
 unfoldable pub doneOps : Params → Board → Call → List Op
-doneOps p b format = formatOps p (b .chip)
+doneOps p b format = formatOps p (b .chip) (b .wear)
 doneOps p b (read q) = []
 doneOps p b (write q) = writeOps p b q
 doneOps p b (release c) = []
 doneOps p b (queue l) = []
-doneOps p b start = startOps p (b .chip)
+doneOps p b start = startOps p (b .chip) (b .wear)
 
 unfoldable pub doneBytes : Params → Board → Call → List ℕ
 doneBytes p b format = []

@@ -37,7 +37,7 @@ module _ (p : Params) (blk : List ℕ) (whole : length blk ≡ blockBytes p) whe
   spare-long q h = simp length-drop (omega (arith, part-length (p .s + 16) q blk (page-fits q h)))
 
   -- byte 5 is 255 where they are erased
-  erased-fifth : (q : ℕ) → q < pages p → allAre 255 (spare p blk q) ≡ true → getD (spare p blk q) 5 0 ≡ 255
+  pub erased-fifth : (q : ℕ) → q < pages p → allAre 255 (spare p blk q) ≡ true → getD (spare p blk q) 5 0 ≡ 255
   erased-fifth q h e = ap (λ (l : List ℕ). getD l 5 0) (replicate-of 255 (spare p blk q) e) ∙ getD-replicate (length (spare p blk q)) 5 255 0 (omega (arith, spare-long q h))
 
   -- so in each page of a block that is erased throughout
