@@ -15,9 +15,9 @@ use Rattle.rules.specs.Parameters.{allowed}
 use Rattle.rules.specs.Numbers.{clusterOf, sectorOf}
 use Rattle.rules.specs.Orderly.{orderly}
 use Rattle.rules.specs.Tables.{Board, stampAt}
-use Rattle.rules.specs.Requests.{Request, requestRegion, write}
+use Rattle.rules.specs.Requests.{Request, requestRegion}
 use Rattle.rules.specs.Format.{goodBlocks}
-use Rattle.rules.specs.Replies.{Row, row, accessRows, badAddress, badCount, badParameter, firstRow, lengthsFit, lentRows, noStampLeft, notOrderly, numberOf, orderRow, replyOf, rowsOf, stampRow, tooFewBlocks, wrongData, wrongLength}
+use Rattle.rules.specs.Replies.{Row, row, accessRows, badAddress, badCount, badParameter, earlyRows, firstRow, lengthsFit, lentRows, noStampLeft, notOrderly, numberOf, orderRow, stampRow, tooFewBlocks, wrongData, wrongLength}
 use Rattle.rules.proofs.Admitted.{Checks}
 use Rattle.rules.proofs.Sizes.{sizes}
 
@@ -116,17 +116,17 @@ module _ (p : Params) (b : Board) (ok : Bool) (xs : List (Row Reply)) (e : ok �
 
 -- the row of a write's stamp, where its region's last one is t
 module _ (p : Params) (b : Board) (q : Request) (t : ℕ) (e : t ≡ stampAt (b .stamps) (requestRegion p q)) where
-  pub stamp-none : t ≡ 4294967295 → NoStampLeft ≡ firstRow Accepted (stampRow p b q)
+  pub stamp-none : t ≡ 4294967295 → NoStampLeft ≡ firstRow Accepted (stampRow p b (requestRegion p q))
   unfolding stampRow firstRow noStampLeft
   stamp-none k = rw (le-leb 4294967295 (stampAt (b .stamps) (requestRegion p q)) (omega (arith, e, k)))
 
-  pub stamp-some : t < 4294967296 → (t ≡ 4294967295 → ⊥) → Accepted ≡ firstRow Accepted (stampRow p b q)
+  pub stamp-some : t < 4294967296 → (t ≡ 4294967295 → ⊥) → Accepted ≡ firstRow Accepted (stampRow p b (requestRegion p q))
   unfolding stampRow firstRow noStampLeft
   stamp-some h k = rw (lt-leb 4294967295 (stampAt (b .stamps) (requestRegion p q)) (omega (arith, e, h, k)))
 
--- a write that passes the checks of a read gets the reply of that row
-pub write-row : (p : Params) (b : Board) (q : Request) → Checks p b q → firstRow Accepted (stampRow p b q) ≡ replyOf p b (write q)
-unfolding replyOf rowsOf lentRows accessRows orderRow firstRow badParameter wrongLength notOrderly
+-- of a write that passes the checks of a read, that row is the first that may apply
+pub write-row : (p : Params) (b : Board) (q : Request) → Checks p b q → firstRow Accepted (stampRow p b (requestRegion p q)) ≡ firstRow Accepted (earlyRows p b q)
+unfolding earlyRows lentRows accessRows orderRow firstRow badParameter wrongLength notOrderly
 write-row p b q c = rw (c .fine, c .lengths, c .count, c .address, c .given, c .tidy)
 
 -- an LBA that is not refused is one of a cluster of the board

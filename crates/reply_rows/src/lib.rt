@@ -6,8 +6,8 @@ ghost use lib.ListN.{length};
 ghost use Rattle.rules.specs.Parameters.{allowed};
 ghost use Rattle.rules.specs.Tables.{Board};
 ghost use Rattle.rules.specs.Orderly.{orderly};
-ghost use Rattle.rules.specs.Requests.{Request, write};
-ghost use Rattle.rules.specs.Replies.{accessRows, badAddress, badCluster, badCount, firstRow, lengthsFit, numberOf, replyOf, stampRow, wrongData};
+ghost use Rattle.rules.specs.Requests.{Request, requestRegion};
+ghost use Rattle.rules.specs.Replies.{accessRows, badAddress, badCluster, badCount, earlyRows, firstRow, lengthsFit, numberOf, stampRow, wrongData};
 ghost use Rattle.rules.specs.Calls.{answerOf};
 use rules::Answer;
 use rules::Params;
@@ -70,7 +70,7 @@ pub fn stamp_reply(p: Params, stamps: &[u32], lba: u32) -> Reply
     requires { ⌜ allowed p ≡ true ⌝ }
     requires { ⌜ badAddress p lba ≡ false ⌝ }
     requires { ⌜ length (now stamps) ≡ p .mu ⌝ }
-    ensures { λ r. ⌜ ((b : Board) (q : Request) → b .stamps ≡ now (stamps .entry) → q .lba ≡ lba → r ≡ firstRow Reply.Accepted (stampRow p b q)) ⌝ }
+    ensures { λ r. ⌜ ((b : Board) (q : Request) → b .stamps ≡ now (stamps .entry) → q .lba ≡ lba → r ≡ firstRow Reply.Accepted (stampRow p b (requestRegion p q))) ⌝ }
 {
     let c = rules::cluster_of(p, lba as usize);
     if chip_tables::stamp_at(stamps, rules::region_of(p, c)) == rules::LAST_STAMP {
@@ -80,7 +80,7 @@ pub fn stamp_reply(p: Params, stamps: &[u32], lba: u32) -> Reply
 }
 
 // The reply to a write whose parameters and lengths are right, by its count, its address, whether its data has the right length, whether the state
-// is orderly, and the last stamps.
+// is orderly, and the last stamps: all but 10, which its plan tells.
 pub fn item_reply(
     p: Params,
     ordered: bool,
@@ -92,7 +92,7 @@ pub fn item_reply(
     requires { ⌜ allowed p ≡ true ⌝ }
     requires { ⌜ length (now stamps) ≡ p .mu ⌝ }
     ensures { λ r. ⌜ ((b : Board) (q : Request) → lengthsFit p b ≡ true → ordered ≡ orderly p b → b .stamps ≡ now (stamps .entry) → q .lba ≡ lba → q .count ≡ count
-        → (badCount p q ≡ false → wrongData p q ≡ not fits) → r ≡ replyOf p b (write q)) ⌝ }
+        → (badCount p q ≡ false → wrongData p q ≡ not fits) → r ≡ firstRow Reply.Accepted (earlyRows p b q)) ⌝ }
 {
     let asked = request_reply(p, lba, count, !fits);
     if rules::number(asked) != 0 {

@@ -3,7 +3,7 @@
 use mathlib.Core.Path.{sym, _∙_}
 use borrow.Author.Needs.{needs}
 use borrow.Author.Tests.{not-false, not-true}
-use Rattle.rules.specs.Replies.{replyOf, rowsOf}
+use Rattle.rules.specs.Replies.{earlyRows}
 use Rattle.reply_rows.proofs.Rows.{after-access, after-lent, after-order, order-here, refuses}
 use Rattle.reply_rows.proofs.item_reply.Statement.{statement}
 use Rattle.reply_rows.proofs.item_reply.Tie as tie
@@ -15,14 +15,14 @@ number-requires : tie.Need-number-requires
 number-requires c κs = search needs
 
 returns : tie.Need-returns
-unfolding replyOf rowsOf
+unfolding earlyRows
 returns c =
     let start = c .before .before .before .before in
     λ b q fit o st l k d. after-lent _ b (record { fine = start .pre .0; fits = fit }) _ _
     (refuses _ _ _ (c .before .before .request-reply .ensures .0 q l k d) (c .before .number .ensures) (c .if1 .taken) _)
 
 returns-2 : tie.Need-returns-2
-unfolding replyOf rowsOf
+unfolding earlyRows
 returns-2 c =
     let at-request-reply = c .before .before .before in
     let start = at-request-reply .before .before in
@@ -38,7 +38,7 @@ stamp-reply-requires c κs =
     (start .pre .0, (at-request-reply .request-reply .ensures .1 (sym (at-number .number .ensures) ∙ c .before .if1 .left), start .pre .1))
 
 returns-3 : tie.Need-returns-3
-unfolding replyOf rowsOf
+unfolding earlyRows
 returns-3 c =
     let at-request-reply = c .before .before .before .before in
     let start = at-request-reply .before .before in
