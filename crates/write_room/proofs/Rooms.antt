@@ -36,30 +36,27 @@ copies-are p fine b r v low in-chip =
     let body = block-of-view p (b .chip) (b .ct) (b .bt) (b .fst) r v low (λ x. omega (arith, x, in-chip, (sizes p fine) .blocks)) in
     rw body (ap (map (frame p (block p (b .chip) (btAt p (b .bt) r v)))) (keep-cong (frames p) _ _ (λ f h. marked-valid p (view p b r) v f h)))
 
--- ---- the free block
+-- ---- the block that is taken
 
-module _ (p : Params) (bt bst wear : List ℕ) (r v : ℕ) (a : OpenAsked p bt bst wear r v) (n : ℕ) (is : n ≡ freeBlock p bst wear) where
+module _ (p : Params) (bt bst : List ℕ) (r v n : ℕ) (a : OpenAsked p bt bst r v n) where
   pub free-few : n < 65536
-  free-few = rw is (omega (arith, a .free, (sizes p (a .pool .fine)) .blocks))
+  free-few = omega (arith, a .inChip, (sizes p (a .fine)) .blocks)
 
   pub free-in : n < length bst
-  free-in = rw (is, a .pool .bstLength) (a .free)
+  free-in = rw (a .bstLength) (a .inChip)
 
-  pub opened : (bt′ bst′ : List ℕ) → bt′ ≡ set bt (r * p .gamma + v) n → bst′ ≡ set bst n 1 → Opened p bt bst wear r v bt′ bst′
-  opened bt′ bst′ x y = record { btIs = x ∙ rw is; bstIs = y ∙ rw is }
-
-module _ (p : Params) (chip ct bt bst wear marks : List ℕ) (r v : ℕ) (a : ReclaimReady p chip ct bt bst wear marks r v) where
-  module _ (o n : ℕ) (eo : o ≡ btAt p bt r v) (en : n ≡ freeBlock p bst wear) where
+module _ (p : Params) (chip ct bt bst wear marks : List ℕ) (r v n : ℕ) (a : ReclaimReady p chip ct bt bst wear marks r v n) where
+  module _ (o : ℕ) (eo : o ≡ btAt p bt r v) where
     pub reclaim-asked : ReclaimAsked p chip ct wear marks o n r v
-    reclaim-asked = record { blocks = rw (eo, en) (a .blocks); wearLength = a .taking .pool .wearLength; words = a .words }
+    reclaim-asked = record { blocks = rw eo (a .blocks); wearLength = a .wearLength; words = a .words }
 
     pub old-in : o < length bst
-    old-in = rw (eo, a .taking .pool .bstLength) (a .blocks .between .from)
+    old-in = rw (eo, a .taking .bstLength) (a .blocks .between .from)
 
     pub block-reclaimed : (m : ℕ → Bool) (chip′ ct′ bt′ bst₁ bst′ wear′ : List ℕ) (k : ℕ) → Reclaimed p chip ct wear o n v (markedFrames p (block p chip o) m) chip′ ct′ wear′ k
         → bt′ ≡ set bt (r * p .gamma + v) n → bst₁ ≡ set bst n 1 → bst′ ≡ set bst₁ o 0
-        → BlockReclaimed p chip ct bt bst wear r v (markedFrames p (block p chip (btAt p bt r v)) m) chip′ ct′ bt′ bst′ wear′ k
-    block-reclaimed m chip′ ct′ bt′ bst₁ bst′ wear′ k d x y w = record { moved = rw (eo, en) at d; btIs = x ∙ rw en; bstIs = w ∙ rw (y, en, eo) }
+        → BlockReclaimed p chip ct bt bst wear r v n (markedFrames p (block p chip (btAt p bt r v)) m) chip′ ct′ bt′ bst′ wear′ k
+    block-reclaimed m chip′ ct′ bt′ bst₁ bst′ wear′ k d x y w = record { moved = rw eo at d; btIs = x; bstIs = w ∙ rw (y, eo) }
 
 -- ---- by the plan
 
@@ -82,12 +79,12 @@ module _ (p : Params) (chip ct bt fst bst wear marks stamps : List ℕ) (r : ℕ
         wearIs = refl;
       }
 
-  pub made-opens : (v : ℕ) (bt′ bst′ : List ℕ) → Opened p bt bst wear r v bt′ bst′ → RoomMade p b r (opens v) v 0 0 0 chip ct bt′ bst′ wear
+  pub made-opens : (v n : ℕ) (bt′ bst′ : List ℕ) → n ≡ freeBlock p bst wear → Opened p bt bst r v n bt′ bst′ → RoomMade p b r (opens v) v 0 0 0 chip ct bt′ bst′ wear
   unfolding planVBlock planFrame copies eraseOps erasesIn roomOps framesOps replayChip followCt planBlock planBst replayWear
-  made-opens v bt′ bst′ o =
-      record { vblock = refl; frame = refl; count = refl; erases = refl; chipIs = refl; ctIs = refl; btIs = o .btIs; bstIs = o .bstIs; wearIs = refl }
+  made-opens v n bt′ bst′ en o =
+      record { vblock = refl; frame = refl; count = refl; erases = refl; chipIs = refl; ctIs = refl; btIs = o .btIs ∙ rw en; bstIs = o .bstIs ∙ rw en; wearIs = refl }
 
-  made-reclaims : (v : ℕ) (chip′ ct′ bt′ bst′ wear′ : List ℕ) (k : ℕ) → BlockReclaimed p chip ct bt bst wear r v (copies p (view p b r) (reclaims v)) chip′ ct′ bt′ bst′ wear′ k
+  made-reclaims : (v : ℕ) (chip′ ct′ bt′ bst′ wear′ : List ℕ) (k : ℕ) → BlockReclaimed p chip ct bt bst wear r v (freeBlock p bst wear) (copies p (view p b r) (reclaims v)) chip′ ct′ bt′ bst′ wear′ k
       → RoomMade p b r (reclaims v) v k k 1 chip′ ct′ bt′ bst′ wear′
   unfolding planVBlock planFrame eraseOps erasesIn isErase roomOps planBlock planBst
   made-reclaims v chip′ ct′ bt′ bst′ wear′ k d =
@@ -107,10 +104,10 @@ module _ (p : Params) (chip ct bt fst bst wear marks stamps : List ℕ) (r : ℕ
       }
 
 -- the copies of a reclaim are the marked frames, where each mark equals the validity rule
-pub made-by-marks : (p : Params) (chip ct bt bst wear marks : List ℕ) (r v : ℕ) → ReclaimReady p chip ct bt bst wear marks r v → (fst stamps : List ℕ)
+pub made-by-marks : (p : Params) (chip ct bt bst wear marks : List ℕ) (r v n : ℕ) → n ≡ freeBlock p bst wear → ReclaimReady p chip ct bt bst wear marks r v n → (fst stamps : List ℕ)
     → marks ≡ marksOf p (boardOf chip ct bt fst bst wear marks stamps)
     → (chip′ ct′ bt′ bst′ wear′ : List ℕ) (k : ℕ)
-    → ((m : Marks) → marks ≡ tableOf p m → BlockReclaimed p chip ct bt bst wear r v (markedFrames p (block p chip (btAt p bt r v)) (m r v)) chip′ ct′ bt′ bst′ wear′ k)
+    → ((m : Marks) → marks ≡ tableOf p m → BlockReclaimed p chip ct bt bst wear r v n (markedFrames p (block p chip (btAt p bt r v)) (m r v)) chip′ ct′ bt′ bst′ wear′ k)
     → RoomMade p (boardOf chip ct bt fst bst wear marks stamps) r (reclaims v) v k k 1 chip′ ct′ bt′ bst′ wear′
-made-by-marks p chip ct bt bst wear marks r v a fst stamps e chip′ ct′ bt′ bst′ wear′ k d =
-    made-reclaims p chip ct bt fst bst wear marks stamps r v chip′ ct′ bt′ bst′ wear′ k (rw (copies-are p (a .words .fine) (boardOf chip ct bt fst bst wear marks stamps) r v (a .taking .low) (a .blocks .between .from)) at (d (marksOn p (boardOf chip ct bt fst bst wear marks stamps)) e))
+made-by-marks p chip ct bt bst wear marks r v n en a fst stamps e chip′ ct′ bt′ bst′ wear′ k d =
+    made-reclaims p chip ct bt fst bst wear marks stamps r v chip′ ct′ bt′ bst′ wear′ k (rw (en, copies-are p (a .words .fine) (boardOf chip ct bt fst bst wear marks stamps) r v (a .taking .low) (a .blocks .between .from)) at (d (marksOn p (boardOf chip ct bt fst bst wear marks stamps)) e))

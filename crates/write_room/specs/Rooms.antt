@@ -6,6 +6,7 @@ use mathlib.Core.List.{List, _∷_, [], _++_}
 use Prim.Native.Nat.{ℕ, _+_, _*_, _<_}
 use lib.ListN.{length, set}
 use Rattle.rules.specs.declared.Params.{Params}
+use Rattle.rules.specs.Parameters.{allowed}
 use Rattle.rules.specs.Tables.{Board, btAt}
 use Rattle.rules.specs.Regions.{view}
 use Rattle.rules.specs.Traces.{erase, erasesIn, replayChip, replayWear, framesOps}
@@ -14,36 +15,45 @@ use Rattle.chip_marks.specs.Asked.{WordsAsked}
 use Rattle.write_choose.specs.Search.{Pool}
 use Rattle.write_reclaim.specs.Moves.{FromTo, Reclaimed}
 
--- a free block is there for virtual block v of region r
-pub record OpenAsked (p : Params) (bt bst wear : List ℕ) (r v : ℕ) : Type 0 where
+-- the tables in which the block of a plan is looked for, and its virtual block is one of region r's
+pub record BlockAsked (p : Params) (bt bst wear : List ℕ) (r : ℕ) (pl : Plan) : Type 0 where
   pub pool : Pool p bst wear
   pub btLength : length bt ≡ p .mu * p .gamma
   pub region : r < p .mu
-  pub low : v < p .gamma
-  pub free : freeBlock p bst wear < p .N
+  pub low : planVBlock pl < p .gamma
 
--- BT names the free block, which is used
-pub record Opened (p : Params) (bt bst wear : List ℕ) (r v : ℕ) (bt′ bst′ : List ℕ) : Type 0 where
-  pub btIs : bt′ ≡ set bt (r * p .gamma + v) (freeBlock p bst wear)
-  pub bstIs : bst′ ≡ set bst (freeBlock p bst wear) 1
+-- block n is there for virtual block v of region r
+pub record OpenAsked (p : Params) (bt bst : List ℕ) (r v n : ℕ) : Type 0 where
+  pub fine : allowed p ≡ true
+  pub btLength : length bt ≡ p .mu * p .gamma
+  pub bstLength : length bst ≡ p .N
+  pub region : r < p .mu
+  pub low : v < p .gamma
+  pub inChip : n < p .N
+
+-- BT names it, and it is used
+pub record Opened (p : Params) (bt bst : List ℕ) (r v n : ℕ) (bt′ bst′ : List ℕ) : Type 0 where
+  pub btIs : bt′ ≡ set bt (r * p .gamma + v) n
+  pub bstIs : bst′ ≡ set bst n 1
 
 -- and virtual block v has another block, whose frames can be copied there
-pub record ReclaimReady (p : Params) (chip ct bt bst wear marks : List ℕ) (r v : ℕ) : Type 0 where
-  pub taking : OpenAsked p bt bst wear r v
+pub record ReclaimReady (p : Params) (chip ct bt bst wear marks : List ℕ) (r v n : ℕ) : Type 0 where
+  pub taking : OpenAsked p bt bst r v n
+  pub wearLength : length wear ≡ p .N
   pub words : WordsAsked p marks r v
-  pub blocks : FromTo p chip ct (btAt p bt r v) (freeBlock p bst wear) v
+  pub blocks : FromTo p chip ct (btAt p bt r v) n v
 
 -- the frames xs, which are its marked ones, are copied, it is erased and free, and BT names the other, which is used
-pub record BlockReclaimed (p : Params) (chip ct bt bst wear : List ℕ) (r v : ℕ) (xs : List (List ℕ)) (chip′ ct′ bt′ bst′ wear′ : List ℕ) (k : ℕ) : Type 0 where
-  pub moved : Reclaimed p chip ct wear (btAt p bt r v) (freeBlock p bst wear) v xs chip′ ct′ wear′ k
-  pub btIs : bt′ ≡ set bt (r * p .gamma + v) (freeBlock p bst wear)
-  pub bstIs : bst′ ≡ set (set bst (freeBlock p bst wear) 1) (btAt p bt r v) 0
+pub record BlockReclaimed (p : Params) (chip ct bt bst wear : List ℕ) (r v n : ℕ) (xs : List (List ℕ)) (chip′ ct′ bt′ bst′ wear′ : List ℕ) (k : ℕ) : Type 0 where
+  pub moved : Reclaimed p chip ct wear (btAt p bt r v) n v xs chip′ ct′ wear′ k
+  pub btIs : bt′ ≡ set bt (r * p .gamma + v) n
+  pub bstIs : bst′ ≡ set (set bst n 1) (btAt p bt r v) 0
 
--- by the plan
-abbrev pub RoomAsked : Params → List ℕ → List ℕ → List ℕ → List ℕ → List ℕ → List ℕ → ℕ → Plan → Type 0
-RoomAsked p chip ct bt bst wear marks r (continues v f) = Unit {0}
-RoomAsked p chip ct bt bst wear marks r (opens v) = OpenAsked p bt bst wear r v
-RoomAsked p chip ct bt bst wear marks r (reclaims v) = ReclaimReady p chip ct bt bst wear marks r v
+-- by the plan, and block n is the one that it writes
+abbrev pub RoomAsked : Params → List ℕ → List ℕ → List ℕ → List ℕ → List ℕ → List ℕ → ℕ → Plan → ℕ → Type 0
+RoomAsked p chip ct bt bst wear marks r (continues v f) n = Unit {0}
+RoomAsked p chip ct bt bst wear marks r (opens v) n = (n ≡ freeBlock p bst wear) × OpenAsked p bt bst r v n
+RoomAsked p chip ct bt bst wear marks r (reclaims v) n = (n ≡ freeBlock p bst wear) × ReclaimReady p chip ct bt bst wear marks r v n
 
 -- the plan's room: the rules' operations are made, and the tables follow
 pub record RoomMade (p : Params) (b : Board) (r : ℕ) (pl : Plan) (v f copied erased : ℕ) (chip′ ct′ bt′ bst′ wear′ : List ℕ) : Type 0 where

@@ -13,9 +13,9 @@ enum-known-pl-2 c = search needs
 
 open-block-requires : tie.Need-open-block-requires
 open-block-requires c κs =
-    let at-pl2 = c .before .before .before .before in
+    let at-pl2 = c .before .before .before in
     let start = at-pl2 .before .before .before .before .before .before .before .before in
-    rw (at-pl2 .pl2 .given .1) at (start .pre)
+    (rw (at-pl2 .pl2 .given .1) at (start .pre)) .1
 
 enum-known-pl-3 : tie.Need-enum-known-pl-3
 enum-known-pl-3 c = search needs
@@ -24,7 +24,7 @@ reclaim-block-requires : tie.Need-reclaim-block-requires
 reclaim-block-requires c κs =
     let at-pl3 = c .before .before .before .before .before .before in
     let start = at-pl3 .before .before .before .before .before .before .before .before in
-    rw (at-pl3 .pl3 .given .1) at (start .pre)
+    (rw (at-pl3 .pl3 .given .1) at (start .pre)) .1
 
 returns : tie.Need-returns
 returns c = λ fst stamps e. rw (c .before .pl .given .1) (made-continues _ _ _ _ fst _ _ _ stamps _ _ _)
@@ -35,14 +35,15 @@ same-length c = search needs
 same-length-2 : tie.Need-same-length-2
 same-length-2 c = search needs
 
-same-length-3 : tie.Need-same-length-3
-same-length-3 c = search needs
-
 returns-2 : tie.Need-returns-2
 returns-2 c =
     let at-open-block = c .before .before .before .before in
-    let at-pl2 = at-open-block .before .before .before .before .before in
-    λ fst stamps e. rw (at-pl2 .pl2 .given .1) (made-opens _ _ _ _ fst _ _ _ stamps _ _ _ _ (at-open-block .open-block .ensures))
+    let at-pl2 = at-open-block .before .before .before .before in
+    let start = at-pl2 .before .before .before .before .before .before .before .before in
+    λ fst stamps e. rw (at-pl2 .pl2 .given .1) (made-opens _ _ _ _ fst _ _ _ stamps _ _ _ _ _ ((rw (at-pl2 .pl2 .given .1) at (start .pre)) .0) (at-open-block .open-block .ensures))
+
+same-length-3 : tie.Need-same-length-3
+same-length-3 c = search needs
 
 same-length-4 : tie.Need-same-length-4
 same-length-4 c = search needs
@@ -56,15 +57,13 @@ same-length-6 c = search needs
 same-length-7 : tie.Need-same-length-7
 same-length-7 c = search needs
 
-same-length-8 : tie.Need-same-length-8
-same-length-8 c = search needs
-
 returns-3 : tie.Need-returns-3
 returns-3 c =
     let at-reclaim-block = c .before .before .before .before .before .before .before .before .before .before in
     let at-pl3 = at-reclaim-block .before .before .before .before .before .before .before in
     let start = at-pl3 .before .before .before .before .before .before .before .before in
-    λ fst stamps e. rw (at-pl3 .pl3 .given .1) (made-by-marks _ _ _ _ _ _ _ _ _ (rw (at-pl3 .pl3 .given .1) at (start .pre)) fst stamps e _ _ _ _ _ _ (at-reclaim-block .reclaim-block .ensures))
+    let a = rw (at-pl3 .pl3 .given .1) at (start .pre) in
+    λ fst stamps e. rw (at-pl3 .pl3 .given .1) (made-by-marks _ _ _ _ _ _ _ _ _ _ (a .0) (a .1) fst stamps e _ _ _ _ _ _ (at-reclaim-block .reclaim-block .ensures))
 
 pub make-room-spec : {M : Type 1} → statement M
 make-room-spec =
@@ -78,11 +77,10 @@ make-room-spec =
     returns
     same-length
     same-length-2
-    same-length-3
     returns-2
+    same-length-3
     same-length-4
     same-length-5
     same-length-6
     same-length-7
-    same-length-8
     returns-3)

@@ -1,4 +1,4 @@
--- `write_room::reclaim_block`: the free block is found before the victim is freed.
+-- `write_room::reclaim_block`: the frames go to the block that is given, and BT and BST follow.
 -- Assumes nothing.
 use lib.ListN.{length-set}
 use borrow.Author.Needs.{needs}
@@ -11,37 +11,28 @@ bt-at-requires c κs =
     let start = c .before .before .before .before .before .before .before in
     (start .pre .taking .btLength, (start .pre .taking .region, start .pre .taking .low))
 
-free-block-requires : tie.Need-free-block-requires
-free-block-requires c κs =
-    let start = c .before .before .before .before .before .before .before .before .before .before in
-    start .pre .taking .pool
-
 reclaim-requires : tie.Need-reclaim-requires
 reclaim-requires c κs =
-    let at-free-block = c .before .before .before in
-    let at-bt-at = at-free-block .before .before .before in
+    let at-bt-at = c .before .before .before in
     let start = at-bt-at .before .before .before .before .before .before .before .before in
-    reclaim-asked _ _ _ _ _ _ _ _ _ (start .pre) _ _ (at-bt-at .bt-at .ensures .0) (at-free-block .free-block .ensures)
+    reclaim-asked _ _ _ _ _ _ _ _ _ _ (start .pre) _ (at-bt-at .bt-at .ensures .0)
 
 set-bt-requires : tie.Need-set-bt-requires
 set-bt-requires c κs =
-    let at-free-block = c .before .before .before .before .before .before .before .before .before .before .before in
-    let start = at-free-block .before .before .before .before .before .before .before .before .before .before .before in
-    (start .pre .taking .btLength, (start .pre .taking .region, (start .pre .taking .low, free-few _ _ _ _ _ _ (start .pre .taking) _ (at-free-block .free-block .ensures))))
+    let start = c .before .before .before .before .before .before .before .before .before .before .before .before .before .before .before .before .before .before .before in
+    (start .pre .taking .btLength, (start .pre .taking .region, (start .pre .taking .low, free-few _ _ _ _ _ _ (start .pre .taking))))
 
 set-bst-requires : tie.Need-set-bst-requires
 set-bst-requires c κs =
-    let at-free-block = c .before .before .before .before .before .before .before .before .before .before .before .before .before .before .before in
-    let start = at-free-block .before .before .before .before .before .before .before .before .before .before .before in
-    free-in _ _ _ _ _ _ (start .pre .taking) _ (at-free-block .free-block .ensures)
+    let start = c .before .before .before .before .before .before .before .before .before .before .before .before .before .before .before .before .before .before .before .before .before .before .before in
+    free-in _ _ _ _ _ _ (start .pre .taking)
 
 set-bst-requires-2 : tie.Need-set-bst-requires-2
 set-bst-requires-2 c κs =
     let at-set-bst = c .before .before .before in
-    let at-free-block = at-set-bst .before .before .before .before .before .before .before .before .before .before .before .before .before .before .before .before in
-    let at-bt-at = at-free-block .before .before .before in
+    let at-bt-at = at-set-bst .before .before .before .before .before .before .before .before .before .before .before .before .before .before .before .before in
     let start = at-bt-at .before .before .before .before .before .before .before .before in
-    rw (at-set-bst .set-bst .ensures, length-set) (old-in _ _ _ _ _ _ _ _ _ (start .pre) _ _ (at-bt-at .bt-at .ensures .0) (at-free-block .free-block .ensures))
+    rw (at-set-bst .set-bst .ensures, length-set) (old-in _ _ _ _ _ _ _ _ _ _ (start .pre) _ (at-bt-at .bt-at .ensures .0))
 
 same-length : tie.Need-same-length
 same-length c = search needs
@@ -63,10 +54,9 @@ returns c =
     let at-set-bst = c .before .before .before .before .before .before in
     let at-set-bt = at-set-bst .before .before .before .before in
     let at-reclaim = at-set-bt .before .before .before .before .before .before .before .before in
-    let at-free-block = at-reclaim .before .before .before .before in
-    let at-bt-at = at-free-block .before .before .before in
+    let at-bt-at = at-reclaim .before .before .before .before in
     let start = at-bt-at .before .before .before .before .before .before .before .before in
-    λ m e. block-reclaimed _ _ _ _ _ _ _ _ _ (start .pre) _ _ (at-bt-at .bt-at .ensures .0) (at-free-block .free-block .ensures) (m _ _) _ _ _ _ _ _ _
+    λ m e. block-reclaimed _ _ _ _ _ _ _ _ _ _ (start .pre) _ (at-bt-at .bt-at .ensures .0) (m _ _) _ _ _ _ _ _ _
     (at-reclaim .reclaim .ensures m e) (at-set-bt .set-bt .ensures) (at-set-bst .set-bst .ensures) (c .before .before .set-bst2 .ensures)
 
 pub reclaim-block-spec : {M : Type 1} → statement M
@@ -74,7 +64,6 @@ reclaim-block-spec =
     tie.close
     (tie.spec
     bt-at-requires
-    free-block-requires
     reclaim-requires
     set-bt-requires
     set-bst-requires
