@@ -2,14 +2,14 @@
 -- Assumes nothing.
 use mathlib.Core.Path.{_≡_}
 use mathlib.Core.Bool.{true}
-use mathlib.Core.List.{List, _∷_, [], _++_}
+use mathlib.Core.List.{List}
 use Prim.Native.Nat.{ℕ, _+_, _*_, _<_}
 use lib.ListN.{length, set}
 use Rattle.rules.specs.declared.Params.{Params}
 use Rattle.rules.specs.Parameters.{allowed}
 use Rattle.rules.specs.Tables.{Board, btAt}
 use Rattle.rules.specs.Regions.{view}
-use Rattle.rules.specs.Traces.{erase, erasesIn, replayChip, replayWear, framesOps}
+use Rattle.rules.specs.Traces.{erasesIn, replayChip, replayWear}
 use Rattle.rules.specs.Write.{Plan, continues, opens, reclaims, planVBlock, planFrame, copies, freeBlock, planBlock, eraseOps, roomOps, followCt, planBst}
 use Rattle.chip_marks.specs.Asked.{WordsAsked}
 use Rattle.write_choose.specs.Search.{Pool}

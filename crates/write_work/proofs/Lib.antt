@@ -1,3 +1,4 @@
+pub mod Chosen
 pub mod Made
 pub mod Stays
 pub mod Writes

@@ -1,12 +1,11 @@
 -- A write that has passed its checks: what its plan asks is there, and what it leaves is the rules' outcome.
 -- Assumes nothing.
-use mathlib.Core.Path.{_≡_, sym, ap, ap₂, _∙_}
+use mathlib.Core.Path.{_≡_, refl, sym, ap, ap₂, _∙_}
 use mathlib.Core.Logic.{_⊎_, inl, inr}
 use mathlib.Core.Bool.{Bool, true, false, not}
 use mathlib.Core.List.{List, [], _++_}
 use Prim.Native.Nat.{ℕ, _+_, _-_, _*_, _≤_, _<_}
 use native.Mathlib.Omega.{arith}
-use native.Mathlib.Nat.{mod-lt}
 use lib.Dec.{eqb}
 use borrow.Author.Tests.{eqb-true, not-false}
 use lib.ListN.{length}
@@ -21,41 +20,36 @@ use Rattle.rules.specs.Tables.{Board, boardOf, none, btAt, ctAt, marksLength, s
 use Rattle.rules.specs.Pages.{block, frame}
 use Rattle.rules.specs.Regions.{View, view, viewOf, assigned, looksAt}
 use Rattle.rules.specs.Traces.{erasesIn, frameOps, programsIn, replayChip}
-use Rattle.rules.specs.Write.{Plan, continues, opens, reclaims, hasRoom, lowestUnassigned, planOf, newFrame, nextStamp, planBlock, planVBlock, planFrame, eraseOps, freeBlock, planOps, roomOps, writeOps, written, writtenBy}
+use Rattle.rules.specs.Write.{Plan, continues, opens, reclaims, hasRoom, lowestUnassigned, planOf, newFrame, nextStamp, planBlock, planVBlock, planFrame, eraseOps, freeBlock, planOps, roomOps, takesBlock, writeOps, written, writtenBy}
 use Rattle.rules.specs.Replies.{replyOf}
 use Rattle.rules.specs.Calls.{Outcome, answerOf, outcomeOf}
 use Rattle.rules.proofs.Sizes.{Sizes}
 use Rattle.rules.proofs.Isolation.{index-low}
-use Rattle.rules.proofs.Views.{body-some, has-block, block-low, free-block, free-unnamed}
-use Rattle.rules.proofs.RegionFacts.{GoodFrame, Neat, neat}
+use Rattle.rules.proofs.Views.{HasFree, body-some, has-block, block-low, free-unnamed}
+use Rattle.rules.proofs.RegionFacts.{GoodFrame, Neat}
 use Rattle.marks.specs.Kept.{putMark, roomMarks, writtenMarks}
 use Rattle.rules.specs.Requests.{Request, write, requestCluster, requestRegion}
 use Rattle.rules.specs.Machine.{withRoom}
 use Rattle.rules.specs.Marks.{Marks, marksOf, marksOn, tableOf}
-use Rattle.rules.proofs.MarkFacts.{marks-long}
-use Rattle.rules.proofs.TableFacts.{marks-in}
 use Rattle.rules.proofs.Writes.{write-marks}
 use Rattle.rules.proofs.Outcomes.{write-accepted}
 use Rattle.marks.proofs.WrittenMarks.{written-marks}
 use Rattle.chip_marks.specs.Asked.{MarkAsked}
-use Rattle.rules.proofs.Admitted.{Admitted, Checks, admitted, write-checks, write-left}
+use Rattle.rules.proofs.Admitted.{Admitted, Checks, admitted, write-checks, write-free, write-left}
 use Rattle.rules.proofs.Continues.{Makes}
 use Rattle.rules.proofs.Opens.{free-fresh, fresh-frame}
 use Rattle.rules.proofs.Victims.{good-at}
 use Rattle.rules.proofs.WritePromise.{makes, counts, copies-few, erase-counts}
-use Rattle.write_choose.specs.Search.{Pool}
 use Rattle.write_reclaim.specs.Moves.{FromTo}
 use Rattle.rules.specs.Words.{PlanListed}
 use Rattle.rules.proofs.Words.{plan-exactly}
 use Rattle.read_work.specs.Lookup.{blockFor, Looked, Lookup, Stands, Within}
-use Rattle.read_work.proofs.Requests.{lookup-admitted}
-use Rattle.write_plan.specs.Plans.{PlanAsked}
 use Rattle.write_room.specs.Rooms.{OpenAsked, RoomAsked, RoomMade}
 use Rattle.write_cluster.specs.Clusters.{Standing, ClusterPut}
 use Rattle.outcomes.specs.Claims.{outcome}
 use Rattle.write_marks.specs.Keeping.{UnmarkAsked, keptMarks, acceptedAnswer}
 use Rattle.write_marks.proofs.Keeping.{old-is, room-is, unmark-asked}
-use Rattle.write_plan.proofs.Asked.{plan-asked as plan-for}
+use Rattle.write_work.proofs.Chosen as chosen
 use Rattle.write_work.proofs.Made as made
 use Rattle.write_work.proofs.Stays.{chip-same, ct-same, entry-same, stands-same, within-same}
 use Rattle.write_cluster.proofs.Put.{lookup}
@@ -99,10 +93,10 @@ module _ (p : Params) (b : Board) (q : Request) (e : replyOf p b (write q) ≡ A
   alpha-few = z .alphaHigh
 
   pub marks-are : b .marks ≡ marksOf p b
-  marks-are = marks-in p b (checks .lengths) (checks .tidy)
+  marks-are = chosen.marks-are p b q checks
 
   pub marks-full : length (b .marks) ≡ marksLength p
-  marks-full = marks-long p b marks-are
+  marks-full = chosen.marks-full p b q checks
 
   abbrev r : ℕ
   r = requestRegion p q
@@ -111,22 +105,16 @@ module _ (p : Params) (b : Board) (q : Request) (e : replyOf p b (write q) ≡ A
   vw = view p b r
 
   region-in : r < p .mu
-  region-in = mod-lt (requestCluster p q) (z .regions)
+  region-in = chosen.region-in p b q checks
 
   nt : Neat p r vw
-  nt = neat p r vw (acc .tidy r region-in)
+  nt = chosen.region-neat p b q checks
 
   all-make : Makes p b r (planOf p vw)
-  all-make = makes p z b (acc .tables) r region-in nt
+  all-make = makes p z b (acc .tables) r region-in nt (write-free p b q e)
 
-  pub plan-asked : (r′ : ℕ) → r′ ≡ r → PlanAsked p (b .chip) (b .bt) (b .fst) r′
-  plan-asked r′ er = rw er (plan-for p z (acc .fine) b (acc .tables) r region-in nt)
-
-  pool : Pool p (b .bst) (b .wear)
-  pool = record { fine = acc .fine; bstLength = acc .tables .bstLength; wearLength = acc .tables .wearLength }
-
-  open-asked : (v : ℕ) → v < p .gamma → OpenAsked p (b .bt) (b .bst) (b .wear) r v
-  open-asked v h = record { pool = pool; btLength = acc .tables .btLength; region = region-in; low = h; free = (free-block p z b (acc .tables)) .0 }
+  open-asked : HasFree p b → (v : ℕ) → v < p .gamma → OpenAsked p (b .bt) (b .bst) r v (freeBlock p (b .bst) (b .wear))
+  open-asked w v h = record { fine = acc .fine; btLength = acc .tables .btLength; bstLength = acc .tables .bstLength; region = region-in; low = h; inChip = w .0 }
 
   every : lowestUnassigned p vw ≡ none → (u : ℕ) → u < p .gamma → assigned vw u ≡ true
   unfolding lowestUnassigned
@@ -138,7 +126,7 @@ module _ (p : Params) (b : Board) (q : Request) (e : replyOf p b (write q) ≡ A
       go (inr w) = absurd (omega (arith, z .gammaHigh, full, w .0))
 
   -- the victim's block and the free block
-  module _ (v : ℕ) (h : v < p .gamma) (c : Reclaiming p vw) where
+  module _ (w : HasFree p b) (v : ℕ) (h : v < p .gamma) (c : Reclaiming p vw) where
     some : btAt p (b .bt) r v ≡ none → ⊥
     some = has-block p z b (acc .tables) r v region-in h (every (c .full) v h)
 
@@ -152,9 +140,9 @@ module _ (p : Params) (b : Board) (q : Request) (e : replyOf p b (write q) ≡ A
               record {
                 whole = record { fine = acc .fine; size = acc .tables .chipLength };
                 from = block-low p z b (acc .tables) r v region-in h some;
-                to = (free-block p z b (acc .tables)) .0;
-                apart = λ x. free-unnamed p z b (acc .tables) (r * p .gamma + v) (index-low p r v region-in h) (unfold btAt in x);
-                clean = λ k m. rw (free-fresh p z b (acc .tables)) (fresh-frame p k);
+                to = w .0;
+                apart = λ x. free-unnamed p z b (acc .tables) w (r * p .gamma + v) (index-low p r v region-in h) (unfold btAt in x);
+                clean = λ k m. rw (free-fresh p z b (acc .tables) w) (fresh-frame p k);
               };
           low = h;
           good = λ f m. rw (acc .tables .ctLength) ((good f m) .low);
@@ -162,25 +150,30 @@ module _ (p : Params) (b : Board) (q : Request) (e : replyOf p b (write q) ≡ A
 
   -- the cluster is looked up at entry
   pub lookup-entry : (c : ℕ) → c ≡ requestCluster p q → Lookup p (b .chip) (b .ct) (b .bt) c
-  lookup-entry c ec = rw ec (lookup-admitted p b q acc)
+  lookup-entry c ec = chosen.lookup-entry p b q checks c ec
 
-  -- the plan that was found by the marks, which are the board's
-  pub plan-is : (r′ : ℕ) → r′ ≡ r → (pl : Plan) → ((ct : List ℕ) → b .marks ≡ marksOf p (boardOf (b .chip) ct (b .bt) (b .fst) [] [] [] []) → pl ≡ planOf p (viewOf p (b .chip) ct (b .bt) (b .fst) r′))
-      → pl ≡ planOf p vw
-  plan-is r′ er pl found = rw er at (found (b .ct) marks-are)
-
-  pub room-asked : (r′ : ℕ) → r′ ≡ r → (pl : Plan) → pl ≡ planOf p vw → RoomAsked p (b .chip) (b .ct) (b .bt) (b .bst) (b .wear) (b .marks) r′ pl
-  room-asked r′ er pl ep = rw er (go pl ep)
+  -- the room of the plan, in the block that it writes
+  pub room-asked : (r′ : ℕ) → r′ ≡ r → (pl : Plan) → pl ≡ planOf p vw → (n : ℕ) → n ≡ planBlock p b r pl → RoomAsked p (b .chip) (b .ct) (b .bt) (b .bst) (b .wear) (b .marks) r′ pl n
+  unfolding planBlock planVBlock takesBlock
+  room-asked r′ er pl ep n en = rw (er, en) (go pl ep)
     where
-      go : (pl : Plan) → pl ≡ planOf p vw → RoomAsked p (b .chip) (b .ct) (b .bt) (b .bst) (b .wear) (b .marks) r pl
+      go : (pl : Plan) → pl ≡ planOf p vw → RoomAsked p (b .chip) (b .ct) (b .bt) (b .bst) (b .wear) (b .marks) r pl (planBlock p b r pl)
       go (continues v f) k = tt
       go (opens v) k =
           let mk : Makes p b r (opens v) = rw (← k) at all-make in
-          open-asked v (unfold planVBlock in mk .base .ready .mine)
+          (refl, open-asked (mk .found refl) v (mk .base .ready .mine))
       go (reclaims v) k =
           let mk : Makes p b r (reclaims v) = rw (← k) at all-make in
-          let h : v < p .gamma = unfold planVBlock in mk .base .ready .mine in
-          record { taking = open-asked v h; words = record { fine = acc .fine; long = marks-full; region = region-in; vblock = h }; blocks = from-to v h (reclaiming p vw v (sym k)) }
+          let h : v < p .gamma = mk .base .ready .mine in
+          let w : HasFree p b = mk .found refl in (
+            refl,
+            record {
+              taking = open-asked w v h;
+              wearLength = acc .tables .wearLength;
+              words = record { fine = acc .fine; long = marks-full; region = region-in; vblock = h };
+              blocks = from-to w v h (reclaiming p vw v (sym k));
+            },
+          )
 
   -- ---- what the write leaves
 

@@ -1,175 +1,135 @@
--- `write_work::write_orderly`: the search and the plan of the state at entry, the plan's room, the old frame found there, the cluster put there, and the marks
--- that follow. In each need `d` is the place where the plan is made; from there `entry` is where the call begins, and `room` where room was made.
+-- `write_work::write_orderly`: the plan and its block of the state at entry; by the block it is refused, or done.
 -- Assumes nothing.
 use mathlib.Core.Path.{ap, _∙_}
+use borrow.Author.Needs.{needs}
 use Rattle.rules.specs.Numbers.{regionOf}
-use Rattle.write_work.proofs.Writes.{
-  sectors,
-  alpha-few,
-  marks-full,
-  plan-asked,
-  plan-is,
-  room-asked,
-  lookup-entry,
-  lookup-made,
-  standing,
-  stays,
-  stays-within,
-  copied-few,
-  gives,
-  mark-asked,
-  old-asked,
-}
+use Rattle.write_work.proofs.Chosen.{sectors, marks-full, plan-asked, plan-is, lookup-entry, block-asked, block-is, none-left, one-left, checked, accepted, left-alone}
 use Rattle.write_work.proofs.write_orderly.Statement.{statement}
 use Rattle.write_work.proofs.write_orderly.Tie as tie
 
 cluster-of-requires : tie.Need-cluster-of-requires
 cluster-of-requires c κs =
-    let start = c .before .before .before .before .before .before .before .before .before in
-    sectors _ _ _ (start .pre)
+    let entry = c .before .before .before .before .before .before .before .before .before in
+    sectors _ _ _ (checked _ _ _ (entry .pre))
 
 region-of-requires : tie.Need-region-of-requires
 region-of-requires c κs =
-    let start = c .before .before .before .before .before .before .before .before .before .before in
-    let look = lookup-entry _ _ _ (start .pre) _ (c .cluster-of .ensures) in
+    let entry = c .before .before .before .before .before .before .before .before .before .before in
+    let look = lookup-entry _ _ _ (checked _ _ _ (entry .pre)) _ (c .cluster-of .ensures) in
     (look .fine, look .low)
-
-find-frame-requires : tie.Need-find-frame-requires
-find-frame-requires c κs =
-    let at-cluster-of = c .before .before .before .before in
-    let start = at-cluster-of .before .before .before .before .before .before .before .before .before .before in
-    lookup-entry _ _ _ (start .pre) _ (at-cluster-of .cluster-of .ensures)
 
 plan-of-requires : tie.Need-plan-of-requires
 plan-of-requires c κs =
+    let at-region-of = c .before .before .before .before in
+    let entry = at-region-of .before .before .before .before .before .before .before .before .before .before .before in
+    let region = at-region-of .region-of .ensures ∙ ap (regionOf (entry .args .p)) (at-region-of .before .cluster-of .ensures) in
+    (plan-asked _ _ _ (checked _ _ _ (entry .pre)) _ region, marks-full _ _ _ (checked _ _ _ (entry .pre)))
+
+plan-block-requires : tie.Need-plan-block-requires
+plan-block-requires c κs =
     let at-region-of = c .before .before .before .before .before .before .before .before in
-    let at-cluster-of = at-region-of .before in
-    let entry = at-cluster-of .before .before .before .before .before .before .before .before .before .before in
-    (plan-asked _ _ _ (entry .pre) _ (at-region-of .region-of .ensures ∙ ap (regionOf (entry .args .p)) (at-cluster-of .cluster-of .ensures)), marks-full _ _ _ (entry .pre))
+    let entry = at-region-of .before .before .before .before .before .before .before .before .before .before .before in
+    let region = at-region-of .region-of .ensures ∙ ap (regionOf (entry .args .p)) (at-region-of .before .cluster-of .ensures) in
+    let checks = checked _ _ _ (entry .pre) in
+    block-asked _ _ _ checks _ region _ (plan-is _ _ _ checks _ region _ (c .before .before .before .plan-of .ensures))
 
-make-room-requires : tie.Need-make-room-requires
-make-room-requires c κs =
-    let d = c .before .before .before .before .before .before in
-    let entry = d .before .before .before .before .before .before .before .before .before .before .before .before .before .before .before .before .before .before .before .before in
-    let cluster = d .before .before .before .before .before .before .before .before .before .before .cluster-of .ensures in
-    let region = d .before .before .before .before .before .before .before .before .before .region-of .ensures ∙ ap (regionOf (entry .args .p)) cluster in
-    let plan = plan-is _ _ _ (entry .pre) _ region _ (d .plan-of .ensures) in
-    room-asked _ _ _ (entry .pre) _ region _ plan
-
-find-again-requires : tie.Need-find-again-requires
-find-again-requires c κs =
-    let at-make-room = c .before .before .before .before .before .before .before .before .before .before .before .before .before in
-    let d = at-make-room .before .before .before .before .before .before .before in
-    let entry = d .before .before .before .before .before .before .before .before .before .before .before .before .before .before .before .before .before .before .before .before in
-    let cluster = d .before .before .before .before .before .before .before .before .before .before .cluster-of .ensures in
-    let region = d .before .before .before .before .before .before .before .before .before .region-of .ensures ∙ ap (regionOf (entry .args .p)) cluster in
-    let plan = plan-is _ _ _ (entry .pre) _ region _ (d .plan-of .ensures) in
-    let room = at-make-room .make-room .ensures in
-    let found = d .before .before .before .before .before .find-frame .ensures in (
-      lookup-made _ _ _ (entry .pre) _ region _ plan _ _ _ _ _ _ _ _ _ room _ cluster,
-      (
-        λ still. stays _ _ _ (entry .pre) _ region _ plan _ _ _ _ _ _ _ _ _ room _ cluster still _ _ (found .0),
-        λ still. stays-within _ _ _ (entry .pre) _ region _ plan _ _ _ _ _ _ _ _ _ room _ cluster still _ _ _ _ (found .0) (found .1 .0),
-      ),
-    )
-
-put-cluster-requires : tie.Need-put-cluster-requires
-put-cluster-requires c κs =
-    let at-find-again = c .before .before .before .before .before in
-    let at-make-room = at-find-again .before .before .before .before .before .before .before .before .before .before .before .before .before .before in
-    let d = at-make-room .before .before .before .before .before .before .before in
-    let entry = d .before .before .before .before .before .before .before .before .before .before .before .before .before .before .before .before .before .before .before .before in
-    let cluster = d .before .before .before .before .before .before .before .before .before .before .cluster-of .ensures in
-    let region = d .before .before .before .before .before .before .before .before .before .region-of .ensures ∙ ap (regionOf (entry .args .p)) cluster in
-    let plan = plan-is _ _ _ (entry .pre) _ region _ (d .plan-of .ensures) in
-    let room = at-make-room .make-room .ensures in
-    (standing _ _ _ (entry .pre) _ region _ plan _ _ _ _ _ _ _ _ _ room, rw cluster at (at-find-again .find-again .ensures .0))
-
-keep-marks-requires : tie.Need-keep-marks-requires
-keep-marks-requires c κs =
-    let at-find-again = c .before .before .before .before .before .before .before .before .before .before .before .before .before .before .before in
-    let at-make-room = at-find-again .before .before .before .before .before .before .before .before .before .before .before .before .before .before in
-    let d = at-make-room .before .before .before .before .before .before .before in
-    let entry = d .before .before .before .before .before .before .before .before .before .before .before .before .before .before .before .before .before .before .before .before in
-    let cluster = d .before .before .before .before .before .before .before .before .before .before .cluster-of .ensures in
-    let region = d .before .before .before .before .before .before .before .before .before .region-of .ensures ∙ ap (regionOf (entry .args .p)) cluster in
-    let plan = plan-is _ _ _ (entry .pre) _ region _ (d .plan-of .ensures) in
-    let room = at-make-room .make-room .ensures in
-    let old = at-find-again .find-again .ensures in (
-      mark-asked _ _ _ (entry .pre) _ region _ plan _ _ _ _ _ _ _ _ _ room,
-      old-asked _ _ _ (entry .pre) _ region _ plan _ _ _ _ _ _ _ _ _ room _ _ cluster _ _ _ (old .0) (old .1),
-    )
-
-answered-requires : tie.Need-answered-requires
-answered-requires c κs =
-    let at-make-room = c .before .before .before .before .before .before .before .before .before .before .before .before .before .before .before .before .before .before .before .before .before .before .before .before .before .before .before .before .before .before .before .before in
-    let d = at-make-room .before .before .before .before .before .before .before in
-    let entry = d .before .before .before .before .before .before .before .before .before .before .before .before .before .before .before .before .before .before .before .before in
-    let cluster = d .before .before .before .before .before .before .before .before .before .before .cluster-of .ensures in
-    let region = d .before .before .before .before .before .before .before .before .before .region-of .ensures ∙ ap (regionOf (entry .args .p)) cluster in
-    let plan = plan-is _ _ _ (entry .pre) _ region _ (d .plan-of .ensures) in
-    let room = at-make-room .make-room .ensures in
-    (alpha-few _ _ _ (entry .pre), copied-few _ _ _ (entry .pre) _ region _ plan _ _ _ _ _ _ _ _ _ room)
-
--- each lent slice comes back as long as it was
+no-block-left-requires : tie.Need-no-block-left-requires
+no-block-left-requires c κs = search needs
 
 same-length : tie.Need-same-length
-same-length c =
-    let at-chip2 = c .before .before .before .before .before .before .before .before .before .before .before .before in
-    let at-chip = at-chip2 .before .before .before .before .before .before .before .before .before .before .before .before .before .before .before .before .before .before .before .before in
-    at-chip2 .chip2 .given ∙ at-chip .chip .given
+same-length c = search needs
 
 same-length-2 : tie.Need-same-length-2
-same-length-2 c =
-    let at-ct2 = c .before .before .before .before .before .before .before .before .before .before in
-    let at-ct = at-ct2 .before .before .before .before .before .before .before .before .before .before .before .before .before .before .before .before .before .before .before .before in
-    at-ct2 .ct2 .given ∙ at-ct .ct .given
+same-length-2 c = search needs
 
 same-length-3 : tie.Need-same-length-3
-same-length-3 c =
-    let at-bt = c .before .before .before .before .before .before .before .before .before .before .before .before .before .before .before .before .before .before .before .before .before .before .before .before .before .before .before .before in
-    at-bt .bt .given
+same-length-3 c = search needs
 
 same-length-4 : tie.Need-same-length-4
-same-length-4 c =
-    let at-fst = c .before .before .before .before .before .before .before .before in
-    at-fst .fst .given
+same-length-4 c = search needs
 
 same-length-5 : tie.Need-same-length-5
-same-length-5 c =
-    let at-bst = c .before .before .before .before .before .before .before .before .before .before .before .before .before .before .before .before .before .before .before .before .before .before .before .before .before .before in
-    at-bst .bst .given
+same-length-5 c = search needs
 
 same-length-6 : tie.Need-same-length-6
-same-length-6 c =
-    let at-wear = c .before .before .before .before .before .before .before .before .before .before .before .before .before .before .before .before .before .before .before .before .before .before .before .before in
-    at-wear .wear .given
-
-same-length-7 : tie.Need-same-length-7
-same-length-7 c = c .before .before .marks .given
-
-same-length-8 : tie.Need-same-length-8
-same-length-8 c =
-    let at-stamps = c .before .before .before .before .before .before in
-    at-stamps .stamps .given
+same-length-6 c = search needs
 
 returns : tie.Need-returns
 returns c =
-    let at-keep-marks = c .before .before .before in
-    let at-put-cluster = at-keep-marks .before .before .before .before .before .before .before .before .before .before in
-    let at-find-again = at-put-cluster .before .before .before .before .before .before in
-    let at-make-room = at-find-again .before .before .before .before .before .before .before .before .before .before .before .before .before .before in
-    let d = at-make-room .before .before .before .before .before .before .before in
-    let entry = d .before .before .before .before .before .before .before .before .before .before .before .before .before .before .before .before .before .before .before .before in
-    let cluster = d .before .before .before .before .before .before .before .before .before .before .cluster-of .ensures in
-    let region = d .before .before .before .before .before .before .before .before .before .region-of .ensures ∙ ap (regionOf (entry .args .p)) cluster in
-    let plan = plan-is _ _ _ (entry .pre) _ region _ (d .plan-of .ensures) in
-    let room = at-make-room .make-room .ensures in
-    let found = d .before .before .before .before .before .find-frame .ensures in
-    let old = at-find-again .find-again .ensures in
-    gives _ _ _ (entry .pre) _ region _ plan _ _ _ _ _ _ _ _ _ room _ _ cluster _ _ _ (old .0) (old .1) _ (found .1 .1) _ _ _ _ _ _
-    (at-put-cluster .put-cluster .ensures) (at-keep-marks .keep-marks .ensures) (c .answered .ensures)
+    let at-plan-block = c .before .before .before in
+    let at-region-of = at-plan-block .before .before .before .before .before .before .before .before .before in
+    let entry = at-region-of .before .before .before .before .before .before .before .before .before .before .before in
+    let region = at-region-of .region-of .ensures ∙ ap (regionOf (entry .args .p)) (at-region-of .before .cluster-of .ensures) in
+    let checks = checked _ _ _ (entry .pre) in
+    let plan = plan-is _ _ _ checks _ region _ (at-plan-block .before .before .before .before .plan-of .ensures) in
+    left-alone _ _ _ (entry .pre) (none-left _ _ _ checks _ region _ plan _ (at-plan-block .plan-block .ensures _ _ _ _ _) (c .before .if1 .taken)) _ (c .no-block-left .ensures)
+
+write-planned-requires : tie.Need-write-planned-requires
+write-planned-requires c κs =
+    let at-plan-block = c .before .before .before .before .before .before .before .before .before .before in
+    let at-region-of = at-plan-block .before .before .before .before .before .before .before .before .before in
+    let entry = at-region-of .before .before .before .before .before .before .before .before .before .before .before in
+    let region = at-region-of .region-of .ensures ∙ ap (regionOf (entry .args .p)) (at-region-of .before .cluster-of .ensures) in
+    let checks = checked _ _ _ (entry .pre) in
+    let plan = plan-is _ _ _ checks _ region _ (at-plan-block .before .before .before .before .plan-of .ensures) in
+    let block = at-plan-block .plan-block .ensures _ _ _ _ _ in
+    record {
+      accepted = accepted _ _ _ (entry .pre) (one-left _ _ _ checks _ region _ plan _ block (c .before .before .before .before .before .before .before .before .if1 .left));
+      region = region;
+      plan = plan;
+      block = block-is _ _ _ checks _ region _ plan _ block;
+    }
+
+same-length-7 : tie.Need-same-length-7
+same-length-7 c = search needs
+
+same-length-8 : tie.Need-same-length-8
+same-length-8 c = search needs
+
+same-length-9 : tie.Need-same-length-9
+same-length-9 c = search needs
+
+same-length-10 : tie.Need-same-length-10
+same-length-10 c = search needs
+
+same-length-11 : tie.Need-same-length-11
+same-length-11 c = search needs
+
+same-length-12 : tie.Need-same-length-12
+same-length-12 c = search needs
+
+same-length-13 : tie.Need-same-length-13
+same-length-13 c = search needs
+
+same-length-14 : tie.Need-same-length-14
+same-length-14 c = search needs
+
+returns-2 : tie.Need-returns-2
+returns-2 c = c .before .before .before .before .before .before .before .before .before .before .before .before .before .before .before .before .write-planned .ensures
 
 pub write-orderly-spec : {M : Type 1} → statement M
 write-orderly-spec =
-    tie.close (tie.spec cluster-of-requires region-of-requires find-frame-requires plan-of-requires make-room-requires find-again-requires put-cluster-requires keep-marks-requires answered-requires same-length same-length-2 same-length-3 same-length-4 same-length-5 same-length-6 same-length-7 same-length-8 returns)
+    tie.close
+    (tie.spec
+    cluster-of-requires
+    region-of-requires
+    plan-of-requires
+    plan-block-requires
+    no-block-left-requires
+    same-length
+    same-length-2
+    same-length-3
+    same-length-4
+    same-length-5
+    same-length-6
+    returns
+    write-planned-requires
+    same-length-7
+    same-length-8
+    same-length-9
+    same-length-10
+    same-length-11
+    same-length-12
+    same-length-13
+    same-length-14
+    returns-2)
