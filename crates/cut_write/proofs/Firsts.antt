@@ -14,7 +14,7 @@ use Rattle.rules.specs.Pages.{block}
 use Rattle.rules.specs.Marks.{Marks, marksOf, marksOn, tableOf}
 use Rattle.rules.specs.Regions.{view}
 use Rattle.rules.specs.Traces.{Op, frameOps, framesOps, replayChip, replayWear}
-use Rattle.rules.specs.Write.{Plan, continues, opens, reclaims, copies, eraseOps, freeBlock, newFrame, nextStamp, planBlock, planFrame, planOf, planOps, planVBlock, roomOps, writeOps}
+use Rattle.rules.specs.Write.{Plan, continues, opens, reclaims, copies, eraseOps, newFrame, nextStamp, planBlock, planFrame, planOf, planOps, planVBlock, roomOps, writeOps}
 use Rattle.rules.specs.Requests.{Request, requestRegion}
 use Rattle.starts.proofs.Prefixes.{frame-length, take-frame}
 use Rattle.write_reclaim.specs.Moves.{markedFrames}
@@ -90,11 +90,11 @@ module _ (p : Params) (b : Board) (r : ℕ) where
   none-first-opens v k h = absurd (omega (arith, none-opens p b r v))
 
 -- the copies of the marked frames are those of the plan
-pub copies-first : (p : Params) (chip ct bt fst bst wear marks stamps : List ℕ) (r v : ℕ) → CopiesReady p chip bt bst wear marks r v → (o n : ℕ) → o ≡ btAt p bt r v → n ≡ freeBlock p bst wear
-    → (k : ℕ) → marks ≡ marksOf p (boardOf chip ct bt fst bst wear marks stamps) → k < length (roomOps p (boardOf chip ct bt fst bst wear marks stamps) r (reclaims v)) → (chip₁ : List ℕ)
+pub copies-first : (p : Params) (chip ct bt fst bst wear marks stamps : List ℕ) (r v n : ℕ) → CopiesReady p chip bt marks r v n → (o : ℕ) → o ≡ btAt p bt r v
+    → n ≡ planBlock p (boardOf chip ct bt fst bst wear marks stamps) r (reclaims v) → (k : ℕ) → marks ≡ marksOf p (boardOf chip ct bt fst bst wear marks stamps) → k < length (roomOps p (boardOf chip ct bt fst bst wear marks stamps) r (reclaims v)) → (chip₁ : List ℕ)
     → ((m : Marks) → marks ≡ tableOf p m → chip₁ ≡ replayChip p chip (take k (framesOps p n 0 (markedFrames p (block p chip o) (m r v)))))
     → chip₁ ≡ replayChip p chip (take k (roomOps p (boardOf chip ct bt fst bst wear marks stamps) r (reclaims v)))
-copies-first p chip ct bt fst bst wear marks stamps r v a o n eo en k e h chip₁ is =
+copies-first p chip ct bt fst bst wear marks stamps r v n a o eo en k e h chip₁ is =
     let b : Board = boardOf chip ct bt fst bst wear marks stamps in
     is (marksOn p b) e
-    ∙ rw (eo, en, copies-are p (a .words .fine) b r v (a .taking .low) (a .between .from), room-first p b r v k h) (unfold planBlock in refl)
+    ∙ rw (eo, en, copies-are p (a .words .fine) b r v (a .words .vblock) (a .between .from), room-first p b r v k h)

@@ -10,15 +10,17 @@ ghost use Rattle.rules.specs.Tables.{Board, boardOf};
 ghost use Rattle.rules.specs.Lent.{entryBoard, exitBoard};
 ghost use Rattle.rules.specs.Traces.{replayChip};
 ghost use Rattle.rules.specs.Marks.{marksOf};
-ghost use Rattle.rules.specs.Write.{roomOps, writeOps};
+ghost use Rattle.rules.specs.Write.{planBlock, roomOps, writeOps};
 ghost use Rattle.rules.specs.Requests.{write, requestOf};
-ghost use Rattle.rules.specs.Replies.{replyOf};
-ghost use Rattle.rules.specs.Calls.{answerOf};
+ghost use Rattle.rules.specs.Replies.{earlyRows, firstRow};
+ghost use Rattle.rules.specs.Calls.{answerOf, opsOf, workOf};
 ghost use Rattle.rules.specs.Cuts.{cutBoard, limited, stepOutcome};
 ghost use Rattle.outcomes.specs.Claims.{outcome};
 ghost use Rattle.write_plan.specs.Plans.{planIs};
+ghost use Rattle.write_work.specs.Asked.{PlanMade};
 ghost use Rattle.cut_write.specs.Cut.{CountAsked, CopiesAsked, CutAsked};
 use rules::Answer;
+use rules::PBlock;
 use rules::Params;
 use rules::Reply;
 use write_plan::Planned;
@@ -67,25 +69,24 @@ fn cut_room(
     p: Params,
     chip: &mut [u8],
     bt: &[u16],
-    bst: &[u8],
-    wear: &[u32],
     marks: &[u64],
     r: usize,
     pl: Planned,
+    n: PBlock,
     k: usize,
 )
-    requires { ⌜ CopiesAsked p (now chip) (now bt) (now bst) (now wear) (now marks) r (planIs pl) ⌝ }
-    ensures { λ _. ⌜ ((ct fst stamps : List ℕ) → now (marks .entry) ≡ marksOf p (boardOf (now (chip .entry)) ct (now (bt .entry)) fst (now (bst .entry)) (now (wear .entry)) (now (marks .entry)) stamps)
-        → k < length (roomOps p (boardOf (now (chip .entry)) ct (now (bt .entry)) fst (now (bst .entry)) (now (wear .entry)) (now (marks .entry)) stamps) r (planIs pl))
+    requires { ⌜ CopiesAsked p (now chip) (now bt) (now marks) r (planIs pl) (n .0) ⌝ }
+    ensures { λ _. ⌜ ((ct fst bst wear stamps : List ℕ) → now (marks .entry) ≡ marksOf p (boardOf (now (chip .entry)) ct (now (bt .entry)) fst bst wear (now (marks .entry)) stamps)
+        → n .0 ≡ planBlock p (boardOf (now (chip .entry)) ct (now (bt .entry)) fst bst wear (now (marks .entry)) stamps) r (planIs pl)
+        → k < length (roomOps p (boardOf (now (chip .entry)) ct (now (bt .entry)) fst bst wear (now (marks .entry)) stamps) r (planIs pl))
         → now (chip .exit) ≡ replayChip p (now (chip .entry))
-        (take k (roomOps p (boardOf (now (chip .entry)) ct (now (bt .entry)) fst (now (bst .entry)) (now (wear .entry)) (now (marks .entry)) stamps) r (planIs pl)))) ⌝ }
+        (take k (roomOps p (boardOf (now (chip .entry)) ct (now (bt .entry)) fst bst wear (now (marks .entry)) stamps) r (planIs pl)))) ⌝ }
 {
     match pl {
         Planned::Continues(_, _) => {}
         Planned::Opens(_) => {}
         Planned::Reclaims(v) => {
             let o = chip_tables::bt_at(p, bt, r, v);
-            let n = write_choose::free_block(p, bst, wear);
             cut_copies::copy_first(p, chip, marks, o, n, r, v, k);
         }
     }
@@ -108,21 +109,22 @@ fn cut(
     bytes: &[u8],
     r: usize,
     pl: Planned,
+    n: PBlock,
     room: usize,
     k: usize,
 ) -> Limited
-    requires { ⌜ CutAsked p (boardOf (now chip) (now ct) (now bt) (now fst) (now bst) (now wear) (now marks) (now stamps)) (requestOf lba count (now bytes)) r (planIs pl) room k ⌝ }
+    requires { ⌜ CutAsked p (boardOf (now chip) (now ct) (now bt) (now fst) (now bst) (now wear) (now marks) (now stamps)) (requestOf lba count (now bytes)) r (planIs pl) (n .0) room k ⌝ }
     ensures { λ l. ⌜ l .answer ≡ answerOf Reply.Accepted [] 0 ⌝ }
     ensures { λ l. ⌜ l .left ≡ 0 ⌝ }
     ensures { λ _. ⌜ exitBoard chip ct bt fst bst wear marks stamps ≡ cutBoard p (entryBoard chip ct bt fst bst wear marks stamps)
         (take k (writeOps p (entryBoard chip ct bt fst bst wear marks stamps) (requestOf lba count (now (bytes .entry))))) ⌝ }
 {
     if k < room {
-        cut_room(p, chip, bt, bst, wear, marks, r, pl, k);
+        cut_room(p, chip, bt, marks, r, pl, n, k);
         chip_lost::lose(ct, bt, fst, bst, marks, stamps);
         return spent();
     }
-    let made = write_room::make_room(p, chip, ct, bt, bst, wear, marks, r, pl);
+    let made = write_room::make_room(p, chip, ct, bt, bst, wear, marks, r, pl, n);
     let c = rules::cluster_of(p, lba);
     let old = read_work::find_frame(p, chip, ct, bt, c);
     let v = made.vblock;
@@ -146,9 +148,9 @@ fn cut(
     spent()
 }
 
-// The work of a write with a budget, once it has passed its checks:
+// The work of an accepted write with a budget, whose plan writes block n:
 // the plain write where the budget has more than its operations, and else cut.
-pub fn write_limited(
+fn limit_planned(
     p: Params,
     chip: &mut [u8],
     ct: &mut [u16],
@@ -162,18 +164,19 @@ pub fn write_limited(
     count: usize,
     bytes: &[u8],
     budget: u64,
+    r: usize,
+    pl: Planned,
+    n: PBlock,
 ) -> Limited
-    requires { ⌜ replyOf p (boardOf (now chip) (now ct) (now bt) (now fst) (now bst) (now wear) (now marks) (now stamps)) (write (requestOf lba count (now bytes))) ≡ Reply.Accepted ⌝ }
+    requires { ⌜ PlanMade p (boardOf (now chip) (now ct) (now bt) (now fst) (now bst) (now wear) (now marks) (now stamps)) (requestOf lba count (now bytes)) r (planIs pl) (n .0) ⌝ }
     ensures { λ l. ⌜ outcome (l .answer) (now (bytes .entry)) [] (exitBoard chip ct bt fst bst wear marks stamps) ≡ stepOutcome p (entryBoard chip ct bt fst bst wear marks stamps)
         (limited budget (write (requestOf lba count (now (bytes .entry))))) ⌝ }
-    ensures { λ l. ⌜ l .left ≡ budget - length (writeOps p (entryBoard chip ct bt fst bst wear marks stamps) (requestOf lba count (now (bytes .entry)))) ⌝ }
+    ensures { λ l. ⌜ l .left ≡ budget - length (opsOf ((workOf p (entryBoard chip ct bt fst bst wear marks stamps) (write (requestOf lba count (now (bytes .entry))))) .parts)) ⌝ }
 {
-    let r = rules::region_of(p, rules::cluster_of(p, lba));
-    let pl = write_plan::plan_of(p, chip, bt, fst, marks, r);
     let room = room_ops(p, marks, r, pl);
     let ops = (room + p.alpha) as u64;
     if budget > ops {
-        let answer = write_work::write_orderly(
+        let answer = write_work::write_planned(
             p,
             chip,
             ct,
@@ -186,6 +189,9 @@ pub fn write_limited(
             lba,
             count,
             bytes,
+            r,
+            pl,
+            n,
         );
         let left = budget - ops;
         return Limited { answer, left };
@@ -205,7 +211,59 @@ pub fn write_limited(
         bytes,
         r,
         pl,
+        n,
         room,
         budget as usize,
+    )
+}
+
+// The work of a write with a budget that no row before the last refuses.
+// Where its plan needs a free block and there is none, it is refused, nothing changes, and the whole budget is left.
+pub fn write_limited(
+    p: Params,
+    chip: &mut [u8],
+    ct: &mut [u16],
+    bt: &mut [u16],
+    fst: &mut [u16],
+    bst: &mut [u8],
+    wear: &mut [u32],
+    marks: &mut [u64],
+    stamps: &mut [u32],
+    lba: usize,
+    count: usize,
+    bytes: &[u8],
+    budget: u64,
+) -> Limited
+    requires { ⌜ firstRow Reply.Accepted (earlyRows p (boardOf (now chip) (now ct) (now bt) (now fst) (now bst) (now wear) (now marks) (now stamps)) (requestOf lba count (now bytes))) ≡ Reply.Accepted ⌝ }
+    ensures { λ l. ⌜ outcome (l .answer) (now (bytes .entry)) [] (exitBoard chip ct bt fst bst wear marks stamps) ≡ stepOutcome p (entryBoard chip ct bt fst bst wear marks stamps)
+        (limited budget (write (requestOf lba count (now (bytes .entry))))) ⌝ }
+    ensures { λ l. ⌜ l .left ≡ budget - length (opsOf ((workOf p (entryBoard chip ct bt fst bst wear marks stamps) (write (requestOf lba count (now (bytes .entry))))) .parts)) ⌝ }
+{
+    let r = rules::region_of(p, rules::cluster_of(p, lba));
+    let pl = write_plan::plan_of(p, chip, bt, fst, marks, r);
+    let n = write_room::plan_block(p, bt, bst, wear, r, pl);
+    if n.0 == rules::NOT_FOUND {
+        return Limited {
+            answer: write_work::no_block_left(),
+            left: budget,
+        };
+    }
+    limit_planned(
+        p,
+        chip,
+        ct,
+        bt,
+        fst,
+        bst,
+        wear,
+        marks,
+        stamps,
+        lba,
+        count,
+        bytes,
+        budget,
+        r,
+        pl,
+        n,
     )
 }

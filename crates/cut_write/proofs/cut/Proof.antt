@@ -10,7 +10,7 @@ use Rattle.cut_write.proofs.cut.Statement.{statement}
 use Rattle.cut_write.proofs.cut.Tie as tie
 
 cut-room-requires : tie.Need-cut-room-requires
-cut-room-requires c κs = copies-asked _ _ _ _ _ _ _ (c .before .before .before .before .before .before .before .before .before .before .before .before .before .before .before .pre)
+cut-room-requires c κs = copies-asked _ _ _ _ _ _ _ _ (c .before .before .before .before .before .before .before .before .before .before .before .before .before .pre)
 
 lose-requires : tie.Need-lose-requires
 lose-requires c κs = search needs
@@ -39,26 +39,23 @@ same-length-6 c = search needs
 same-length-7 : tie.Need-same-length-7
 same-length-7 c = search needs
 
-same-length-8 : tie.Need-same-length-8
-same-length-8 c = search needs
-
 returns : tie.Need-returns
 returns c =
     let at-lose = c .before .before .before .before .before .before .before .before .before .before .before .before .before in
     let at-cut-room = at-lose .before .before .before .before .before .before .before .before .before in
-    let at-if1 = at-cut-room .before .before .before .before .before .before in
+    let at-if1 = at-cut-room .before .before .before .before in
     let start = at-if1 .before .before .before .before .before .before .before .before .before .before in
-    (c .spent .ensures .0, (c .spent .ensures .1, lost-room _ _ _ _ _ _ _ (start .pre) _ _ _ _ _ _ _ _ _ _ _ _ _ _ (at-lose .lose .ensures) refl refl refl refl refl refl (at-if1 .if1 .taken) refl (at-cut-room .cut-room .ensures)))
+    (c .spent .ensures .0, (c .spent .ensures .1, lost-room _ _ _ _ _ _ _ _ (start .pre) _ _ _ _ _ _ _ _ _ _ _ _ _ _ (at-lose .lose .ensures) refl refl refl refl refl refl (at-if1 .if1 .taken) refl (at-cut-room .cut-room .ensures)))
 
 make-room-requires : tie.Need-make-room-requires
-make-room-requires c κs = room-asked _ _ _ _ _ _ _ (c .before .before .before .before .before .before .before .before .before .before .before .before .before .before .before .before .pre)
+make-room-requires c κs = room-asked _ _ _ _ _ _ _ _ (c .before .before .before .before .before .before .before .before .before .before .before .before .before .before .before .before .pre)
 
 cluster-of-requires : tie.Need-cluster-of-requires
-cluster-of-requires c κs = sectors _ _ _ _ _ _ _ (c .before .before .before .before .before .before .before .before .before .before .before .before .before .before .before .before .before .before .before .before .before .before .before .before .before .before .before .pre)
+cluster-of-requires c κs = sectors _ _ _ _ _ _ _ _ (c .before .before .before .before .before .before .before .before .before .before .before .before .before .before .before .before .before .before .before .before .before .before .before .before .before .before .before .pre)
 
 find-frame-requires : tie.Need-find-frame-requires
 find-frame-requires c κs =
-    lookup-asked _ _ _ _ _ _ _ (c .before .before .before .before .before .before .before .before .before .before .before .before .before .before .before .before .before .before .before .before .before .before .before .before .before .before .before .before .before .before .before .pre) _ _ _ _ _ _ _ _ _ (c .before .before .before .before .before .before .before .before .before .before .before .before .before .before .make-room .ensures) _ (c .before .before .before .cluster-of .ensures)
+    lookup-asked _ _ _ _ _ _ _ _ (c .before .before .before .before .before .before .before .before .before .before .before .before .before .before .before .before .before .before .before .before .before .before .before .before .before .before .before .before .before .before .before .pre) _ _ _ _ _ _ _ _ _ (c .before .before .before .before .before .before .before .before .before .before .before .before .before .before .make-room .ensures) _ (c .before .before .before .cluster-of .ensures)
 
 put-pages-requires : tie.Need-put-pages-requires
 put-pages-requires c κs =
@@ -67,10 +64,10 @@ put-pages-requires c κs =
     let same = at-cluster-of .cluster-of .ensures in (
       same,
       (
-        start .pre .region ∙ sym (ap (regionOf (start .args .p)) same),
+        start .pre .made .region ∙ sym (ap (regionOf (start .args .p)) same),
         (
-          put-asked _ _ _ _ _ _ _ (start .pre) _ _ _ _ _ _ _ _ _ (c .before .before .before .before .before .before .before .before .before .before .before .before .before .before .before .before .before .before .before .make-room .ensures) _ _ (rw same at (c .before .before .before .before .find-frame .ensures .0)),
-          pages-few _ _ _ _ _ _ _ (start .pre),
+          put-asked _ _ _ _ _ _ _ _ (start .pre) _ _ _ _ _ _ _ _ _ (c .before .before .before .before .before .before .before .before .before .before .before .before .before .before .before .before .before .before .before .make-room .ensures) _ _ (rw same at (c .before .before .before .before .find-frame .ensures .0)),
+          pages-few _ _ _ _ _ _ _ _ (start .pre),
         ),
       ),
     )
@@ -81,29 +78,29 @@ lose-requires-2 c κs = search needs
 spent-requires-2 : tie.Need-spent-requires-2
 spent-requires-2 c κs = search needs
 
+same-length-8 : tie.Need-same-length-8
+same-length-8 c = c .before .before .before .before .before .before .before .before .before .before .before .before .before .before .before .before .before .before .before .before .before .before .before .chip3 .given ∙ c .before .before .before .before .before .before .before .before .before .before .before .before .before .before .before .before .before .before .before .before .before .before .before .before .before .before .before .before .before .before .before .before .before .before .before .before .before .before .before .before .before .before .before .chip2 .given
+
 same-length-9 : tie.Need-same-length-9
-same-length-9 c = c .before .before .before .before .before .before .before .before .before .before .before .before .before .before .before .before .before .before .before .before .before .before .before .chip3 .given ∙ c .before .before .before .before .before .before .before .before .before .before .before .before .before .before .before .before .before .before .before .before .before .before .before .before .before .before .before .before .before .before .before .before .before .before .before .before .before .before .before .before .before .before .before .chip2 .given
+same-length-9 c = c .before .before .before .before .before .before .before .before .before .before .before .before .ct3 .given ∙ c .before .before .before .before .before .before .before .before .before .before .before .before .before .before .before .before .before .before .before .before .before .before .before .before .before .before .before .before .before .before .before .before .before .before .before .before .before .before .before .before .before .ct2 .given
 
 same-length-10 : tie.Need-same-length-10
-same-length-10 c = c .before .before .before .before .before .before .before .before .before .before .before .before .ct3 .given ∙ c .before .before .before .before .before .before .before .before .before .before .before .before .before .before .before .before .before .before .before .before .before .before .before .before .before .before .before .before .before .before .before .before .before .before .before .before .before .before .before .before .before .ct2 .given
+same-length-10 c = c .before .before .before .before .before .before .before .before .before .before .bt3 .given ∙ c .before .before .before .before .before .before .before .before .before .before .before .before .before .before .before .before .before .before .before .before .before .before .before .before .before .before .before .before .before .before .before .before .before .before .before .before .before .before .before .bt2 .given
 
 same-length-11 : tie.Need-same-length-11
-same-length-11 c = c .before .before .before .before .before .before .before .before .before .before .bt3 .given ∙ c .before .before .before .before .before .before .before .before .before .before .before .before .before .before .before .before .before .before .before .before .before .before .before .before .before .before .before .before .before .before .before .before .before .before .before .before .before .before .before .bt2 .given
+same-length-11 c = search needs
 
 same-length-12 : tie.Need-same-length-12
-same-length-12 c = search needs
+same-length-12 c = c .before .before .before .before .before .before .bst3 .given ∙ c .before .before .before .before .before .before .before .before .before .before .before .before .before .before .before .before .before .before .before .before .before .before .before .before .before .before .before .before .before .before .before .before .before .before .before .before .before .bst2 .given
 
 same-length-13 : tie.Need-same-length-13
-same-length-13 c = c .before .before .before .before .before .before .bst3 .given ∙ c .before .before .before .before .before .before .before .before .before .before .before .before .before .before .before .before .before .before .before .before .before .before .before .before .before .before .before .before .before .before .before .before .before .before .before .before .before .bst2 .given
+same-length-13 c = c .before .before .before .before .before .before .before .before .before .before .before .before .before .before .before .before .before .before .before .before .before .before .before .before .before .before .before .before .before .before .before .before .before .before .before .wear .given
 
 same-length-14 : tie.Need-same-length-14
-same-length-14 c = c .before .before .before .before .before .before .before .before .before .before .before .before .before .before .before .before .before .before .before .before .before .before .before .before .before .before .before .before .before .before .before .before .before .before .before .wear .given
+same-length-14 c = search needs
 
 same-length-15 : tie.Need-same-length-15
 same-length-15 c = search needs
-
-same-length-16 : tie.Need-same-length-16
-same-length-16 c = search needs
 
 returns-2 : tie.Need-returns-2
 returns-2 c =
@@ -117,7 +114,7 @@ returns-2 c =
       c .spent2 .ensures .0,
       (
         c .spent2 .ensures .1,
-        lost-pages _ _ _ _ _ _ _ (start .pre) _ _ _ _ _ _ _ _ _ _ _ _ _ _ (at-lose .lose2 .ensures) (c .before .before .before .before .before .before .before .before .before .before .before .before .before .before .before .before .before .before .before .before .before .before .before .before .before .before .before .before .before .before .before .before .before .before .before .before .before .before .before .before .before .ct2 .given) (c .before .before .before .before .before .before .before .before .before .before .before .before .before .before .before .before .before .before .before .before .before .before .before .before .before .before .before .before .before .before .before .before .before .before .before .before .before .before .before .bt2 .given) refl (c .before .before .before .before .before .before .before .before .before .before .before .before .before .before .before .before .before .before .before .before .before .before .before .before .before .before .before .before .before .before .before .before .before .before .before .before .before .bst2 .given) refl
+        lost-pages _ _ _ _ _ _ _ _ (start .pre) _ _ _ _ _ _ _ _ _ _ _ _ _ _ (at-lose .lose2 .ensures) (c .before .before .before .before .before .before .before .before .before .before .before .before .before .before .before .before .before .before .before .before .before .before .before .before .before .before .before .before .before .before .before .before .before .before .before .before .before .before .before .before .before .ct2 .given) (c .before .before .before .before .before .before .before .before .before .before .before .before .before .before .before .before .before .before .before .before .before .before .before .before .before .before .before .before .before .before .before .before .before .before .before .before .before .before .before .bt2 .given) refl (c .before .before .before .before .before .before .before .before .before .before .before .before .before .before .before .before .before .before .before .before .before .before .before .before .before .before .before .before .before .before .before .before .before .before .before .before .before .bst2 .given) refl
             (c .before .before .before .before .before .before .before .before .before .before .before .before .before .before .before .before .before .before .before .before .before .stamps2 .given) (omega (arith, at-if1 .if1 .left)) _ _ _ _ _ _ _ _ _ (at-make-room .make-room .ensures) _ _ (rw (at-cluster-of .cluster-of .ensures) at (at-find-frame .find-frame .ensures .0))
             (at-put-pages .put-pages .ensures),
       ),
@@ -137,7 +134,6 @@ cut-spec =
     same-length-5
     same-length-6
     same-length-7
-    same-length-8
     returns
     make-room-requires
     cluster-of-requires
@@ -145,6 +141,7 @@ cut-spec =
     put-pages-requires
     lose-requires-2
     spent-requires-2
+    same-length-8
     same-length-9
     same-length-10
     same-length-11
@@ -152,5 +149,4 @@ cut-spec =
     same-length-13
     same-length-14
     same-length-15
-    same-length-16
     returns-2)

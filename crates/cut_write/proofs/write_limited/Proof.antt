@@ -1,50 +1,41 @@
--- `cut_write::write_limited`: the plan's operations are counted, and the budget is compared with them.
+-- `cut_write::write_limited`: the plan and its block of the state at entry; by the block it is refused with the budget whole, or done within it.
 -- Assumes nothing.
-use mathlib.Core.Path.{refl, _∙_}
-use native.Mathlib.Omega.{arith}
+use mathlib.Core.Path.{ap, _∙_}
 use borrow.Author.Needs.{needs}
-use Rattle.rules.specs.Tables.{Board, boardOf}
-use Rattle.rules.specs.Requests.{Request, requestOf}
-use Rattle.write_work.proofs.Writes.{alpha-few, lookup-entry, marks-full, plan-asked, sectors}
-use Rattle.cut_write.proofs.Limits.{count-asked, cut-asked, cut-is, left-is, none-left, region-is, whole}
+use Rattle.rules.specs.Numbers.{regionOf}
+use Rattle.write_work.proofs.Chosen.{sectors, marks-full, plan-asked, plan-is, lookup-entry, block-asked, block-is, none-left, one-left, checked, accepted}
+use Rattle.cut_write.proofs.Limits.{all-left, refused-is}
 use Rattle.cut_write.proofs.write_limited.Statement.{statement}
 use Rattle.cut_write.proofs.write_limited.Tie as tie
 
--- the board and the request at entry
-abbrev board : tie.Start → Board
-board a = boardOf (a .args .chip .now) (a .args .ct .now) (a .args .bt .now) (a .args .fst .now) (a .args .bst .now) (a .args .wear .now) (a .args .marks .now) (a .args .stamps .now)
-
-abbrev request : tie.Start → Request
-request a = requestOf (a .args .lba) (a .args .count) (a .args .bytes .now)
-
 cluster-of-requires : tie.Need-cluster-of-requires
-cluster-of-requires c κs = sectors _ _ _ (c .before .before .before .before .before .before .before .before .before .pre)
+cluster-of-requires c κs =
+    let entry = c .before .before .before .before .before .before .before .before .before in
+    sectors _ _ _ (checked _ _ _ (entry .pre))
 
 region-of-requires : tie.Need-region-of-requires
 region-of-requires c κs =
-    let look = lookup-entry _ _ _ (c .before .before .before .before .before .before .before .before .before .before .pre) _ (c .cluster-of .ensures) in
+    let entry = c .before .before .before .before .before .before .before .before .before .before in
+    let look = lookup-entry _ _ _ (checked _ _ _ (entry .pre)) _ (c .cluster-of .ensures) in
     (look .fine, look .low)
 
 plan-of-requires : tie.Need-plan-of-requires
 plan-of-requires c κs =
-    let start = c .before .before .before .before .before .before .before .before .before .before .before .before .before .before .before in
-    (plan-asked _ _ _ (start .pre) _ (region-is _ (board start) (request start) (start .pre) _ _ (c .before .before .before .before .before .cluster-of .ensures) (c .before .before .before .before .region-of .ensures)), marks-full _ _ _ (start .pre))
+    let at-region-of = c .before .before .before .before in
+    let entry = at-region-of .before .before .before .before .before .before .before .before .before .before .before in
+    let region = at-region-of .region-of .ensures ∙ ap (regionOf (entry .args .p)) (at-region-of .before .cluster-of .ensures) in
+    (plan-asked _ _ _ (checked _ _ _ (entry .pre)) _ region, marks-full _ _ _ (checked _ _ _ (entry .pre)))
 
-room-ops-requires : tie.Need-room-ops-requires
-room-ops-requires c κs =
-    let start = c .before .before .before .before .before .before .before .before .before .before .before .before .before .before .before .before .before in (
-      (lookup-entry _ _ _ (start .pre) _ (c .before .before .before .before .before .before .before .cluster-of .ensures)) .fine,
-      count-asked _ (board start) (request start) (start .pre) _ _ (c .before .before .before .before .before .before .before .cluster-of .ensures) (c .before .before .before .before .before .before .region-of .ensures) _ (c .before .plan-of .ensures),
-    )
+plan-block-requires : tie.Need-plan-block-requires
+plan-block-requires c κs =
+    let at-region-of = c .before .before .before .before .before .before .before .before in
+    let entry = at-region-of .before .before .before .before .before .before .before .before .before .before .before in
+    let region = at-region-of .region-of .ensures ∙ ap (regionOf (entry .args .p)) (at-region-of .before .cluster-of .ensures) in
+    let checks = checked _ _ _ (entry .pre) in
+    block-asked _ _ _ checks _ region _ (plan-is _ _ _ checks _ region _ (c .before .before .before .plan-of .ensures))
 
-add-ops : tie.Need-add-ops
-add-ops c = omega (arith, c .before .room-ops .ensures .1, alpha-few _ _ _ (c .before .before .before .before .before .before .before .before .before .before .before .before .before .before .before .before .before .before .before .pre))
-
-write-orderly-requires : tie.Need-write-orderly-requires
-write-orderly-requires c κs = search needs
-
-sub-left : tie.Need-sub-left
-sub-left c = search needs
+no-block-left-requires : tie.Need-no-block-left-requires
+no-block-left-requires c κs = search needs
 
 same-length : tie.Need-same-length
 same-length c = search needs
@@ -64,37 +55,38 @@ same-length-5 c = search needs
 same-length-6 : tie.Need-same-length-6
 same-length-6 c = search needs
 
+returns : tie.Need-returns
+returns c =
+    let at-plan-block = c .before .before .before in
+    let at-region-of = at-plan-block .before .before .before .before .before .before .before .before .before in
+    let entry = at-region-of .before .before .before .before .before .before .before .before .before .before .before in
+    let region = at-region-of .region-of .ensures ∙ ap (regionOf (entry .args .p)) (at-region-of .before .cluster-of .ensures) in
+    let checks = checked _ _ _ (entry .pre) in
+    let plan = plan-is _ _ _ checks _ region _ (at-plan-block .before .before .before .before .plan-of .ensures) in
+    let none = none-left _ _ _ checks _ region _ plan _ (at-plan-block .plan-block .ensures _ _ _ _ _) (c .before .if1 .taken) in
+    (refused-is _ _ _ (entry .pre) none _ _ (c .no-block-left .ensures), all-left _ _ _ (entry .pre) none _)
+
+limit-planned-requires : tie.Need-limit-planned-requires
+limit-planned-requires c κs =
+    let at-plan-block = c .before .before .before .before .before .before .before .before .before .before in
+    let at-region-of = at-plan-block .before .before .before .before .before .before .before .before .before in
+    let entry = at-region-of .before .before .before .before .before .before .before .before .before .before .before in
+    let region = at-region-of .region-of .ensures ∙ ap (regionOf (entry .args .p)) (at-region-of .before .cluster-of .ensures) in
+    let checks = checked _ _ _ (entry .pre) in
+    let plan = plan-is _ _ _ checks _ region _ (at-plan-block .before .before .before .before .plan-of .ensures) in
+    let block = at-plan-block .plan-block .ensures _ _ _ _ _ in
+    record {
+      accepted = accepted _ _ _ (entry .pre) (one-left _ _ _ checks _ region _ plan _ block (c .before .before .before .before .before .before .before .before .if1 .left));
+      region = region;
+      plan = plan;
+      block = block-is _ _ _ checks _ region _ plan _ block;
+    }
+
 same-length-7 : tie.Need-same-length-7
 same-length-7 c = search needs
 
 same-length-8 : tie.Need-same-length-8
 same-length-8 c = search needs
-
-returns : tie.Need-returns
-returns c =
-    let at-write-orderly = c .before .before .before .before .before .before .before .before .before .before .before .before .before .before .before .before in
-    let at-if1 = at-write-orderly .before .before .before .before .before .before .before .before .before in
-    let at-room-ops = at-if1 .before .before in
-    let at-plan-of = at-room-ops .before .before in
-    let at-region-of = at-plan-of .before .before .before .before .before in
-    let at-cluster-of = at-region-of .before in
-    let start = at-cluster-of .before .before .before .before .before .before .before .before .before .before in (
-      whole _ (board start) (request start) (start .pre) _ _ (at-cluster-of .cluster-of .ensures) (at-region-of .region-of .ensures) _ (at-plan-of .plan-of .ensures) _ (at-room-ops .room-ops .ensures .0)
-          _ _ refl (at-if1 .if1 .taken) _ (at-write-orderly .write-orderly .ensures),
-      left-is _ (board start) (request start) (start .pre) _ _ (at-cluster-of .cluster-of .ensures) (at-region-of .region-of .ensures) _ (at-plan-of .plan-of .ensures) _
-          (at-room-ops .room-ops .ensures .0) _ _ refl,
-    )
-
-cut-requires : tie.Need-cut-requires
-cut-requires c κs =
-    let at-if1 = c .before .before .before .before .before .before .before .before in
-    let at-room-ops = at-if1 .before .before in
-    let at-plan-of = at-room-ops .before .before in
-    let at-region-of = at-plan-of .before .before .before .before .before in
-    let at-cluster-of = at-region-of .before in
-    let start = at-cluster-of .before .before .before .before .before .before .before .before .before .before in
-    cut-asked _ (board start) (request start) (start .pre) _ _ (at-cluster-of .cluster-of .ensures) (at-region-of .region-of .ensures) _ (at-plan-of .plan-of .ensures) _
-    (at-room-ops .room-ops .ensures .0) _ (omega (arith, at-if1 .if1 .left))
 
 same-length-9 : tie.Need-same-length-9
 same-length-9 c = search needs
@@ -114,26 +106,8 @@ same-length-13 c = search needs
 same-length-14 : tie.Need-same-length-14
 same-length-14 c = search needs
 
-same-length-15 : tie.Need-same-length-15
-same-length-15 c = search needs
-
-same-length-16 : tie.Need-same-length-16
-same-length-16 c = search needs
-
 returns-2 : tie.Need-returns-2
-returns-2 c =
-    let at-cut = c .before .before .before .before .before .before .before .before .before .before .before .before .before .before .before .before in
-    let at-if1 = at-cut .before .before .before .before .before .before .before .before .before in
-    let at-room-ops = at-if1 .before .before in
-    let at-plan-of = at-room-ops .before .before in
-    let at-region-of = at-plan-of .before .before .before .before .before in
-    let at-cluster-of = at-region-of .before in
-    let start = at-cluster-of .before .before .before .before .before .before .before .before .before .before in (
-      cut-is _ (board start) (request start) (start .pre) _ _ (at-cluster-of .cluster-of .ensures) (at-region-of .region-of .ensures) _ (at-plan-of .plan-of .ensures) _
-          (at-room-ops .room-ops .ensures .0) _ _ refl (omega (arith, at-if1 .if1 .left)) _ (at-cut .cut .ensures .0) _ (at-cut .cut .ensures .1 .1),
-      at-cut .cut .ensures .1 .0 ∙ none-left _ (board start) (request start) (start .pre) _ _ (at-cluster-of .cluster-of .ensures) (at-region-of .region-of .ensures) _ (at-plan-of .plan-of .ensures) _
-          (at-room-ops .room-ops .ensures .0) _ _ refl (omega (arith, at-if1 .if1 .left)),
-    )
+returns-2 c = c .before .before .before .before .before .before .before .before .before .before .before .before .before .before .before .before .limit-planned .ensures
 
 pub write-limited-spec : {M : Type 1} → statement M
 write-limited-spec =
@@ -142,26 +116,22 @@ write-limited-spec =
     cluster-of-requires
     region-of-requires
     plan-of-requires
-    room-ops-requires
-    add-ops
-    write-orderly-requires
-    sub-left
+    plan-block-requires
+    no-block-left-requires
     same-length
     same-length-2
     same-length-3
     same-length-4
     same-length-5
     same-length-6
+    returns
+    limit-planned-requires
     same-length-7
     same-length-8
-    returns
-    cut-requires
     same-length-9
     same-length-10
     same-length-11
     same-length-12
     same-length-13
     same-length-14
-    same-length-15
-    same-length-16
     returns-2)
