@@ -5,8 +5,8 @@ ghost use Prim.Native.Nat.{ℕ};
 ghost use lib.ListN.{length};
 ghost use Rattle.rules.specs.Tables.{boardOf, marksLength};
 ghost use Rattle.rules.specs.Lent.{entryBoard};
-ghost use Rattle.rules.specs.Requests.{Request, format, read, release, write};
-ghost use Rattle.rules.specs.Replies.{firstRow, lentRows, orderRow, replyOf, whyReply};
+ghost use Rattle.rules.specs.Requests.{Request, format, read, release};
+ghost use Rattle.rules.specs.Replies.{earlyRows, firstRow, lentRows, orderRow, replyOf, whyReply};
 ghost use Rattle.check_rules.specs.Check.{Lengths};
 use rules::Params;
 use rules::Reply;
@@ -95,7 +95,7 @@ pub fn read_reply(
     state_reply(p, chip, ct, bt, fst, bst, marks, stamps)
 }
 
-// The reply to a write of them: a read's, and 9 where its region has no stamp left.
+// The reply to a write of them, but for 10, which its plan tells: a read's, and 9 where its region has no stamp left.
 pub fn write_reply(
     p: Params,
     chip: &[u8],
@@ -110,7 +110,7 @@ pub fn write_reply(
     count: u32,
     len: usize,
 ) -> Reply
-    ensures { λ r. ⌜ ((q : Request) → q .lba ≡ lba → q .count ≡ count → length (q .bytes) ≡ len → r ≡ replyOf p (entryBoard chip ct bt fst bst wear marks stamps) (write q)) ⌝ }
+    ensures { λ r. ⌜ ((q : Request) → q .lba ≡ lba → q .count ≡ count → length (q .bytes) ≡ len → r ≡ firstRow Reply.Accepted (earlyRows p (entryBoard chip ct bt fst bst wear marks stamps) q)) ⌝ }
 {
     let reply = read_reply(
         p,

@@ -15,10 +15,11 @@ use Rattle.rules.specs.Parameters.{allowed}
 use Rattle.rules.specs.Numbers.{clusterOf, sectorOf}
 use Rattle.rules.specs.Orderly.{orderly}
 use Rattle.rules.specs.Tables.{Board, stampAt}
-use Rattle.rules.specs.Requests.{Request, requestRegion}
+use Rattle.rules.specs.Requests.{Request, requestRegion, write}
 use Rattle.rules.specs.Format.{goodBlocks}
-use Rattle.rules.specs.Replies.{Row, row, accessRows, badAddress, badCount, badParameter, earlyRows, firstRow, lengthsFit, lentRows, noStampLeft, notOrderly, numberOf, orderRow, stampRow, tooFewBlocks, wrongData, wrongLength}
-use Rattle.rules.proofs.Admitted.{Checks}
+use Rattle.rules.specs.Replies.{Row, row, accessRows, badAddress, badCount, badParameter, earlyRows, firstRow, lengthsFit, lentRows, noStampLeft, notOrderly, numberOf, orderRow, replyOf, stampRow, tooFewBlocks, wrongData, wrongLength}
+use Rattle.rules.proofs.Admitted.{Checks, early-refused}
+use Rattle.rules.proofs.Outcomes.{accepted-by}
 use Rattle.rules.proofs.Sizes.{sizes}
 
 -- ---- no sum and no product wraps
@@ -128,6 +129,14 @@ module _ (p : Params) (b : Board) (q : Request) (t : ℕ) (e : t ≡ stampAt (b 
 pub write-row : (p : Params) (b : Board) (q : Request) → Checks p b q → firstRow Accepted (stampRow p b (requestRegion p q)) ≡ firstRow Accepted (earlyRows p b q)
 unfolding earlyRows lentRows accessRows orderRow firstRow badParameter wrongLength notOrderly
 write-row p b q c = rw (c .fine, c .lengths, c .count, c .address, c .given, c .tidy)
+
+-- a write's reply by its early rows: another number than 0 is the call's, and 0 leaves the last row
+module _ (p : Params) (b : Board) (q : Request) (r : Reply) (e : r ≡ firstRow Accepted (earlyRows p b q)) (n : ℕ) (m : n ≡ numberOf r) where
+  pub early-reply : (n ≡ 0 → ⊥) → r ≡ replyOf p b (write q)
+  early-reply ne = e ∙ sym (early-refused p b q (λ (x : firstRow Accepted (earlyRows p b q) ≡ Accepted). ne (m ∙ ap numberOf (e ∙ x))))
+
+  pub early-zero : n ≡ 0 → firstRow Accepted (earlyRows p b q) ≡ Accepted
+  early-zero z = sym e ∙ accepted-by r n m z
 
 -- an LBA that is not refused is one of a cluster of the board
 pub cluster-low : (p : Params) → allowed p ≡ true → (lba : ℕ) → badAddress p lba ≡ false → clusterOf p lba < p .C

@@ -4,7 +4,8 @@ use mathlib.Core.Path.{refl}
 use borrow.Author.Needs.{needs}
 use Rattle.rules.specs.Tables.{Board, boardOf}
 use Rattle.rules.specs.Requests.{Request, lent, lentAnswers, write, requestOf}
-use Rattle.outcomes.proofs.Ends.{refused-by, reply-zero}
+use Rattle.outcomes.proofs.Ends.{refused-by}
+use Rattle.reply_rows.proofs.Rows.{early-reply, early-zero}
 use Rattle.call_write.proofs.write.Statement.{statement}
 use Rattle.call_write.proofs.write.Tie as tie
 
@@ -52,7 +53,8 @@ returns : tie.Need-returns
 returns c =
     let at-write-reply = c .before .before .before in
     let start = at-write-reply .before .before .before .before .before .before .before .before .before .before .before .before .before .before .before .before .before .before in
-    unfold lent lentAnswers in refused-by _ (board start) (write (request start)) _ (at-write-reply .write-reply .ensures (request start) refl refl refl) _
+    unfold lent lentAnswers in refused-by _ (board start) (write (request start)) _
+    (early-reply _ (board start) (request start) _ (at-write-reply .write-reply .ensures (request start) refl refl refl) _ (c .before .before .number .ensures) (c .before .if1 .taken)) _
     (c .before .before .number .ensures) (c .before .if1 .taken) _ (c .idle .ensures)
 
 write-orderly-requires : tie.Need-write-orderly-requires
@@ -61,7 +63,7 @@ write-orderly-requires c κs =
     let at-number = at-if1 .before in
     let at-write-reply = at-number .before in
     let start = at-write-reply .before .before .before .before .before .before .before .before .before .before .before .before .before .before .before .before .before .before in
-    reply-zero _ (board start) (write (request start)) _ (at-write-reply .write-reply .ensures (request start) refl refl refl) _ (at-number .number .ensures) (at-if1 .if1 .left)
+    early-zero _ (board start) (request start) _ (at-write-reply .write-reply .ensures (request start) refl refl refl) _ (at-number .number .ensures) (at-if1 .if1 .left)
 
 same-length-9 : tie.Need-same-length-9
 same-length-9 c =

@@ -5,8 +5,8 @@ use Prim.Native.Nat.{ℕ}
 use borrow.Author.Needs.{needs}
 use lib.ListN.{length-replicate, replicate}
 use Rattle.rules.specs.declared.Reply.the-variants.{Accepted}
-use Rattle.rules.specs.Replies.{accessRows, lentRows, orderRow, replyOf, rowsOf, stampRow}
-use Rattle.rules.specs.Requests.{Request, read, requestOf}
+use Rattle.rules.specs.Replies.{accessRows, earlyRows, lentRows, orderRow, replyOf, rowsOf, stampRow}
+use Rattle.rules.specs.Requests.{Request, read, requestOf, requestRegion}
 use Rattle.rules.specs.Tables.{Board, boardOf}
 use Rattle.rules.proofs.Admitted.{Checks, read-checks}
 use Rattle.rules.proofs.Outcomes.{accepted-by}
@@ -25,12 +25,12 @@ number-requires : tie.Need-number-requires
 number-requires c κs = search needs
 
 returns : tie.Need-returns
-unfolding replyOf rowsOf lentRows accessRows orderRow
+unfolding replyOf rowsOf earlyRows lentRows accessRows orderRow
 returns c =
     let at-read-reply = c .before .before in
     let a = at-read-reply .before .before .before .before .before .before .before .before .before in
     λ q l k n. refuses (rowsOf (a .args .p) (board a) (read q)) _ _ (at-read-reply .read-reply .ensures q l k n) (c .before .number .ensures) (c .if1 .taken)
-    (stampRow (a .args .p) (board a) q)
+    (stampRow (a .args .p) (board a) (requestRegion (a .args .p) q))
 
 stamp-reply-requires : tie.Need-stamp-reply-requires
 stamp-reply-requires c κs =
