@@ -23,7 +23,7 @@ fn has_bytes(p: Params, len: usize, count: u32, first: u32) -> bool
     first as usize + count as usize * p.s <= len
 }
 
-// One item: refused by its count, its address, its bytes, the state or its region's last stamp, in this order, else written.
+// One item: refused by its count, its address, its bytes, the state, its region's last stamp or the lack of a free block, in this order, else written.
 pub fn item(
     p: Params,
     chip: &mut [u8],

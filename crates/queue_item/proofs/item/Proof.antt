@@ -8,7 +8,7 @@ use Rattle.reply_rows.proofs.Rows.{bytes-low}
 use Rattle.rules.specs.Tables.{Board, boardOf}
 use Rattle.rules.specs.Requests.{itemOf}
 use Rattle.rules.proofs.TableFacts.{lengths-in}
-use Rattle.queue_item.proofs.Parts.{asked-accepted, inside, item-done, item-refused}
+use Rattle.queue_item.proofs.Parts.{asked-early, inside, item-done, item-refused}
 use Rattle.queue_item.proofs.item.Statement.{statement}
 use Rattle.queue_item.proofs.item.Tie as tie
 
@@ -81,7 +81,7 @@ write-orderly-requires c κs =
     let at-item-reply = at-number .before in
     let at-has-bytes = at-item-reply .before .before in
     let a = at-has-bytes .before .before .before .before .before .before .before .before .before .before in
-    asked-accepted _ _ (board a) (a .pre) _ (asked a) _ (at-has-bytes .has-bytes .ensures (a .args .bytes .now) (a .args .lba) refl) _ (at-item-reply .item-reply .ensures) _
+    asked-early _ _ (board a) (a .pre) _ (asked a) _ (at-has-bytes .has-bytes .ensures (a .args .bytes .now) (a .args .lba) refl) _ (at-item-reply .item-reply .ensures) _
     (at-number .number .ensures) (at-if1 .if1 .left)
 
 same-length-2 : tie.Need-same-length-2
