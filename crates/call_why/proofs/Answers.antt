@@ -6,25 +6,27 @@ use mathlib.Core.List.{List, _++_, _∷_, []}
 use Prim.Native.Nat.{_+_, _<_, ℕ}
 use native.Mathlib.Nat.{mod-lt, one-mul}
 use native.Mathlib.Omega.{arith}
+use native.Mathlib.Decide.{ℕ-discrete}
 use lib.Dec.{eqb}
 use lib.ListN.{length, length-replicate, replicate}
-use borrow.Author.Tests.{eq-eqb, eqb-false, eqb-true, le-ltb, ne-eqb, not-false, not-true}
+use borrow.Author.Tests.{eq-eqb, eqb-false, eqb-true, le-ltb, ltb-true, ne-eqb, not-false, not-true}
+use Rattle.lists.proofs.Tests.{and-right}
 use Rattle.rules.specs.declared.Params.{Params}
 use Rattle.rules.specs.declared.Reply.{Reply}
 use Rattle.rules.specs.declared.Reply.the-variants.{Accepted}
 use Rattle.rules.specs.Marks.{marksOf}
+use Rattle.rules.specs.Parameters.{frames}
 use Rattle.rules.specs.Numbers.{clusterOf, regionOf, sectorOf}
 use Rattle.rules.specs.Regions.{looksAt, view}
-use Rattle.rules.specs.Replies.{accessRows, badCount, badParameter, firstRow, isAccepted, lentRows, notOrderly, numberOf, orderRow, replyOf, rowsOf, whyReply, wrongData, wrongLength}
-use Rattle.rules.specs.Requests.{Request, read}
+use Rattle.rules.specs.Replies.{accessRows, badCount, badParameter, firstRow, isAccepted, lentRows, noBlockLeft, notOrderly, numberOf, orderRow, replyOf, rowsOf, whyReply, wrongData, wrongLength}
+use Rattle.rules.specs.Requests.{Request, read, requestRegion}
 use Rattle.rules.specs.Tables.{Board, btAt, ctAt, none, stampAt, marksLength}
-use Rattle.rules.specs.Write.{planOf, planVBlock, reclaims}
-use Rattle.rules.proofs.Admitted.{Admitted, admitted, read-checks}
-use Rattle.rules.proofs.Continues.{Makes}
+use Rattle.rules.specs.Write.{Plan, hasRoom, planBlock, planFrame, planOf, planVBlock}
+use Rattle.rules.proofs.Admitted.{Admitted, Checks, admitted, read-checks}
 use Rattle.rules.proofs.RegionFacts.{neat}
 use Rattle.rules.proofs.Sizes.{sizes}
 use Rattle.rules.proofs.TableFacts.{marks-in, lengths-in as tables-in}
-use Rattle.rules.proofs.WritePromise.{makes}
+use Rattle.rules.proofs.PlanCases.{Case, goes-on, plan-case, renews, takes}
 use Rattle.check_rules.specs.Check.{Lengths}
 use Rattle.check_rules.proofs.Agree.{lengths-in, marks-fit}
 use Rattle.check_broken.specs.declared.Rule.{Rule}
@@ -33,6 +35,7 @@ use Rattle.read_work.specs.Lookup.{Looked, Lookup, Stands, Within, blockFor, la
 use Rattle.read_work.proofs.Views.{looks-none}
 use Rattle.read_work.proofs.Requests.{lookup-admitted}
 use Rattle.write_plan.proofs.Asked.{plan-asked}
+use Rattle.write_work.proofs.Chosen.{block-asked, none-left, one-left, region-neat}
 use Rattle.call_why.specs.Asked.{ForecastAsked, PlaceAsked}
 use Rattle.call_why.specs.Why.{Small, forecastIn, forecastOf, foundOf, holderOf, whyOf}
 use Rattle.call_why.proofs.Replies.{Answered, answered, disorder}
@@ -93,35 +96,58 @@ module _ (p : Params) (b : Board) (lba : ℕ) (h : Answered p b lba) where
   unfolding request
   looked c is = rw is (lookup-admitted p b request adm)
 
-  made : (r : ℕ) → r < p .mu → Makes p b r (planOf p (view p b r))
-  made r low = makes p (adm .sized) b (adm .tables) r low (neat p r (view p b r) (adm .tidy r low))
+  checks : Checks p b request
+  checks = read-checks p b request accepted
+
+  -- the plan of a write to its region names a virtual block and a frame that are there
+  vblock-fits : planVBlock (planOf p (view p b (requestRegion p request))) < p .gamma
+  vblock-fits = (block-asked p b request checks (requestRegion p request) refl (planOf p (view p b (requestRegion p request))) refl) .low
+
+  frame-fits : planFrame p (view p b (requestRegion p request)) (planOf p (view p b (requestRegion p request))) < frames p
+  unfolding planFrame hasRoom
+  frame-fits = go (planOf p (view p b (requestRegion p request))) (plan-case p (adm .sized) (requestRegion p request) (view p b (requestRegion p request)) (region-neat p b request checks))
+    where
+      go : (pl : Plan) → Case p (view p b (requestRegion p request)) pl → planFrame p (view p b (requestRegion p request)) pl < frames p
+      go pl (goes-on h e) = rw e (ltb-true _ _ (and-right (not (eqb ((view p b (requestRegion p request)) .lastSeg) none)) h))
+      go pl (takes h v low lacks e) = rw e (adm .sized .some)
+      go pl (renews h every v low few e) = rw e few
 
   -- the numbers of what was found fit 32 bits
   pub small : (c : ℕ) → c ≡ clusterOf p lba → (ns : List ℕ) → ns ≡ foundOf p b c → Small ns
   unfolding request
   small c is ns e =
-      let mk : Makes p b (regionOf p c) (planOf p (view p b (regionOf p c))) = made (regionOf p c) (mod-lt c (adm .sized .regions)) in
-      rw e (found-small p (adm .sized) b (h .ordered) c (rw is (adm .asked .cluster)) (mk .base .ready .mine) (mk .base .ready .low))
+      rw e (found-small p (adm .sized) b (h .ordered) c (rw is (adm .asked .cluster)) (rw is vblock-fits) (rw is frame-fits))
 
   pub stamp-in : (c r : ℕ) → r ≡ regionOf p c → r < length (b .stamps)
   stamp-in c r e = rw (adm .tables .stampsLength, e) (mod-lt c (adm .sized .regions))
 
-  pub asked : (c : ℕ) → c ≡ clusterOf p lba → (r : ℕ) → r ≡ regionOf p c → ForecastAsked p (b .chip) (b .bt) (b .fst) (b .marks) r
-  unfolding request planVBlock
+  pub asked : (c : ℕ) → c ≡ clusterOf p lba → (r : ℕ) → r ≡ regionOf p c → ForecastAsked p (b .chip) (b .bt) (b .fst) (b .bst) (b .wear) (b .marks) r
+  unfolding request
   asked c is r e =
       record {
         plan = plan-asked p (adm .sized) (adm .fine) b (adm .tables) r (rw e (mod-lt c (adm .sized .regions)))
             (neat p r (view p b r) (adm .tidy r (rw e (mod-lt c (adm .sized .regions)))));
+        pool = record { fine = adm .fine; bstLength = adm .tables .bstLength; wearLength = adm .tables .wearLength };
         ct = b .ct;
         right = marks-right;
-        victim = λ v k. let mk : Makes p b r (reclaims v) = rw (← k) at (made r (rw e (mod-lt c (adm .sized .regions)))) in mk .base .ready .mine;
+        low = rw (e, is) vblock-fits;
       }
 
--- ---- the forecast, and where the cluster is
+  -- the plan's block is none exactly where row 10 applies
+  lacks-is : eqb (planBlock p b (requestRegion p request) (planOf p (view p b (requestRegion p request)))) none ≡ noBlockLeft p b (requestRegion p request)
+  lacks-is = go (ℕ-discrete (planBlock p b (requestRegion p request) (planOf p (view p b (requestRegion p request)))) none)
+    where
+      go : Dec (planBlock p b (requestRegion p request) (planOf p (view p b (requestRegion p request))) ≡ none)
+          → eqb (planBlock p b (requestRegion p request) (planOf p (view p b (requestRegion p request)))) none ≡ noBlockLeft p b (requestRegion p request)
+      go (yes e) = eq-eqb _ none e ∙ sym (none-left p b request checks (requestRegion p request) refl _ refl _ refl e)
+      go (no e) = ne-eqb _ none e ∙ sym (one-left p b request checks (requestRegion p request) refl _ refl _ refl e)
 
-pub forecast-is : (p : Params) (b : Board) (c r : ℕ) → r ≡ regionOf p c → (fc : List ℕ) → fc ≡ forecastIn p (stampAt (b .stamps) r) (view p b r) → fc ≡ forecastOf p b c
-unfolding forecastOf
-forecast-is p b c r e fc is = rw e at is
+  pub forecast-is : (c : ℕ) → c ≡ clusterOf p lba → (r : ℕ) → r ≡ regionOf p c → (fc : List ℕ)
+      → fc ≡ forecastIn p (stampAt (b .stamps) r) (eqb (planBlock p b r (planOf p (view p b r))) none) (view p b r) → fc ≡ forecastOf p b c
+  unfolding forecastOf request
+  forecast-is c is r e fc k = (rw (e, is) at k) ∙ rw (is, lacks-is)
+
+-- ---- where the cluster is
 
 module _ (p : Params) (b : Board) (c : ℕ) (kept : Bool) (frame : ℕ) (s : Stands p (b .chip) (b .ct) (b .bt) c kept frame) where
   pub empty : not kept ≡ true → (fc : List ℕ) → fc ≡ forecastOf p b c → replicate 8 0 ++ (fc ++ (0 ∷ [])) ≡ foundOf p b c

@@ -16,7 +16,7 @@ use Rattle.rules.specs.declared.Reply.{Reply}
 use Rattle.rules.specs.Numbers.{regionOf}
 use Rattle.rules.specs.Parameters.{frames}
 use Rattle.rules.specs.Regions.{View, looksAt, view}
-use Rattle.rules.specs.Replies.{noStampLeft, numberOf}
+use Rattle.rules.specs.Replies.{noBlockLeft, noStampLeft, numberOf}
 use Rattle.rules.specs.Tables.{Board, ctAt, none, stampAt}
 use Rattle.rules.specs.Write.{Plan, continues, opens, planFrame, planOf, planVBlock, reclaims}
 use Rattle.rules.specs.Words.{LooksListed}
@@ -24,7 +24,7 @@ use Rattle.rules.proofs.LooksWords.{looks-exactly}
 use Rattle.rules.proofs.Sizes.{Sizes}
 use Rattle.rules.proofs.Outcomes.{number-low}
 use Rattle.check_broken.specs.declared.Rule.{Rule}
-use Rattle.check_broken.specs.declared.Rule.the-variants.{BstValues, BtRange, Ct, FreeErased, Fst, Marks, NamedTwice, TooFewLeft, UsedBlock, UsedIfNamed, Stamps}
+use Rattle.check_broken.specs.declared.Rule.the-variants.{BstValues, BtRange, Ct, FreeErased, Fst, Marks, NamedTwice, UsedBlock, UsedIfNamed, Stamps}
 use Rattle.check_broken.specs.Broken.{ruleNumber}
 use Rattle.rules.specs.Replies.{OrderlyBoard}
 use Rattle.call_why.specs.Holder.{holderAt}
@@ -51,7 +51,6 @@ broken-small k = (omega arith, (low k, omega arith))
     low BtRange = omega arith
     low NamedTwice = omega arith
     low UsedIfNamed = omega arith
-    low TooFewLeft = omega arith
     low FreeErased = omega arith
     low UsedBlock = omega arith
     low Fst = omega arith
@@ -95,11 +94,12 @@ module _ (p : Params) (z : Sizes p) (b : Board) (h : OrderlyBoard p b) (c : ℕ)
   unfolding foundOf forecastOf forecastIn
   found-small v f =
       small-append (cond (eqb (ctAt (b .ct) c) none) (replicate 8 0) (0 ∷ 0 ∷ 1 ∷ holderOf p b c)) _ (go (ℕ-discrete (ctAt (b .ct) c) none))
-      (small-append (forecastOf p b c) (looksAt p b c ∷ []) (either (noStampLeft (stampAt (b .stamps) (regionOf p c)))) (looks-small, tt))
+      (small-append (forecastOf p b c) (looksAt p b c ∷ []) (either (noStampLeft (stampAt (b .stamps) (regionOf p c))) (noBlockLeft p b (regionOf p c))) (looks-small, tt))
     where
-      either : (t : Bool) → Small (cond t (9 ∷ 0 ∷ 0 ∷ 0 ∷ []) (planNumbers p (view p b (regionOf p c)) (planOf p (view p b (regionOf p c)))))
-      either true = (omega arith, (omega arith, (omega arith, (omega arith, tt))))
-      either false = plan-small p _ _ (omega (arith, v, z .gammaHigh)) (omega (arith, f, z .short))
+      either : (t u : Bool) → Small (cond t (9 ∷ 0 ∷ 0 ∷ 0 ∷ []) (cond u (10 ∷ 0 ∷ 0 ∷ 0 ∷ []) (planNumbers p (view p b (regionOf p c)) (planOf p (view p b (regionOf p c))))))
+      either true u = (omega arith, (omega arith, (omega arith, (omega arith, tt))))
+      either false true = (omega arith, (omega arith, (omega arith, (omega arith, tt))))
+      either false false = plan-small p _ _ (omega (arith, v, z .gammaHigh)) (omega (arith, f, z .short))
 
       go : Dec (ctAt (b .ct) c ≡ none) → Small (cond (eqb (ctAt (b .ct) c) none) (replicate 8 0) (0 ∷ 0 ∷ 1 ∷ holderOf p b c))
       go (yes e) = rw (eq-eqb (ctAt (b .ct) c) none e) (omega arith)

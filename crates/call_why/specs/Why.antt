@@ -1,7 +1,7 @@
 -- Document 02, T-05: "for one LBA, why it reads so and what a write would do". The answer is an enum; `numbersOf` lists the number of each case and its
 -- values, and `whyOf` is what they have to be by the rules.
 -- Assumes nothing.
-use mathlib.Core.Bool.{cond}
+use mathlib.Core.Bool.{Bool, cond}
 use mathlib.Core.List.{List, [], _∷_, _++_}
 use Prim.Native.Nat.{ℕ, _<_}
 use lib.Dec.{eqb, leb}
@@ -10,12 +10,12 @@ use Rattle.rules.specs.declared.Params.{Params}
 use Rattle.rules.specs.Numbers.{clusterOf, placeOf, regionOf, vblockOf}
 use Rattle.rules.specs.Pages.{block, lastIn}
 use Rattle.rules.specs.Regions.{View, looksAt, validFrames, view}
-use Rattle.rules.specs.Replies.{isAccepted, noStampLeft, numberOf, whyReply}
+use Rattle.rules.specs.Replies.{isAccepted, noBlockLeft, noStampLeft, numberOf, whyReply}
 use Rattle.rules.specs.Tables.{Board, btAt, ctAt, none, stampAt}
 use Rattle.rules.specs.Write.{Plan, continues, opens, planOf, reclaims}
 use Rattle.check_broken.specs.Broken.{brokenRule, ruleNumber}
 use Rattle.call_why.specs.declared.Forecast.{Forecast}
-use Rattle.call_why.specs.declared.Forecast.the-variants.{Continues, NoStamp, Opens, Reclaims}
+use Rattle.call_why.specs.declared.Forecast.the-variants.{Continues, NoBlock, NoStamp, Opens, Reclaims}
 use Rattle.call_why.specs.declared.Place.{Place}
 use Rattle.call_why.specs.declared.Why.{Why}
 use Rattle.call_why.specs.declared.Why.the-variants.{Refused, Disordered, Empty, Held}
@@ -26,6 +26,7 @@ use Rattle.call_why.specs.declared.Why.the-variants.{Refused, Disordered
 -- the number of its reply
 unfoldable pub forecastNumbers : Forecast → List ℕ
 forecastNumbers NoStamp = 9 ∷ 0 ∷ 0 ∷ 0 ∷ []
+forecastNumbers NoBlock = 10 ∷ 0 ∷ 0 ∷ 0 ∷ []
 forecastNumbers (Continues v f) = 1 ∷ v .0 ∷ f ∷ 0 ∷ []
 forecastNumbers (Opens v) = 2 ∷ v .0 ∷ 0 ∷ 0 ∷ []
 forecastNumbers (Reclaims v n) = 3 ∷ v .0 ∷ n ∷ n ∷ []
@@ -60,12 +61,12 @@ planNumbers p vw (continues v f) = 1 ∷ v ∷ f ∷ 0 ∷ []
 planNumbers p vw (opens v) = 2 ∷ v ∷ 0 ∷ 0 ∷ []
 planNumbers p vw (reclaims v) = 3 ∷ v ∷ length (validFrames p vw v) ∷ length (validFrames p vw v) ∷ []
 
--- "T-05's forecast gives 9 .. too": by the region's last stamp and its view
-unfoldable pub forecastIn : Params → ℕ → View → List ℕ
-forecastIn p t vw = cond (noStampLeft t) (9 ∷ 0 ∷ 0 ∷ 0 ∷ []) (planNumbers p vw (planOf p vw))
+-- "T-05's forecast gives 9 and 10 too": by the region's last stamp, whether its plan needs a free block where there is none, and its view
+unfoldable pub forecastIn : Params → ℕ → Bool → View → List ℕ
+forecastIn p t lacks vw = cond (noStampLeft t) (9 ∷ 0 ∷ 0 ∷ 0 ∷ []) (cond lacks (10 ∷ 0 ∷ 0 ∷ 0 ∷ []) (planNumbers p vw (planOf p vw)))
 
 unfoldable pub forecastOf : Params → Board → ℕ → List ℕ
-forecastOf p b c = forecastIn p (stampAt (b .stamps) (regionOf p c)) (view p b (regionOf p c))
+forecastOf p b c = forecastIn p (stampAt (b .stamps) (regionOf p c)) (noBlockLeft p b (regionOf p c)) (view p b (regionOf p c))
 
 -- of an orderly board: no frame is held, or one is; the forecast; and T-08's count of a read or a write of the cluster
 unfoldable pub foundOf : Params → Board → ℕ → List ℕ

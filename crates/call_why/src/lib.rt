@@ -3,14 +3,16 @@ ghost use mathlib.Core.Path.{_≡_};
 ghost use mathlib.Core.Bool.{true};
 ghost use mathlib.Core.List.{List, []};
 ghost use Prim.Native.Nat.{ℕ, _<_};
+ghost use lib.Dec.{eqb};
 ghost use lib.ListN.{length};
-ghost use Rattle.rules.specs.Regions.{viewOf};
-ghost use Rattle.rules.specs.Tables.{boardOf, stampAt};
+ghost use Rattle.rules.specs.Regions.{view, viewOf};
+ghost use Rattle.rules.specs.Tables.{Board, boardOf, notFound, stampAt};
 ghost use Rattle.rules.specs.Lent.{entryBoard};
-ghost use Rattle.rules.specs.Write.{planOf};
+ghost use Rattle.rules.specs.Write.{planBlock, planOf};
 ghost use Rattle.rules.specs.Marks.{marksOf};
 ghost use Rattle.read_work.specs.Lookup.{Within};
-ghost use Rattle.call_why.specs.Asked.{ForecastAsked, PlaceAsked};
+ghost use Rattle.write_plan.specs.Plans.{planIs};
+ghost use Rattle.call_why.specs.Asked.{ForecastAsked, PlaceAsked, VictimAsked};
 ghost use Rattle.call_why.specs.Why.{Small, forecastIn, forecastNumbers, holderOf, numbersOf, placeNumbers, planNumbers, whyOf};
 use check_broken::Rule;
 use read_work::Found;
@@ -32,12 +34,13 @@ pub struct Place {
 }
 
 // What a write would do: take this frame of the open virtual block; open a virtual block; reclaim one that has so many valid frames; or be refused, as its region
-// has no stamp left.
+// has no stamp left, or as it needs a free block and there is none.
 pub enum Forecast {
     Continues(VBlock, usize),
     Opens(VBlock),
     Reclaims(VBlock, usize),
     NoStamp,
+    NoBlock,
 }
 
 // Why a sector reads so: the call is refused, or the state or its marks are not in order, by the first broken rule; or no frame is held, or one is held there,
@@ -49,39 +52,46 @@ pub enum Why {
     Held(Place, Forecast, u32),
 }
 
-// What the plan of a write to region r is, on a state that is known to be orderly: where it reclaims, the marks of the virtual block are counted.
-fn planned(p: Params, chip: &[u8], bt: &[u16], fst: &[u16], marks: &[u64], r: usize) -> Forecast
-    requires { ⌜ ForecastAsked p (now chip) (now bt) (now fst) (now marks) r ⌝ }
-    ensures { λ fc. ⌜ ((ct : List ℕ) → now (marks .entry) ≡ marksOf p (boardOf (now (chip .entry)) ct (now (bt .entry)) (now (fst .entry)) [] [] [] [])
-        → forecastNumbers fc ≡ planNumbers p (viewOf p (now (chip .entry)) ct (now (bt .entry)) (now (fst .entry)) r)
-        (planOf p (viewOf p (now (chip .entry)) ct (now (bt .entry)) (now (fst .entry)) r))) ⌝ }
+// What a plan of a write to region r is told as: where it reclaims, the marks of the virtual block are counted.
+fn planned(p: Params, marks: &[u64], r: usize, pl: Planned) -> Forecast
+    requires { ⌜ VictimAsked p (now marks) r (planIs pl) ⌝ }
+    ensures { λ fc. ⌜ ((b : Board) → now (marks .entry) ≡ marksOf p b → forecastNumbers fc ≡ planNumbers p (view p b r) (planIs pl)) ⌝ }
 {
-    match write_plan::plan_of(p, chip, bt, fst, marks, r) {
+    match pl {
         Planned::Continues(v, f) => Forecast::Continues(v, f),
         Planned::Opens(v) => Forecast::Opens(v),
         Planned::Reclaims(v) => Forecast::Reclaims(v, chip_marks::count_marks(p, marks, r, v)),
     }
 }
 
-// What a write to region r would do, on such a state: its plan, if the region has a stamp left.
+// What a write to region r would do, on a state that is known to be orderly: its plan, if the region has a stamp left and the plan a block to write.
 fn forecast_of(
     p: Params,
     chip: &[u8],
     bt: &[u16],
     fst: &[u16],
+    bst: &[u8],
+    wear: &[u32],
     marks: &[u64],
     stamps: &[u32],
     r: usize,
 ) -> Forecast
-    requires { ⌜ ForecastAsked p (now chip) (now bt) (now fst) (now marks) r ⌝ }
+    requires { ⌜ ForecastAsked p (now chip) (now bt) (now fst) (now bst) (now wear) (now marks) r ⌝ }
     requires { ⌜ r < length (now stamps) ⌝ }
     ensures { λ fc. ⌜ ((ct : List ℕ) → now (marks .entry) ≡ marksOf p (boardOf (now (chip .entry)) ct (now (bt .entry)) (now (fst .entry)) [] [] [] [])
-        → forecastNumbers fc ≡ forecastIn p (stampAt (now (stamps .entry)) r) (viewOf p (now (chip .entry)) ct (now (bt .entry)) (now (fst .entry)) r)) ⌝ }
+        → forecastNumbers fc ≡ forecastIn p (stampAt (now (stamps .entry)) r)
+        (eqb (planBlock p (boardOf (now (chip .entry)) ct (now (bt .entry)) (now (fst .entry)) (now (bst .entry)) (now (wear .entry)) (now (marks .entry)) (now (stamps .entry))) r
+        (planOf p (viewOf p (now (chip .entry)) ct (now (bt .entry)) (now (fst .entry)) r))) notFound) (viewOf p (now (chip .entry)) ct (now (bt .entry)) (now (fst .entry)) r)) ⌝ }
 {
     if chip_tables::stamp_at(stamps, r) == rules::LAST_STAMP {
         return Forecast::NoStamp;
     }
-    planned(p, chip, bt, fst, marks, r)
+    let pl = write_plan::plan_of(p, chip, bt, fst, marks, r);
+    let n = write_room::plan_block(p, bt, bst, wear, r, pl);
+    if n.0 == rules::NOT_FOUND {
+        return Forecast::NoBlock;
+    }
+    planned(p, marks, r, pl)
 }
 
 // The place of cluster c, which the lookup found there.
@@ -126,7 +136,17 @@ pub fn explain(
         return Why::Refused(reply);
     }
     let c = rules::cluster_of(p, lba as usize);
-    let fc = forecast_of(p, chip, bt, fst, marks, stamps, rules::region_of(p, c));
+    let fc = forecast_of(
+        p,
+        chip,
+        bt,
+        fst,
+        bst,
+        wear,
+        marks,
+        stamps,
+        rules::region_of(p, c),
+    );
     let at = read_work::find_frame(p, chip, ct, bt, c);
     if !at.kept {
         return Why::Empty(fc);

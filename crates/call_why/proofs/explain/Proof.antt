@@ -81,7 +81,7 @@ returns-3 c =
     let at-why-reply = at-number .before in
     let start = at-why-reply .before .before .before .before .before .before .before .before .before in
     let h = (passed _ (board start) _ _ (at-why-reply .why-reply .ensures) _ (at-number .number .ensures) (at-if2 .if2 .left)) in
-    let fc = forecast-is _ (board start) _ _ (at-region-of .region-of .ensures) _ (at-forecast-of .forecast-of .ensures _ (marks-right _ (board start) _ h)) in
+    let fc = forecast-is _ (board start) _ h _ (at-cluster-of .cluster-of .ensures) _ (at-region-of .region-of .ensures) _ (at-forecast-of .forecast-of .ensures _ (marks-right _ (board start) _ h)) in
     let e = empty _ (board start) _ _ _ (c .before .before .find-frame .ensures .0) (c .if3 .taken) _ fc in
     (why-found _ (board start) _ h _ (at-cluster-of .cluster-of .ensures) _ e, small _ (board start) _ h _ (at-cluster-of .cluster-of .ensures) _ e)
 
@@ -108,7 +108,7 @@ returns-4 c =
     let at-why-reply = at-number .before in
     let start = at-why-reply .before .before .before .before .before .before .before .before .before in
     let h = (passed _ (board start) _ _ (at-why-reply .why-reply .ensures) _ (at-number .number .ensures) (at-if2 .if2 .left)) in
-    let fc = forecast-is _ (board start) _ _ (at-region-of .region-of .ensures) _ (at-forecast-of .forecast-of .ensures _ (marks-right _ (board start) _ h)) in
+    let fc = forecast-is _ (board start) _ h _ (at-cluster-of .cluster-of .ensures) _ (at-region-of .region-of .ensures) _ (at-forecast-of .forecast-of .ensures _ (marks-right _ (board start) _ h)) in
     let at = c .place-at .ensures _ _ _ _ _ _ (not-false _ (c .before .if3 .left)) (at-find-frame .find-frame .ensures .1 .0) in
     let e = held _ (board start) _ _ _ (at-find-frame .find-frame .ensures .0) (c .before .if3 .left) _ _ _ at fc (at-find-frame .find-frame .ensures .1 .1) in
     (why-found _ (board start) _ h _ (at-cluster-of .cluster-of .ensures) _ e, small _ (board start) _ h _ (at-cluster-of .cluster-of .ensures) _ e)
