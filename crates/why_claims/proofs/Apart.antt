@@ -6,14 +6,14 @@ use Prim.Native.Nat.{ℕ, _-_, _<_}
 use native.Mathlib.Omega.{arith}
 use lib.ListN.{drop, getD, take}
 use Rattle.rules.specs.declared.Reply.{Reply}
-use Rattle.rules.specs.declared.Reply.the-variants.{Accepted, BadAddress, BadCount, BadParameter, NotOrderly, TooFewAnswers, TooFewBlocks, WrongData, WrongLength, NoStampLeft}
+use Rattle.rules.specs.declared.Reply.the-variants.{Accepted, BadAddress, BadCount, BadParameter, NotOrderly, TooFewAnswers, TooFewBlocks, WrongData, WrongLength, NoStampLeft, NoBlockLeft}
 use Rattle.rules.specs.declared.VBlock.{VBlock}
 use Rattle.rules.specs.Replies.{numberOf}
 use Rattle.check_broken.specs.declared.Rule.{Rule}
-use Rattle.check_broken.specs.declared.Rule.the-variants.{BstValues, BtRange, Ct, FreeErased, Fst, Marks, NamedTwice, TooFewLeft, UsedBlock, UsedIfNamed, Stamps}
-use Rattle.check_broken.specs.Broken.{ruleNames, ruleNumber}
+use Rattle.check_broken.specs.declared.Rule.the-variants.{BstValues, BtRange, Ct, FreeErased, Fst, Marks, NamedTwice, UsedBlock, UsedIfNamed, Stamps}
+use Rattle.check_broken.specs.Broken.{ruleNames, ruleNumber, testOf}
 use Rattle.call_why.specs.declared.Forecast.{Forecast}
-use Rattle.call_why.specs.declared.Forecast.the-variants.{Continues, NoStamp, Opens, Reclaims}
+use Rattle.call_why.specs.declared.Forecast.the-variants.{Continues, NoBlock, NoStamp, Opens, Reclaims}
 use Rattle.call_why.specs.declared.Place.{Place}
 use Rattle.call_why.specs.declared.Why.the-variants.{Disordered, Empty, Held, Refused}
 use Rattle.call_why.specs.Why.{forecastNumbers, numbersOf, placeNumbers}
@@ -27,7 +27,7 @@ at xs ys i e = ap (λ (ns : List ℕ). getD ns i 0) e
 
 -- the replies by their numbers
 unfoldable replies : List Reply
-replies = Accepted ∷ BadParameter ∷ WrongLength ∷ BadCount ∷ BadAddress ∷ WrongData ∷ TooFewBlocks ∷ NotOrderly ∷ TooFewAnswers ∷ NoStampLeft ∷ []
+replies = Accepted ∷ BadParameter ∷ WrongLength ∷ BadCount ∷ BadAddress ∷ WrongData ∷ TooFewBlocks ∷ NotOrderly ∷ TooFewAnswers ∷ NoStampLeft ∷ NoBlockLeft ∷ []
 
 reply-at : (r : Reply) → getD replies (numberOf r) Accepted ≡ r
 unfolding replies
@@ -41,17 +41,17 @@ reply-at TooFewBlocks = refl
 reply-at NotOrderly = refl
 reply-at TooFewAnswers = refl
 reply-at NoStampLeft = refl
+reply-at NoBlockLeft = refl
 
 reply-apart : (r r′ : Reply) → numberOf r ≡ numberOf r′ → r ≡ r′
 reply-apart r r′ e = sym (reply-at r) ∙ ap (λ (n : ℕ). getD replies n Accepted) e ∙ reply-at r′
 
-rule-at : (k : Rule) → getD ruleNames (ruleNumber k - 1) Marks ≡ k
-unfolding ruleNames
+rule-at : (k : Rule) → getD ruleNames (testOf (ruleNumber k)) Marks ≡ k
+unfolding ruleNames testOf
 rule-at BstValues = refl
 rule-at BtRange = refl
 rule-at NamedTwice = refl
 rule-at UsedIfNamed = refl
-rule-at TooFewLeft = refl
 rule-at FreeErased = refl
 rule-at UsedBlock = refl
 rule-at Fst = refl
@@ -60,14 +60,13 @@ rule-at Marks = refl
 rule-at Stamps = refl
 
 rule-apart : (k k′ : Rule) → ruleNumber k ≡ ruleNumber k′ → k ≡ k′
-rule-apart k k′ e = sym (rule-at k) ∙ ap (λ (n : ℕ). getD ruleNames (n - 1) Marks) e ∙ rule-at k′
+rule-apart k k′ e = sym (rule-at k) ∙ ap (λ (n : ℕ). getD ruleNames (testOf n) Marks) e ∙ rule-at k′
 
 rule-some : (k : Rule) → 0 < ruleNumber k
 rule-some BstValues = omega arith
 rule-some BtRange = omega arith
 rule-some NamedTwice = omega arith
 rule-some UsedIfNamed = omega arith
-rule-some TooFewLeft = omega arith
 rule-some FreeErased = omega arith
 rule-some UsedBlock = omega arith
 rule-some Fst = omega arith
@@ -83,6 +82,15 @@ vblock-apart v v′ e = λ i. record { 0 = e i }
 forecast-apart : (fc fc′ : Forecast) → forecastNumbers fc ≡ forecastNumbers fc′ → fc ≡ fc′
 unfolding forecastNumbers
 forecast-apart NoStamp NoStamp e = refl
+forecast-apart NoBlock NoBlock e = refl
+forecast-apart NoStamp NoBlock e = absurd (omega (arith, at _ _ 0 e))
+forecast-apart NoBlock NoStamp e = absurd (omega (arith, at _ _ 0 e))
+forecast-apart NoBlock (Continues v′ f′) e = absurd (omega (arith, at _ _ 0 e))
+forecast-apart NoBlock (Opens v′) e = absurd (omega (arith, at _ _ 0 e))
+forecast-apart NoBlock (Reclaims v′ n′) e = absurd (omega (arith, at _ _ 0 e))
+forecast-apart (Continues v f) NoBlock e = absurd (omega (arith, at _ _ 0 e))
+forecast-apart (Opens v) NoBlock e = absurd (omega (arith, at _ _ 0 e))
+forecast-apart (Reclaims v n) NoBlock e = absurd (omega (arith, at _ _ 0 e))
 forecast-apart NoStamp (Continues v′ f′) e = absurd (omega (arith, at _ _ 0 e))
 forecast-apart NoStamp (Opens v′) e = absurd (omega (arith, at _ _ 0 e))
 forecast-apart NoStamp (Reclaims v′ n′) e = absurd (omega (arith, at _ _ 0 e))
@@ -103,6 +111,7 @@ forecast-apart (Reclaims v n) (Reclaims v′ n′) e = ap₂ Reclaims (vblock-ap
 forecast-some : (fc : Forecast) (xs : List ℕ) → 0 < getD (forecastNumbers fc ++ xs) 0 0
 unfolding forecastNumbers
 forecast-some NoStamp xs = omega arith
+forecast-some NoBlock xs = omega arith
 forecast-some (Continues v f) xs = omega arith
 forecast-some (Opens v) xs = omega arith
 forecast-some (Reclaims v n) xs = omega arith
@@ -110,6 +119,7 @@ forecast-some (Reclaims v n) xs = omega arith
 forecast-front : (fc : Forecast) (xs : List ℕ) → take 4 (forecastNumbers fc ++ xs) ≡ forecastNumbers fc
 unfolding forecastNumbers
 forecast-front NoStamp xs = refl
+forecast-front NoBlock xs = refl
 forecast-front (Continues v f) xs = refl
 forecast-front (Opens v) xs = refl
 forecast-front (Reclaims v n) xs = refl
@@ -117,6 +127,7 @@ forecast-front (Reclaims v n) xs = refl
 forecast-after : (fc : Forecast) (xs : List ℕ) → drop 4 (forecastNumbers fc ++ xs) ≡ xs
 unfolding forecastNumbers
 forecast-after NoStamp xs = refl
+forecast-after NoBlock xs = refl
 forecast-after (Continues v f) xs = refl
 forecast-after (Opens v) xs = refl
 forecast-after (Reclaims v n) xs = refl

@@ -5,25 +5,25 @@ use mathlib.Core.Path.{_≡_, ap, refl, sym, _∙_}
 use mathlib.Core.Logic.{_⊎_, inl, inr}
 use mathlib.Core.Bool.{Bool, cond, false, true}
 use mathlib.Core.List.{List, [], _++_, _∷_}
-use Prim.Native.Nat.{_*_, _+_, _/_, _<_, ℕ, suc, zero}
+use Prim.Native.Nat.{_*_, _+_, _/_, _≤_, _<_, ℕ, suc, zero}
 use native.Mathlib.Nat.{mod-lt}
 use native.Mathlib.Omega.{arith}
 use lib.Dec.{eqb, leb}
 use lib.ListN.{getD, length, length-map}
 use Rattle.rules.specs.declared.Params.{Params}
 use Rattle.rules.specs.declared.Reply.{Reply}
-use Rattle.rules.specs.declared.Reply.the-variants.{Accepted, NoStampLeft}
+use Rattle.rules.specs.declared.Reply.the-variants.{Accepted, NoBlockLeft, NoStampLeft}
 use Rattle.rules.specs.Calls.{answerOf, outcomeOf}
 use Rattle.rules.specs.Numbers.{clusterOf, placeOf, segmentOf, vblockOf}
 use Rattle.rules.specs.Pages.{block, erased, lastIn}
 use Rattle.rules.specs.Regions.{View, looksAt, validFrames, view, viewOf}
-use Rattle.rules.specs.Replies.{accessRows, badAddress, badCount, badParameter, firstRow, lentRows, noStampLeft, notOrderly, numberOf, OrderlyBoard, orderRow, replyOf, rowsOf, stampRow, whyReply, whyRows, wrongData, wrongLength}
+use Rattle.rules.specs.Replies.{accessRows, badAddress, badCount, badParameter, blockRow, earlyRows, firstRow, lentRows, noBlockLeft, noStampLeft, notOrderly, numberOf, OrderlyBoard, orderRow, replyOf, rowsOf, stampRow, whyReply, whyRows, wrongData, wrongLength}
 use Rattle.rules.specs.Requests.{Request, requestCluster, requestRegion, write}
 use Rattle.rules.specs.Tables.{Board, bstAt, btAt, ctAt, none, stampAt}
 use Rattle.rules.specs.Words.{PlanListed}
-use Rattle.rules.specs.Write.{Plan, continues, copies, newFrame, opens, planBlock, planBst, planErases, planFrame, planOf, planVBlock, reclaims, written, writtenBy, nextStamp}
+use Rattle.rules.specs.Write.{Plan, continues, copies, newFrame, opens, planBlock, planBst, planErases, planFrame, planOf, planVBlock, reclaims, written, writtenBy, nextStamp, takesBlock}
 use Rattle.rules.specs.Machine.{viewAfter, withFrame, withRoom}
-use Rattle.rules.proofs.Admitted.{Admitted, admitted, write-checks, stamp-left}
+use Rattle.rules.proofs.Admitted.{Admitted, admitted, write-checks, write-free, stamp-left}
 use Rattle.rules.proofs.Continues.{Makes, frames-pos, segs-in}
 use Rattle.rules.proofs.FramePut.{Sheet, last-new, seg-new}
 use Rattle.rules.proofs.Frames.{seg-low, seg-place, seg-vblock}
@@ -66,31 +66,50 @@ plan-last p vw (opens v) x = refl
 plan-last p vw (reclaims v) x = refl
 
 -- the same of a forecast that may be the refusal
-pub forecast-last : (p : Params) (t : ℕ) (vw : View) (x : ℕ) → getD (forecastIn p t vw ++ (x ∷ [])) 4 0 ≡ x
+pub forecast-last : (p : Params) (t : ℕ) (lacks : Bool) (vw : View) (x : ℕ) → getD (forecastIn p t lacks vw ++ (x ∷ [])) 4 0 ≡ x
 unfolding forecastIn
-forecast-last p t vw x = go (noStampLeft t)
+forecast-last p t lacks vw x = go (noStampLeft t) lacks
   where
-    go : (k : Bool) → getD (cond k (9 ∷ 0 ∷ 0 ∷ 0 ∷ []) (planNumbers p vw (planOf p vw)) ++ (x ∷ [])) 4 0 ≡ x
-    go true = refl
-    go false = plan-last p vw (planOf p vw) x
+    go : (k l : Bool) → getD (cond k (9 ∷ 0 ∷ 0 ∷ 0 ∷ []) (cond l (10 ∷ 0 ∷ 0 ∷ 0 ∷ []) (planNumbers p vw (planOf p vw))) ++ (x ∷ [])) 4 0 ≡ x
+    go true l = refl
+    go false true = refl
+    go false false = plan-last p vw (planOf p vw) x
 
--- a write that gets 9 finds no stamp left
+-- a row that gives another reply than the one that was got does not apply
+skip : (R : Reply) (t : Bool) (r x : Reply) → (numberOf r ≡ numberOf R → ⊥) → cond t r x ≡ R → (t ≡ false) × (x ≡ R)
+skip R true r x ne k = absurd (ne (ap numberOf k))
+skip R false r x ne k = (refl, k)
+
+-- a write that gets 9 or 10 has come to those rows
+late : (p : Params) (b : Board) (q : Request) (R : Reply) → 9 ≤ numberOf R → replyOf p b (write q) ≡ R
+    → cond (noStampLeft (stampAt (b .stamps) (requestRegion p q))) NoStampLeft (cond (noBlockLeft p b (requestRegion p q)) NoBlockLeft Accepted) ≡ R
+unfolding replyOf rowsOf earlyRows blockRow lentRows accessRows orderRow stampRow firstRow
+late p b q R h e =
+    let a = skip R (badParameter p) _ _ (λ k. omega (arith, k)) e in
+    let l = skip R (wrongLength p b) _ _ (λ k. omega (arith, k)) (a .1) in
+    let c = skip R (badCount p q) _ _ (λ k. omega (arith, k)) (l .1) in
+    let i = skip R (badAddress p (q .lba)) _ _ (λ k. omega (arith, k)) (c .1) in
+    let d = skip R (wrongData p q) _ _ (λ k. omega (arith, k)) (i .1) in
+    (skip R (notOrderly p b) _ _ (λ k. omega (arith, k)) (d .1)) .1
+
+-- one that gets 9 finds no stamp left
 pub no-stamp : (p : Params) (b : Board) (q : Request) → replyOf p b (write q) ≡ NoStampLeft → noStampLeft (stampAt (b .stamps) (requestRegion p q)) ≡ true
-unfolding replyOf rowsOf lentRows accessRows orderRow stampRow firstRow
-no-stamp p b q e =
-    last (noStampLeft (stampAt (b .stamps) (requestRegion p q)))
-    (skip (notOrderly p b) _ _ (λ k. omega (arith, k))
-    (skip (wrongData p q) _ _ (λ k. omega (arith, k))
-    (skip (badAddress p (q .lba)) _ _ (λ k. omega (arith, k))
-    (skip (badCount p q) _ _ (λ k. omega (arith, k)) (skip (wrongLength p b) _ _ (λ k. omega (arith, k)) (skip (badParameter p) _ _ (λ k. omega (arith, k)) e))))))
+no-stamp p b q e = go (noStampLeft (stampAt (b .stamps) (requestRegion p q))) (noBlockLeft p b (requestRegion p q)) (late p b q NoStampLeft (omega arith) e)
   where
-    skip : (t : Bool) (r x : Reply) → (numberOf r ≡ 9 → ⊥) → cond t r x ≡ NoStampLeft → x ≡ NoStampLeft
-    skip true r x ne k = absurd (ne (ap numberOf k))
-    skip false r x ne k = k
+    go : (t u : Bool) → cond t NoStampLeft (cond u NoBlockLeft Accepted) ≡ NoStampLeft → t ≡ true
+    go true u k = refl
+    go false true k = absurd (omega (arith, ap numberOf k))
+    go false false k = absurd (omega (arith, ap numberOf k))
 
-    last : (t : Bool) → cond t NoStampLeft Accepted ≡ NoStampLeft → t ≡ true
-    last true k = refl
-    last false k = absurd (omega (arith, ap numberOf k))
+-- and one that gets 10 finds one, and no free block
+pub no-free : (p : Params) (b : Board) (q : Request) → replyOf p b (write q) ≡ NoBlockLeft
+    → (noStampLeft (stampAt (b .stamps) (requestRegion p q)) ≡ false) × (noBlockLeft p b (requestRegion p q) ≡ true)
+no-free p b q e = go (noStampLeft (stampAt (b .stamps) (requestRegion p q))) (noBlockLeft p b (requestRegion p q)) (late p b q NoBlockLeft (omega arith) e)
+  where
+    go : (t u : Bool) → cond t NoStampLeft (cond u NoBlockLeft Accepted) ≡ NoBlockLeft → (t ≡ false) × (u ≡ true)
+    go true u k = absurd (omega (arith, ap numberOf k))
+    go false true k = (refl, refl)
+    go false false k = absurd (omega (arith, ap numberOf k))
 
 -- the last but one of the numbers n are those of the plan
 pub record Planned (p : Params) (vw : View) (pl : Plan) (n : ℕ → ℕ) : Type 0 where
@@ -162,7 +181,7 @@ module _ (p : Params) (z : Sizes p) (b : Board) (t : Tables p b) (r : ℕ) (regi
   plan-frees (reclaims v) w m e =
       let some = has-block p z b t r v region (w .low) (w .every v (w .low)) in (
         block-low p z b t r v region (w .low) some,
-        unfold bstAt planVBlock planBlock btAt in m .kindOld (free-unnamed p z b t (r * p .gamma + v) (index-low p r v region (w .low))) some,
+        unfold bstAt planVBlock planBlock btAt in m .kindOld (free-unnamed p z b t (m .found (unfold takesBlock in refl)) (r * p .gamma + v) (index-low p r v region (w .low))) some,
       )
 
 -- ---- an accepted write
@@ -188,7 +207,7 @@ module _ (p : Params) (b : Board) (q : Request) (e : replyOf p b (write q) ≡ A
   neat-r = neat p (requestRegion p q) vw (adm .tidy (requestRegion p q) region)
 
   made : Makes p b (requestRegion p q) pl
-  made = makes p (adm .sized) b (adm .tables) (requestRegion p q) region neat-r
+  made = makes p (adm .sized) b (adm .tables) (requestRegion p q) region neat-r (write-free p b q e)
 
   listed : PlanListed p vw pl
   listed = plan-exactly p b (record { fine = adm .fine; lengths = adm .lengths; tidy = (write-checks p b q e) .tidy }) (requestRegion p q) region

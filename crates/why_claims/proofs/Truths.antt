@@ -12,36 +12,36 @@ use lib.Dec.{leb}
 use borrow.Author.Tests.{eq-eqb, leb-false, lt-leb, ne-eqb}
 use mathlib.Core.Bool.{false, true}
 use Rattle.rules.specs.declared.Params.{Params}
-use Rattle.rules.specs.declared.Reply.the-variants.{Accepted, NoStampLeft}
+use Rattle.rules.specs.declared.Reply.the-variants.{Accepted, NoBlockLeft, NoStampLeft}
 use Rattle.rules.specs.Calls.{answerOf, outcomeOf}
 use Rattle.rules.specs.Numbers.{clusterOf, regionOf, sectorOf}
 use Rattle.rules.specs.Orderly.{rulesOf}
 use Rattle.rules.specs.Pages.{block, frame, page}
 use Rattle.rules.specs.Regions.{View, frameOf, looksAt, sector, sectorIn, view}
-use Rattle.rules.specs.Replies.{OrderlyBoard, badAddress, noStampLeft, numberOf, replyOf, whyReply}
+use Rattle.rules.specs.Replies.{OrderlyBoard, badAddress, noBlockLeft, noStampLeft, numberOf, replyOf, whyReply}
 use Rattle.rules.specs.Requests.{Request, read, requestCluster, write}
 use Rattle.rules.specs.Tables.{Board, ctAt, none, stampAt}
 use Rattle.rules.specs.Write.{planOf}
 use Rattle.rules.proofs.Continues.{segs-in}
 use Rattle.rules.proofs.Frames.{seg-low}
-use Rattle.rules.proofs.Admitted.{write-left}
+use Rattle.rules.proofs.Admitted.{write-found, write-left}
 use Rattle.rules.proofs.Outcomes.{read-accepted}
 use Rattle.rules.proofs.Sizes.{Sizes, sizes}
 use Rattle.rules.proofs.Victims.{valid-in}
-use Rattle.check_broken.specs.Broken.{FirstFails}
+use Rattle.check_broken.specs.Broken.{FirstFails, testOf}
 use Rattle.check_broken.proofs.First.{broken-rule}
 use Rattle.call_why.specs.Holder.{holderAt}
 use Rattle.call_why.specs.Why.{forecastIn, forecastOf, holderOf}
 use Rattle.call_why.proofs.Holder.{body-is, holder-true}
 use Rattle.call_why.proofs.Replies.{answered, disorder}
 use Rattle.why_claims.specs.Truths.{ForecastTrue, HeldTrue, NotHeldTrue, WhyTrue, toldAt}
-use Rattle.why_claims.proofs.Forecasts.{Planned, forecast-last, forecast-true, no-stamp, plan-front, planAt}
+use Rattle.why_claims.proofs.Forecasts.{Planned, forecast-last, forecast-true, no-free, no-stamp, plan-front, planAt}
 use Rattle.why_claims.proofs.Told.{told-held, told-none, told-reply, told-rule}
 
 module _ (p : Params) (b : Board) (lba : ℕ) where
   -- ---- the rule
 
-  rule-true : toldAt p b lba 0 ≡ 7 → FirstFails (toldAt p b lba 1 - 1) (rulesOf p b)
+  rule-true : toldAt p b lba 0 ≡ 7 → FirstFails (testOf (toldAt p b lba 1)) (rulesOf p b)
   rule-true e =
       let z : numberOf (whyReply p b lba) ≡ 7 = sym (told-reply p b lba) ∙ e in
       rw (told-rule p b lba z) (broken-rule p b ((disorder p b lba z) .broken))
@@ -134,8 +134,8 @@ module _ (p : Params) (b : Board) (lba : ℕ) where
     seen = go (ℕ-discrete (ctAt (b .ct) (clusterOf p lba)) none)
       where
         go : Dec (ctAt (b .ct) (clusterOf p lba) ≡ none) → toldAt p b lba 12 ≡ looksAt p b (clusterOf p lba)
-        go (yes n) = rw (told-none p b lba accepted n) (forecast-last p _ vw (looksAt p b (clusterOf p lba)))
-        go (no n) = rw (told-held p b lba accepted n) (forecast-last p _ vw (looksAt p b (clusterOf p lba)))
+        go (yes n) = rw (told-none p b lba accepted n) (forecast-last p _ _ vw (looksAt p b (clusterOf p lba)))
+        go (no n) = rw (told-held p b lba accepted n) (forecast-last p _ _ vw (looksAt p b (clusterOf p lba)))
 
     looks-true : (q : Request) → requestCluster p q ≡ clusterOf p lba → replyOf p b (read q) ≡ Accepted → (outcomeOf p b (read q)) .answer .looks ≡ toldAt p b lba 12
     unfolding answerOf
@@ -144,11 +144,11 @@ module _ (p : Params) (b : Board) (lba : ℕ) where
     abbrev last-stamp : ℕ
     last-stamp = stampAt (b .stamps) (regionOf p (clusterOf p lba))
 
-    planned : noStampLeft last-stamp ≡ false → Planned p vw (planOf p vw) (toldAt p b lba)
-    planned left = go (ℕ-discrete (ctAt (b .ct) (clusterOf p lba)) none)
+    planned : noStampLeft last-stamp ≡ false → noBlockLeft p b (regionOf p (clusterOf p lba)) ≡ false → Planned p vw (planOf p vw) (toldAt p b lba)
+    planned left found = go (ℕ-discrete (ctAt (b .ct) (clusterOf p lba)) none)
       where
         front : (i : ℕ) → i < 4 → getD (forecastOf p b (clusterOf p lba) ++ (looksAt p b (clusterOf p lba) ∷ [])) i 0 ≡ planAt p vw (planOf p vw) i
-        front i h = unfold forecastOf forecastIn in rw left (plan-front p vw (planOf p vw) (looksAt p b (clusterOf p lba)) i h)
+        front i h = unfold forecastOf forecastIn in rw (left, found) (plan-front p vw (planOf p vw) (looksAt p b (clusterOf p lba)) i h)
 
         go : Dec (ctAt (b .ct) (clusterOf p lba) ≡ none) → Planned p vw (planOf p vw) (toldAt p b lba)
         go (yes n) =
@@ -161,7 +161,7 @@ module _ (p : Params) (b : Board) (lba : ℕ) where
             record { kind = rw w (front 0 (omega arith)); vblock = rw w (front 1 (omega arith)); frame = rw w (front 2 (omega arith)); count = rw w (front 3 (omega arith)) }
 
     forecast : (q : Request) → requestCluster p q ≡ clusterOf p lba → replyOf p b (write q) ≡ Accepted → ForecastTrue p b lba (toldAt p b lba) (outcomeOf p b (write q))
-    forecast q is a = forecast-true p b q a lba ((answered p b lba accepted) .low) is (toldAt p b lba) (rw is (planned (unfold noStampLeft in rw is at (lt-leb 4294967295 _ (write-left p b q a))))) (rw is seen)
+    forecast q is a = forecast-true p b q a lba ((answered p b lba accepted) .low) is (toldAt p b lba) (rw is (planned (unfold noStampLeft in rw is at (lt-leb 4294967295 _ (write-left p b q a))) (rw is at (write-found p b q a)))) (rw is seen)
 
     refused : (q : Request) → requestCluster p q ≡ clusterOf p lba → replyOf p b (write q) ≡ NoStampLeft → toldAt p b lba 8 ≡ 9
     unfolding toldAt holderOf forecastOf forecastIn
@@ -174,6 +174,20 @@ module _ (p : Params) (b : Board) (lba : ℕ) where
         go (yes n) = rw (told-none p b lba accepted n, none-left)
         go (no n) = rw (told-held p b lba accepted n, none-left)
 
+    blockless : (q : Request) → requestCluster p q ≡ clusterOf p lba → replyOf p b (write q) ≡ NoBlockLeft → toldAt p b lba 8 ≡ 10
+    unfolding toldAt holderOf forecastOf forecastIn
+    blockless q is a = go (ℕ-discrete (ctAt (b .ct) (clusterOf p lba)) none)
+      where
+        some-left : noStampLeft last-stamp ≡ false
+        some-left = rw is at ((no-free p b q a) .0)
+
+        lacks : noBlockLeft p b (regionOf p (clusterOf p lba)) ≡ true
+        lacks = rw is at ((no-free p b q a) .1)
+
+        go : Dec (ctAt (b .ct) (clusterOf p lba) ≡ none) → toldAt p b lba 8 ≡ 10
+        go (yes n) = rw (told-none p b lba accepted n, some-left, lacks)
+        go (no n) = rw (told-held p b lba accepted n, some-left, lacks)
+
 pub why-true : (p : Params) (b : Board) (lba : ℕ) → WhyTrue p b lba
 why-true p b lba = record {
   reply = told-reply p b lba;
@@ -183,5 +197,6 @@ why-true p b lba = record {
   notHeld = not-held-true p b lba;
   forecast = forecast p b lba;
   refused = refused p b lba;
+  blockless = blockless p b lba;
   looks = looks-true p b lba;
 }

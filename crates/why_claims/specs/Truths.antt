@@ -9,7 +9,7 @@ use Prim.Native.Nat.{_*_, _+_, _-_, _<_, ℕ}
 use lib.Dec.{eqb}
 use lib.ListN.{getD, length, replicate, take}
 use Rattle.rules.specs.declared.Params.{Params}
-use Rattle.rules.specs.declared.Reply.the-variants.{Accepted, NoStampLeft}
+use Rattle.rules.specs.declared.Reply.the-variants.{Accepted, NoBlockLeft, NoStampLeft}
 use Rattle.rules.specs.Calls.{Outcome, outcomeOf}
 use Rattle.rules.specs.Numbers.{clusterOf, regionOf, sectorOf, vblockOf}
 use Rattle.rules.specs.Orderly.{rulesOf}
@@ -19,7 +19,7 @@ use Rattle.rules.specs.Regions.{sector, valid, validFrames, view}
 use Rattle.rules.specs.Replies.{numberOf, replyOf, whyReply}
 use Rattle.rules.specs.Requests.{Request, read, requestCluster, write}
 use Rattle.rules.specs.Tables.{Board, btAt, ctAt, fstAt, none}
-use Rattle.check_broken.specs.Broken.{FirstFails}
+use Rattle.check_broken.specs.Broken.{FirstFails, testOf}
 use Rattle.call_why.specs.Why.{whyOf}
 
 -- number i of the answer
@@ -72,7 +72,7 @@ pub record AnswerTrue (p : Params) (b : Board) (lba : ℕ) (n : ℕ → ℕ) : T
   -- "which reply": that of the first row that applies
   pub reply : n 0 ≡ numberOf (whyReply p b lba)
   -- "and with 7 the first orderly rule broken, in 01's order"
-  pub rule : n 0 ≡ 7 → FirstFails (n 1 - 1) (rulesOf p b)
+  pub rule : n 0 ≡ 7 → FirstFails (testOf (n 1)) (rulesOf p b)
   -- a frame is held, or none
   pub kind : n 0 ≡ 0 → (n 2 ≡ 0) ⊎ (n 2 ≡ 1)
   -- "the region, segment, virtual block, physical block and frame that hold it"
@@ -81,8 +81,9 @@ pub record AnswerTrue (p : Params) (b : Board) (lba : ℕ) (n : ℕ → ℕ) : T
   pub notHeld : n 0 ≡ 0 → n 2 ≡ 0 → NotHeldTrue p b (clusterOf p lba) (sectorOf p lba)
   -- "what a write would do": any write of the cluster that is accepted
   pub forecast : n 0 ≡ 0 → (q : Request) → requestCluster p q ≡ clusterOf p lba → replyOf p b (write q) ≡ Accepted → ForecastTrue p b lba n (outcomeOf p b (write q))
-  -- T-12: "T-05's forecast gives 9 .. too": any write of it that is refused so
+  -- T-12: "T-05's forecast gives 9 and 10 too": any write of it that is refused so
   pub refused : n 0 ≡ 0 → (q : Request) → requestCluster p q ≡ clusterOf p lba → replyOf p b (write q) ≡ NoStampLeft → n 8 ≡ 9
+  pub blockless : n 0 ≡ 0 → (q : Request) → requestCluster p q ≡ clusterOf p lba → replyOf p b (write q) ≡ NoBlockLeft → n 8 ≡ 10
   -- T-08: and any read of it
   pub looks : n 0 ≡ 0 → (q : Request) → requestCluster p q ≡ clusterOf p lba → replyOf p b (read q) ≡ Accepted → (outcomeOf p b (read q)) .answer .looks ≡ n 12
 
