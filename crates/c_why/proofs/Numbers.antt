@@ -5,7 +5,7 @@ use mathlib.Core.List.{List, [], _∷_, _++_}
 use Prim.Native.Nat.{ℕ}
 use lib.ListN.{getD, length}
 use Rattle.call_why.specs.declared.Forecast.{Forecast}
-use Rattle.call_why.specs.declared.Forecast.the-variants.{Continues, NoStamp, Opens, Reclaims}
+use Rattle.call_why.specs.declared.Forecast.the-variants.{Continues, NoBlock, NoStamp, Opens, Reclaims}
 use Rattle.call_why.specs.declared.Why.{Why}
 use Rattle.call_why.specs.declared.Why.the-variants.{Disordered, Empty, Held, Refused}
 use Rattle.call_why.specs.Why.{Small, forecastNumbers, numbersOf, placeNumbers}
@@ -16,6 +16,7 @@ four (Continues v f) = refl
 four (Opens v) = refl
 four (Reclaims v n) = refl
 four NoStamp = refl
+four NoBlock = refl
 
 pub reads-four : (fc : Forecast) (l : List ℕ) → l ≡ forecastNumbers fc → getD l 0 0 ∷ getD l 1 0 ∷ getD l 2 0 ∷ getD l 3 0 ∷ [] ≡ forecastNumbers fc
 reads-four fc l e = rw e (four fc)
@@ -29,10 +30,12 @@ thirteen (Empty (Continues v f)) = refl
 thirteen (Empty (Opens v)) = refl
 thirteen (Empty (Reclaims v n)) = refl
 thirteen (Empty NoStamp) = refl
+thirteen (Empty NoBlock) = refl
 thirteen (Held at (Continues v f) looks) = refl
 thirteen (Held at (Opens v) looks) = refl
 thirteen (Held at (Reclaims v n) looks) = refl
 thirteen (Held at NoStamp looks) = refl
+thirteen (Held at NoBlock looks) = refl
 
 -- the numbers of a part of a list are small
 pub small-front : (xs ys : List ℕ) → Small (xs ++ ys) → Small xs

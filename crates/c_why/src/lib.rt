@@ -20,6 +20,7 @@ fn forecast_numbers(fc: Forecast) -> [u32; 4]
         Forecast::Opens(v) => [2, v.0 as u32, 0, 0],
         Forecast::Reclaims(v, n) => [3, v.0 as u32, n as u32, n as u32],
         Forecast::NoStamp => [9, 0, 0, 0],
+        Forecast::NoBlock => [10, 0, 0, 0],
     }
 }
 

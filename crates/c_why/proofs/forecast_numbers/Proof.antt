@@ -69,5 +69,12 @@ returns-4 : tie.Need-returns-4
 unfolding forecastNumbers
 returns-4 c = rw (c .enum-told .given .1)
 
+enum-told-2 : tie.Need-enum-told-2
+enum-told-2 c = search needs
+
+returns-5 : tie.Need-returns-5
+unfolding forecastNumbers
+returns-5 c = rw (c .enum-told2 .given .1)
+
 pub forecast-numbers-spec : {M : Type 1} → statement M
-forecast-numbers-spec = tie.close (tie.spec enum-known-fc cast-t8 cast-t9 enum-known-fc-2 cast-t10 enum-known-fc-3 cast-t11 cast-t12 cast-t13 enum-told returns returns-2 returns-3 returns-4)
+forecast-numbers-spec = tie.close (tie.spec enum-known-fc cast-t8 cast-t9 enum-known-fc-2 cast-t10 enum-known-fc-3 cast-t11 cast-t12 cast-t13 enum-told enum-told-2 returns returns-2 returns-3 returns-4 returns-5)
