@@ -6,9 +6,8 @@ use mathlib.Core.Logic.{_⊎_, inl, inr}
 use Prim.Native.Nat.{ℕ, zero, suc, _+_, _*_, _≤_, _<_}
 use native.Mathlib.Nat.{mod-lt}
 use native.Mathlib.Omega.{arith}
-use native.Mathlib.Decide.{ℕ-discrete}
-use mathlib.Core.Bool.{Bool, true, false, not, _&&_, _||_, cond}
-use mathlib.Core.List.{List, [], _∷_, _++_}
+use mathlib.Core.Bool.{Bool, true, false, not, cond}
+use mathlib.Core.List.{List, [], _∷_, _++_, append-nil}
 use lib.Dec.{eqb}
 use lib.ListN.{length, take}
 use borrow.Author.Tests.{eqb-true, leb-true, ne-eqb, not-true}
@@ -19,32 +18,31 @@ use Rattle.rules.specs.declared.Reply.the-variants.{Accepted, TooFewBlocks}
 use Rattle.rules.specs.Parameters.{allowed, chipBytes}
 use Rattle.rules.specs.Tables.{Board, bstAt, btAt, wearAt}
 use Rattle.rules.specs.Regions.{view}
-use Rattle.rules.specs.Traces.{Op, erase, eraseOps, eraseWhere, frameOps, framesOps, mark, onWear, program, replayChip, replayWear, worn}
+use Rattle.rules.specs.Traces.{Op, erase, eraseOps, eraseWhere, frameOps, framesOps, mark, onWear, program, replayWear, worn}
 use Rattle.rules.specs.Requests.{Call, Request, format, queue, read, release, requestCluster, requestRegion, start, write}
 use Rattle.rules.specs.Format.{bad, formatOps}
 use Rattle.rules.specs.Start.{inUse, leftOver, startOps}
-use Rattle.rules.specs.Write.{Plan, continues, copies, newFrame, nextStamp, opens, planBlock, planFrame, planOf, planOps, planVBlock, reclaims, roomOps, victimOps, writeOps}
+use Rattle.rules.specs.Write.{Plan, copies, newFrame, nextStamp, planBlock, planFrame, planOf, planOps, planVBlock, roomOps, victimOps, writeOps}
 use Rattle.rules.specs.Replies.{OrderlyBoard, badParameter, firstRow, isAccepted, lengthsFit, lentRows, replyOf, rowsOf, tooFewBlocks, wrongLength}
 use Rattle.rules.specs.Calls.{opsOf, workOf}
-use Rattle.rules.specs.Cuts.{Step, callOf, isCut, limited, plain}
+use Rattle.rules.specs.Cuts.{Step, isCut, limited, plain}
 use Rattle.rules.proofs.Admitted.{Admitted, admitted, format-admitted, write-checks}
 use Rattle.rules.proofs.BadBlocks.{unreserved-good}
-use Rattle.rules.proofs.Erases.{erasesBelow, wear-ahead, wear-append, where-below}
+use Rattle.rules.proofs.Erases.{erasesBelow, wear-ahead, where-below}
 use Rattle.rules.proofs.Isolation.{index-low}
 use Rattle.rules.proofs.Outcomes.{reply-cases}
 use Rattle.rules.proofs.PlanCases.{Case, goes-on, plan-case, renews, takes}
 use Rattle.rules.proofs.RegionFacts.{neat}
 use Rattle.rules.proofs.Sizes.{Sizes, sizes}
-use Rattle.rules.proofs.TableFacts.{Lengths, lengths-in}
+use Rattle.rules.proofs.TableFacts.{lengths-in}
 use Rattle.rules.proofs.Views.{block-low, has-block}
-use Rattle.rules.proofs.WornBlocks.{wear-out-wear}
 use Rattle.rules.proofs.Writes.{wear-length}
 use Rattle.starts.proofs.KeptBlocks.{use-good}
 use Rattle.claims.specs.Runs.{boardAfter, erasesBlock, leaves, madeBy}
-use Rattle.claims.proofs.BadRuns.{MarksWorn, bad-replay, badAfter, erased-rated, new-worn, stays-bad, worn-append, worn-take}
-use Rattle.claims.proofs.CutTraces.{call-made, step-long, step-made, trace-long}
+use Rattle.claims.proofs.BadRuns.{MarksWorn, bad-replay, erased-rated, new-worn, stays-bad, worn-append, worn-take}
+use Rattle.claims.proofs.CutTraces.{step-long, step-made, trace-long}
 use Rattle.claims.proofs.Kept.{Replayed, one-made, run-long}
-use Rattle.claims.proofs.PlainRuns.{plainBoard, plainLeaves, plainParts, plainTrace, uncut-made}
+use Rattle.claims.proofs.PlainRuns.{plainBoard, plainLeaves, plainParts, plainTrace}
 use Rattle.claims.proofs.Singles.{AllSingle, Single, all-single, parts-same, singlesOf}
 use Rattle.claims.proofs.Steps.{accepted-ops, doneOps, opsBy, refused-ops, trace-step}
 
@@ -198,13 +196,14 @@ module _ (p : Params) (b : Board) (q : Request) (e : replyOf p b (write q) ≡ A
       let w = victim-sparing pl (plan-case p (acc .sized) r (view p b r) (neat p r (view p b r) (acc .tidy r region))) in
       let copying = framesOps p (planBlock p b r pl) 0 (copies p (view p b r) pl) in
       let are = frames-programs p (planBlock p b r pl) 0 (copies p (view p b r) pl) in
+      let new = frameOps p (planBlock p b r pl) (planFrame p (view p b r) pl) (newFrame p (view p b r) q (nextStamp b r) (planVBlock pl)) (p .alpha) in
       let adding = frame-programs p (planBlock p b r pl) (planFrame p (view p b r) pl) (newFrame p (view p b r) q (nextStamp b r) (planVBlock pl)) (p .alpha) in
       record {
-        spares = λ h. erases-append n (copying ++ victimOps p b r pl) _ (erases-append n copying (victimOps p b r pl) (programs-spare n copying are) (w .0 h)) (programs-spare n _ adding);
+        spares = λ h. erases-append n (copying ++ victimOps p b r pl) _ (erases-append n copying (victimOps p b r pl) (programs-spare n copying are) (w .0 h)) (programs-spare n new adding);
         worns =
             worn-append p n (b .wear) (copying ++ victimOps p b r pl) _
             (worn-append p n (b .wear) copying (victimOps p b r pl) (programs-worn p n (b .wear) copying are) (rw (programs-wear (b .wear) copying are) (w .1)))
-            (programs-worn p n _ _ adding);
+            (programs-worn p n (replayWear (b .wear) (copying ++ victimOps p b r pl)) new adding);
       }
 
 -- ---- a run of single calls, and so any call
@@ -263,7 +262,47 @@ module _ (p : Params) (fine : allowed p ≡ true) (n : ℕ) (low : n < p .N) whe
       leaves-long b c l = unfold plainBoard in run-long p b (c ∷ []) l
 
   call-sparing : (b : Board) (c : Call) → lengthsFit p b ≡ true → Sparing p b n (opsOf ((workOf p b c) .parts))
-  call-sparing b c l = rw (same) (singles-sparing b (singlesOf p b (c ∷ [])) (all-single p b (c ∷ [])) l)
+  call-sparing b c l = rw same (singles-sparing b (singlesOf p b (c ∷ [])) (all-single p b (c ∷ [])) l)
     where
+      alone : (workOf p b c) .parts ≡ plainParts p b (c ∷ [])
+      alone = unfold plainParts in sym (append-nil ((workOf p b c) .parts))
+
       same : opsOf ((workOf p b c) .parts) ≡ plainTrace p b (singlesOf p b (c ∷ []))
-      same = {!!}
+      same = unfold plainTrace in ap opsOf (alone ∙ parts-same p b (c ∷ []))
+
+  -- ---- a step, cut or not, and a run
+
+  step-sparing : (b : Board) (s : Step) → lengthsFit p b ≡ true → Sparing p b n (madeBy p b s)
+  unfolding madeBy
+  step-sparing b (plain c) l = call-sparing b c l
+  step-sparing b (limited k c) l = go (so (isCut p b (limited k c))) (call-sparing b c l)
+    where
+      ops : List Op
+      ops = opsOf ((workOf p b c) .parts)
+
+      go : (isCut p b (limited k c) ≡ true) ⊎ (isCut p b (limited k c) ≡ false) → Sparing p b n (opsOf ((workOf p b c) .parts))
+          → Sparing p b n (cond (isCut p b (limited k c)) (take k (opsOf ((workOf p b c) .parts))) (opsOf ((workOf p b c) .parts)))
+      go (inl e) s = rw e (record { spares = λ h. erases-take n k ops (s .spares h); worns = worn-take p n (b .wear) k ops (s .worns) })
+      go (inr e) s = rw e s
+
+  pub run-still : (b : Board) (ss : List Step) → lengthsFit p b ≡ true → bad p (b .chip) n ≡ true → bad p ((boardAfter p b ss) .chip) n ≡ true
+  unfolding boardAfter
+  run-still b [] l h = h
+  run-still b (s ∷ ss) l h = run-still (leaves p b s) ss (step-long p b s l) (kept-bad b (leaves p b s) (madeBy p b s) l (step-made p b s) (step-sparing b s l) h)
+
+  run-from : {A : Type 0} (b : Board) (ss : List Step) → lengthsFit p b ≡ true → (bad p (b .chip) n ≡ true → A ⊎ (p .E ≤ wearAt (b .wear) n))
+      → bad p ((boardAfter p b ss) .chip) n ≡ true → A ⊎ (p .E ≤ wearAt ((boardAfter p b ss) .wear) n)
+  unfolding boardAfter
+  run-from b [] l inv = inv
+  run-from b (s ∷ ss) l inv = run-from (leaves p b s) ss (step-long p b s l) (new-bad b (leaves p b s) (madeBy p b s) l (step-made p b s) (step-sparing b s l) inv)
+
+  pub run-new : (b : Board) (ss : List Step) → lengthsFit p b ≡ true → bad p ((boardAfter p b ss) .chip) n ≡ true → (bad p (b .chip) n ≡ true) ⊎ (p .E ≤ wearAt ((boardAfter p b ss) .wear) n)
+  run-new b ss l = run-from b ss l inl
+
+-- ---- a format after a run
+
+-- it is refused for want of good blocks alone
+pub format-again : (p : Params) (b : Board) → replyOf p b format ≡ Accepted → (ss : List Step)
+    → replyOf p (boardAfter p b ss) format ≡ cond (tooFewBlocks p (boardAfter p b ss)) TooFewBlocks Accepted
+unfolding replyOf rowsOf lentRows firstRow badParameter wrongLength
+format-again p b e ss = let a = format-admitted p b e in rw (a .fine, trace-long p b ss (a .lengths))

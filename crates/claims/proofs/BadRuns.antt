@@ -6,31 +6,26 @@ use mathlib.Core.Logic.{_⊎_, inl, inr}
 use Prim.Native.Nat.{ℕ, zero, suc, _+_, _*_, _≤_, _<_, min}
 use native.Mathlib.Omega.{arith}
 use native.Mathlib.Decide.{ℕ-discrete}
-use mathlib.Core.Bool.{Bool, true, false, not, _&&_, _||_, cond, false≢true, or-false}
+use mathlib.Core.Bool.{Bool, true, false, not, _&&_, _||_, cond, false≢true}
 use mathlib.Core.List.{List, [], _∷_, _++_}
 use lib.Dec.{eqb, leb}
 use lib.ListN.{drop, getD, length, length-replicate, length-set, replicate, set, take}
 use lib.Seq.{getD-set-other, getD-set-same}
-use borrow.Author.Tests.{eq-eqb, eqb-false, eqb-true, leb-true, ne-eqb}
-use Rattle.lists.specs.Below.{joinBelow}
+use borrow.Author.Tests.{eq-eqb, eqb-true, leb-true, ne-eqb}
 use Rattle.lists.specs.Parts.{allAre, part}
-use Rattle.lists.proofs.Joins.{allAre-at, allAre-drop, allAre-replicate}
-use Rattle.lists.proofs.Tests.{and-left, and-right, never, or-neither, so, truths}
+use Rattle.lists.proofs.Joins.{allAre-drop, allAre-replicate}
+use Rattle.lists.proofs.Tests.{and-left, and-right, or-neither, so}
 use Rattle.rules.specs.declared.Params.{Params}
-use Rattle.rules.specs.declared.Reply.the-variants.{Accepted}
-use Rattle.rules.specs.Parameters.{allowed, blockBytes, chipBytes, pageBytes, pages}
-use Rattle.rules.specs.Tables.{Board, bstAt, btAt, none, wearAt}
+use Rattle.rules.specs.Parameters.{blockBytes, chipBytes, pageBytes, pages}
+use Rattle.rules.specs.Tables.{wearAt}
 use Rattle.rules.specs.Pages.{block, page, spare}
-use Rattle.rules.specs.Traces.{Op, clean, erase, eraseOps, eraseWhere, frameOps, framesOps, mark, onChip, onWear, pageAt, program, replayChip, replayWear, worn}
+use Rattle.rules.specs.Traces.{Op, clean, erase, mark, onChip, onWear, pageAt, program, replayChip, replayWear, worn}
 use Rattle.rules.specs.Format.{bad, badMark}
 use Rattle.rules.proofs.BadBytes.{blank-good, bytes-bad, erased-fifth}
 use Rattle.rules.proofs.Replays.{block-size}
-use Rattle.rules.proofs.Erases.{erasesBelow, wear-ahead, wear-append, where-below}
 use Rattle.rules.proofs.MarkedBlocks.{mark-ran, marked-bad}
-use Rattle.rules.proofs.Sizes.{Sizes, sizes, some-page}
+use Rattle.rules.proofs.Sizes.{Sizes, some-page}
 use Rattle.rules.proofs.TableFacts.{chip-size}
-use Rattle.rules.proofs.WornBlocks.{wear-out-wear}
-use Rattle.rules.proofs.Writes.{wear-length}
 use Rattle.lists.proofs.Parts.{next}
 use Rattle.claims.specs.Runs.{AllFit, Fits, erasesBlock}
 use Rattle.claims.proofs.Once.{erased-block, op-length, other-block, page-of, program-other, program-same}

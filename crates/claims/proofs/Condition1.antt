@@ -27,6 +27,7 @@ use Rattle.rules.specs.Cuts.{limited, stepOutcome}
 use Rattle.rules.proofs.Admitted.{admitted, release-admitted, write-checks, write-free}
 use Rattle.rules.proofs.Continues.{Makes}
 use Rattle.rules.proofs.Counts.{format-counts, start-counts}
+use Rattle.rules.proofs.FormatPromise.{format-enough}
 use Rattle.rules.proofs.Outcomes.{format-accepted, all-answer, all-bytes, all-lent, call-refused, is-refused, queue-accepted, read-accepted, release-accepted, reply-cases, reply-is, start-accepted, write-accepted}
 use Rattle.rules.proofs.RegionFacts.{neat}
 use Rattle.rules.proofs.Releases.{entry-none, release-same}
@@ -35,7 +36,7 @@ use Rattle.rules.proofs.TableFacts.{marks-in, tables-in}
 use Rattle.rules.proofs.Totals.{blocks-total, used-total}
 use Rattle.rules.proofs.Views.{HasFree}
 use Rattle.rules.proofs.WritePromise.{makes, write-promise}
-use Rattle.starts.proofs.Again.{same-but-wear}
+use Rattle.starts.proofs.Again.{same-but}
 use Rattle.starts.proofs.StartTables.{swept}
 use Rattle.claims.specs.Runs.{sectorAt}
 use Rattle.claims.proofs.PlainRuns.{plainBoard, plainLeaves}
@@ -142,6 +143,7 @@ format-formats p b e =
       erases = ap (λ (a : Answer). a .erases) k;
       looks = ap (λ (a : Answer). a .looks) k;
       stamps = λ r h. rw (format-accepted p b e) (format-stamp p b r);
+      room = rw (format-accepted p b e) (format-enough p b e);
     }
 
 read-reads : (p : Params) (b : Board) (q : Request) → replyOf p b (read q) ≡ Accepted → Reads p b q (outcomeOf p b (read q))
@@ -169,7 +171,7 @@ start-starts : (p : Params) (b : Board) → replyOf p b start ≡ Accepted → S
 unfolding answerOf
 start-starts p b e =
     let a = start-admitted p b e in
-    let k = start-counts p (b .chip) in
+    let k = start-counts p (b .chip) (b .wear) in
     rw (start-accepted p b e)
     (record {
       programs = k .0;
@@ -177,7 +179,7 @@ start-starts p b e =
       looks = refl;
       others = (swept p b a) .kept;
       again = start-again p b a;
-      wear = λ b″ same e″. rw (start-accepted p b″ e″) (same-but-wear p b b″ (sym same));
+      wear = λ b″ same e″. rw (start-accepted p b″ e″) (same-but p b b″ a (start-admitted p b″ e″) (sym same));
     })
 
 -- ---- a queue

@@ -22,7 +22,7 @@ use Rattle.starts.proofs.Steady.{untouched}
 use Rattle.claims.specs.Runs.{Belief, Known, Memory, beliefAfter, boardAfter, lost, nothing, stands}
 use Rattle.claims.specs.Conditions.{Condition2, Holds, Intact, ReadBackAfterCut, Restarts}
 use Rattle.claims.specs.Stamps.{StampsOverRuns}
-use Rattle.claims.proofs.Again.{format-again, run-bad}
+use Rattle.claims.proofs.Again.{format-again, run-new, run-still}
 use Rattle.claims.proofs.Beliefs.{Believed}
 use Rattle.claims.proofs.Condition1.{in-order}
 use Rattle.claims.proofs.CutCalls.{format-known, format-stands}
@@ -77,7 +77,8 @@ condition-2 p b e ss =
       erased = t .erased;
       once = trace-once p b run (a .lengths);
       again = format-again p b e run;
-      sameBad = run-bad p (a .fine) b run (a .lengths);
+      stillBad = λ n h. run-still p (a .fine) n h b run (a .lengths);
+      newBad = λ n h. run-new p (a .fine) n h b run (a .lengths);
     }
 
 pub read-back-after-cut : ReadBackAfterCut

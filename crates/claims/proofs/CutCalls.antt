@@ -165,12 +165,12 @@ module _ (p : Params) (fine : allowed p ≡ true) (b b′ : Board) (lengths : le
   cut-format : (x : Belief) → replyOf p b format ≡ Accepted → n ≤ length (opsOf ((workOf p b format) .parts)) → Cut format x
   cut-format x e few = rw (one-cut p b b′ format x n tt e few) (unfold doubts in tt)
 
-  start-ops : replyOf p b start ≡ Accepted → opsOf ((workOf p b start) .parts) ≡ startOps p (b .chip)
+  start-ops : replyOf p b start ≡ Accepted → opsOf ((workOf p b start) .parts) ≡ startOps p (b .chip) (b .wear)
   unfolding opsBy doneOps
   start-ops e = accepted-ops p b start tt e
 
   -- cut or not, its chip shows the same board
-  start-doubted : (x : Belief) → Believed p b x → LostAs p (replayChip p (b .chip) (take n (startOps p (b .chip)))) (doubts start x)
+  start-doubted : (x : Belief) → Believed p b x → LostAs p (replayChip p (b .chip) (take n (startOps p (b .chip) (b .wear)))) (doubts start x)
   unfolding doubts losing
   start-doubted nothing h = tt
   start-doubted (stands k) h = as-old b (start-cut p fine b b lengths (untouched p b (h .0 .stands)) n) (h .1) (h .0 .left)

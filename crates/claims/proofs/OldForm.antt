@@ -17,7 +17,7 @@ use Rattle.rules.specs.Orderly.{blocksRule, ctRule, fstRule, marksRule, orderly
 use Rattle.rules.specs.Traces.{Op}
 use Rattle.rules.specs.Requests.{Call, Request, format, lent, read, release, requestCluster, requestRegion, write}
 use Rattle.rules.specs.Format.{formatted}
-use Rattle.rules.specs.Write.{Plan, continues, eraseOps, opens, nextStamp, planBlock, planBst, planOf, planOps, reclaims, roomOps, writeOps, written, writtenBy}
+use Rattle.rules.specs.Write.{Plan, continues, victimOps, opens, nextStamp, planBlock, planBst, planOf, planOps, reclaims, roomOps, writeOps, written, writtenBy}
 use Rattle.rules.specs.Regions.{looksAt, sector, view}
 use Rattle.rules.specs.Release.{released}
 use Rattle.rules.specs.Replies.{accessRows, badCluster, blockRow, earlyRows, isAccepted, lengthsFit, lentRows, noBlockLeft, noStampLeft, notOrderly, orderRow, replyOf, row, rowsOf, stampRow, tooFewBlocks, wrongLength}
@@ -83,7 +83,7 @@ unfolding looksAt
 same-looks p b q = refl
 
 plan-ops : (p : Params) (b : Board) (r : ℕ) (q : Request) (pl : Plan) → planOps p b r q pl ≡ planOps p (withoutMarks (oldOf b)) r q pl
-unfolding planOps roomOps planBlock eraseOps nextStamp
+unfolding planOps roomOps planBlock victimOps nextStamp
 plan-ops p b r q (continues v f) = refl
 plan-ops p b r q (opens v) = refl
 plan-ops p b r q (reclaims v) = refl
@@ -97,7 +97,7 @@ unfolding formatted
 same-format p b = refl
 
 plan-board : (p : Params) (b : Board) (r : ℕ) (q : Request) (pl : Plan) → oldOf (writtenBy p b r q pl) ≡ oldOf (writtenBy p (withoutMarks (oldOf b)) r q pl)
-unfolding writtenBy planOps roomOps planBlock eraseOps planBst nextStamp
+unfolding writtenBy planOps roomOps planBlock victimOps planBst nextStamp
 plan-board p b r q (continues v f) = refl
 plan-board p b r q (opens v) = refl
 plan-board p b r q (reclaims v) = refl

@@ -22,11 +22,11 @@ use Rattle.rules.specs.declared.Params.{Params}
 use Rattle.rules.specs.declared.Reply.the-variants.{Accepted}
 use Rattle.rules.specs.Parameters.{frameBytes, frames, pageBytes, pages}
 use Rattle.rules.specs.Numbers.{regionOf}
-use Rattle.rules.specs.Tables.{Board, none}
+use Rattle.rules.specs.Tables.{Board, btAt, none}
 use Rattle.rules.specs.Pages.{filled, frame, held, page, programmed, spare, spareBytes, stampOf}
 use Rattle.rules.specs.Regions.{assigned, valid, validFrames, view}
 use Rattle.rules.specs.Traces.{eraseOps, eraseWhere, frameOps, framesOps, mark, program, worn}
-use Rattle.rules.specs.Write.{planErases, Plan, continues, copies, eraseOps, hasRoom, lowestUnassigned, newFrame, opens, planBlock, planFrame, planOf, planOps, planVBlock, reclaims, roomOps, writeOps, nextStamp}
+use Rattle.rules.specs.Write.{planErases, Plan, continues, copies, victimOps, hasRoom, lowestUnassigned, newFrame, opens, planBlock, planFrame, planOf, planOps, planVBlock, reclaims, roomOps, writeOps, nextStamp}
 use Rattle.rules.specs.Replies.{replyOf}
 use Rattle.rules.specs.Words.{SpareListed}
 use Rattle.rules.specs.Requests.{Request, write, requestCluster}

@@ -3,14 +3,16 @@
 -- Assumes nothing.
 use mathlib.Core.Path.{_≡_, refl, sym, ap, _∙_}
 use mathlib.Core.Logic.{_⊎_, inl, inr}
-use Prim.Native.Nat.{ℕ, zero, suc, _*_, _<_}
+use Prim.Native.Nat.{ℕ, zero, suc, _+_, _*_, _≤_, _<_}
 use native.Mathlib.Nat.{div-lt-iff-lt-mul}
 use native.Mathlib.Omega.{arith}
-use mathlib.Core.Bool.{true, false}
+use native.Mathlib.Decide.{ℕ-discrete}
+use mathlib.Core.Bool.{Bool, true, false, _&&_, cond}
 use mathlib.Core.List.{List, [], _∷_}
 use lib.ListN.{length, take}
 use lib.Seq.{take-all}
 use borrow.Author.Tests.{eqb-false}
+use Rattle.lists.specs.Below.{countBelow}
 use Rattle.lists.proofs.Joins.{updated-other, updated-same}
 use Rattle.lists.proofs.Tests.{or-neither, so}
 use Rattle.rules.specs.declared.Params.{Params}
@@ -21,7 +23,7 @@ use Rattle.rules.specs.Orderly.{orderly}
 use Rattle.rules.specs.Requests.{Request, requestCluster, start, write}
 use Rattle.rules.specs.Replies.{OrderlyBoard, lengthsFit}
 use Rattle.rules.specs.Start.{leftOver, startOps, started}
-use Rattle.rules.specs.Traces.{Op, erasesIn, replayChip, replayWear}
+use Rattle.rules.specs.Traces.{Op, erasesIn, replayChip, replayWear, worn}
 use Rattle.rules.specs.Calls.{Outcome, answerOf, outcomeOf}
 use Rattle.rules.specs.Cuts.{cutBoard, isCut, limited}
 use Rattle.rules.proofs.Admitted.{Asked}
@@ -57,14 +59,28 @@ back : (p : Params) → allowed p ≡ true → (b₀ : Board) → lengthsFit p b
 back p fine b₀ lengths k short (as-old b shows reads left) = (b, old-recovers p fine b₀ b lengths shows)
 back p fine b₀ lengths k short (as-new b q is ask shows reads left) = (b, old-recovers p fine b₀ b lengths shows)
 
--- what a start leaves is made of the chip and the wear alone; its operations are erases
+-- what a start leaves is made of the chip and the wear alone
 same-started : (p : Params) (b b′ : Board) → b .chip ≡ b′ .chip → b .wear ≡ b′ .wear → started p b ≡ started p b′
 unfolding started
 same-started p b b′ chip wear = rw (chip, wear)
 
-start-long : (p : Params) (chip : List ℕ) → length (startOps p chip) ≡ erasesIn (startOps p chip)
+-- fewer pass two tests than one
+count-both : (n : ℕ) (f g : ℕ → Bool) → countBelow n (λ i. f i && g i) ≤ countBelow n f
+unfolding countBelow
+count-both zero f g = omega arith
+count-both (suc n) f g = omega (arith, count-both n f g, one (f n) (g n))
+  where
+    one : (s t : Bool) → cond {A = ℕ} (s && t) 1 0 ≤ cond s 1 0
+    one true true = omega arith
+    one true false = omega arith
+    one false t = omega arith
+
+-- its operations are an erase for each block left over, and a mark at most for each
+start-long : (p : Params) (chip wear : List ℕ) → length (startOps p chip wear) ≤ erasesIn (startOps p chip wear) + erasesIn (startOps p chip wear)
 unfolding startOps
-start-long p chip = rw (where-below p (leftOver p chip)) (erases-long (leftOver p chip) (p .N) ∙ sym ((erases-counted (leftOver p chip) (p .N)) .1))
+start-long p chip wear =
+    rw (where-below p wear (leftOver p chip), erases-long p wear (leftOver p chip) (p .N), (erases-counted p wear (leftOver p chip) (p .N)) .1)
+    (omega (arith, count-both (p .N) (leftOver p chip) (worn p wear)))
 
 -- ---- a start on board b₀, whose chip shows b
 
@@ -100,28 +116,40 @@ module _ (p : Params) (fine : allowed p ≡ true) (b₀ : Board) (lengths : leng
   unfolding learns
   lost-start k short l = let w = (back p fine b₀ lengths k short l) .1 in (w .stands, λ c h x. w .clear c h)
 
-  -- ---- a start that is cut, which has one operation at most
+  -- ---- a start that is cut, which has an erase and its mark at most
 
-  pub lost-cut : (k : Known) (short : List Request) → Lost p k short (b₀ .chip) → (n : ℕ) → Lost p k short (replayChip p (b₀ .chip) (take n (startOps p (b₀ .chip))))
+  pub lost-cut : (k : Known) (short : List Request) → Lost p k short (b₀ .chip) → (n : ℕ) → Lost p k short (replayChip p (b₀ .chip) (take n (startOps p (b₀ .chip) (b₀ .wear))))
   lost-cut k short (as-old b shows reads left) n = as-old b (start-cut p fine b₀ b lengths shows n) reads left
   lost-cut k short (as-new b q is ask shows reads left) n = as-new b q is ask (start-cut p fine b₀ b lengths shows n) reads left
 
   -- the next one has the same chip and wear before it, or those that this one would have left
-  cut-same : (k : Known) (short : List Request) → Lost p k short (b₀ .chip) → (n : ℕ) → started p (cutBoard p b₀ (take n (startOps p (b₀ .chip)))) ≡ started p b₀
+  cut-same : (k : Known) (short : List Request) → Lost p k short (b₀ .chip) → (n : ℕ) → ((n ≡ 1) × (length (startOps p (b₀ .chip) (b₀ .wear)) ≡ 2) → ⊥)
+      → started p (cutBoard p b₀ (take n (startOps p (b₀ .chip) (b₀ .wear)))) ≡ started p b₀
   unfolding cutBoard replayChip replayWear
-  cut-same k short l zero = same-started p (cutBoard p b₀ []) b₀ refl refl
-  cut-same k short l (suc n) =
-      rw (take-all (suc n) (startOps p (b₀ .chip)) (omega (arith, start-long p (b₀ .chip), ((back p fine b₀ lengths k short l) .1) .once)))
+  cut-same k short l zero ne = same-started p (cutBoard p b₀ []) b₀ refl refl
+  cut-same k short l (suc n) ne =
+      rw (take-all (suc n) (startOps p (b₀ .chip) (b₀ .wear)) (few (ℕ-discrete n 0)))
       (all-made ∙ again-same p b₀ (((back p fine b₀ lengths k short l) .1) .admitted))
     where
-      all-made : started p (cutBoard p b₀ (startOps p (b₀ .chip))) ≡ started p (started p b₀)
-      all-made = same-started p (cutBoard p b₀ (startOps p (b₀ .chip))) (started p b₀) (unfold started in refl) (unfold started in refl)
+      most : length (startOps p (b₀ .chip) (b₀ .wear)) ≤ 2
+      most = omega (arith, start-long p (b₀ .chip) (b₀ .wear), ((back p fine b₀ lengths k short l) .1) .once)
 
-  cut-again : (k : Known) (short : List Request) → Lost p k short (b₀ .chip) → (n : ℕ) → isCut p b₀ (limited n start) ≡ true
+      few : Dec (n ≡ 0) → length (startOps p (b₀ .chip) (b₀ .wear)) ≤ suc n
+      few (no d) = omega (arith, most)
+      few (yes d) = pick (ℕ-discrete (length (startOps p (b₀ .chip) (b₀ .wear))) 2)
+        where
+          pick : Dec (length (startOps p (b₀ .chip) (b₀ .wear)) ≡ 2) → length (startOps p (b₀ .chip) (b₀ .wear)) ≤ suc n
+          pick (yes e) = absurd (ne (ap suc d, e))
+          pick (no e) = omega (arith, most, e)
+
+      all-made : started p (cutBoard p b₀ (startOps p (b₀ .chip) (b₀ .wear))) ≡ started p (started p b₀)
+      all-made = same-started p (cutBoard p b₀ (startOps p (b₀ .chip) (b₀ .wear))) (started p b₀) (unfold started in refl) (unfold started in refl)
+
+  cut-again : (k : Known) (short : List Request) → Lost p k short (b₀ .chip) → (n : ℕ) → isCut p b₀ (limited n start) ≡ true → ((n ≡ 1) × (length (startOps p (b₀ .chip) (b₀ .wear)) ≡ 2) → ⊥)
       → (outcomeOf p (leaves p b₀ (limited n start)) start) .board ≡ started p b₀
-  cut-again k short l n e = again-board ∙ rw left (cut-same k short l n)
+  cut-again k short l n e ne = again-board ∙ rw left (cut-same k short l n ne)
     where
-      left : leaves p b₀ (limited n start) ≡ cutBoard p b₀ (take n (startOps p (b₀ .chip)))
+      left : leaves p b₀ (limited n start) ≡ cutBoard p b₀ (take n (startOps p (b₀ .chip) (b₀ .wear)))
       left = cut-leaves p b₀ n start e ∙ ap (λ (os : List Op). cutBoard p b₀ (take n os)) (unfold opsBy doneOps in accepted-ops p b₀ start tt ((cut-is p b₀ n start e) .1))
 
       lost-there : Lost p k short ((leaves p b₀ (limited n start)) .chip)

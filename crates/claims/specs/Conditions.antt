@@ -11,22 +11,22 @@ use lib.Dec.{eqb}
 use Rattle.lists.specs.Below.{countBelow, joinBelow}
 use Rattle.rules.specs.declared.Params.{Params}
 use Rattle.rules.specs.declared.Answer.{Answer}
-use Rattle.rules.specs.declared.Reply.the-variants.{Accepted, NoBlockLeft}
+use Rattle.rules.specs.declared.Reply.the-variants.{Accepted, NoBlockLeft, TooFewBlocks}
 use Rattle.rules.specs.Parameters.{frames, pages}
 use Rattle.rules.specs.Numbers.{clusterOf, regionOf, sectorOf}
 use Rattle.rules.specs.Pages.{block, held}
-use Rattle.rules.specs.Tables.{Board, none, ctAt, btEntry, bstAt, markIndex, marksLength, wordAt, stampAt}
+use Rattle.rules.specs.Tables.{Board, none, ctAt, btEntry, bstAt, markIndex, marksLength, wearAt, wordAt, stampAt}
 use Rattle.rules.specs.Regions.{looksAt, view}
 use Rattle.rules.specs.Orderly.{enough, orderly}
 use Rattle.rules.specs.Traces.{replayChip, replayWear, clean}
 use Rattle.rules.specs.Requests.{Request, requestCluster, requestRegion, Queue, Call, format, read, write, release, queue, start, lent, lentAnswers}
-use Rattle.rules.specs.Format.{bad, goodBlocks}
-use Rattle.rules.specs.Start.{leftOver}
+use Rattle.rules.specs.Format.{bad}
+use Rattle.rules.specs.Start.{leftOver, startOps}
 use Rattle.rules.specs.Write.{Plan, reclaims, planOf, takesBlock, planErases, planFrame, planBlock, copies}
-use Rattle.rules.specs.Replies.{OrderlyBoard, Row, replyOf, rowsOf}
+use Rattle.rules.specs.Replies.{OrderlyBoard, Row, replyOf, rowsOf, tooFewBlocks}
 use Rattle.rules.specs.Calls.{Outcome, Part, answersIn, opsOf, outcomeOf, over, workOf}
 use Rattle.rules.specs.Cuts.{Step, plain, limited, cutPart, finished, hasBudget, isCut, stepOutcome}
-use Rattle.starts.specs.Again.{SameButWear}
+use Rattle.starts.specs.Again.{SameBut}
 use Rattle.starts.specs.Latest.{latest}
 use Rattle.claims.specs.Runs.{AllFit, Belief, Known, Memory, beliefAfter, boardAfter, cleared, given, leaves, lost, noPageTwice, nothing, partsOf, requestsTo, roomy, sectorAt, stands, toldTo, traceOf, uncut, undisturbed}
 
@@ -68,12 +68,14 @@ pub record InOrder (p : Params) (b : Board) : Type 0 where
   pub all : blocksOf p b 0 + blocksOf p b 1 + blocksOf p b 2 ≡ p .N
   pub used : blocksOf p b 1 ≡ assignedBlocks p b
 
--- "a format reports 0 programs and one erase for each block not bad"; T-08: 0 spare areas "from other calls"; T-07: each last stamp is "0 at format"
+-- "a format reports 0 programs and one erase for each block not bad"; T-08: 0 spare areas "from other calls"; T-07: each last stamp is "0 at format". T-12: it leaves at least μγ+1 blocks that
+-- are not reserved
 pub record Formats (p : Params) (b : Board) (o : Outcome) : Type 0 where
   pub programs : o .answer .programs ≡ 0
-  pub erases : o .answer .erases ≡ goodBlocks p (b .chip)
+  pub erases : o .answer .erases ≡ countBelow (p .N) (λ n. not (bad p (b .chip) n))
   pub looks : o .answer .looks ≡ 0
   pub stamps : (r : ℕ) → r < p .mu → stampAt (o .board .stamps) r ≡ 0
+  pub room : enough p (o .board) ≡ true
 
 -- "A read reports 0 and 0 and writes only its data buffer": each sector as its LBA reads. T-08: it reports the search for its cluster's valid frame
 pub record Reads (p : Params) (b : Board) (q : Request) (o : Outcome) : Type 0 where
@@ -119,14 +121,14 @@ pub record Serves (l : Queue) (o : Outcome) : Type 0 where
   pub past : drop (length (l .items)) (o .answers) ≡ drop (length (l .items)) (l .answers)
 
 -- T-07, an accepted start, on any chip: it programs nothing and "reports its erases", one for each block that is left over; every other block keeps its bytes. Made again it
--- changes nothing. "any wear serves": of what is lent the chip alone decides what it leaves, but for the wear, which counts on
+-- changes nothing. "any wear serves": of what is lent the chip alone decides what it leaves, but for the wear, which counts on, and with T-12 for whether a block that is left over is worn out
 pub record Starts (p : Params) (b : Board) (o : Outcome) : Type 0 where
   pub programs : o .answer .programs ≡ 0
   pub erases : o .answer .erases ≡ countBelow (p .N) (leftOver p (b .chip))
   pub looks : o .answer .looks ≡ 0
   pub others : (n : ℕ) → leftOver p (b .chip) n ≡ false → block p (o .board .chip) n ≡ block p (b .chip) n
   pub again : outcomeOf p (o .board) start ≡ record { answer = record { reply = Accepted; programs = 0; erases = 0; looks = 0 }; bytes = []; answers = []; board = o .board }
-  pub wear : (b″ : Board) → b″ .chip ≡ b .chip → replyOf p b″ start ≡ Accepted → SameButWear (o .board) ((outcomeOf p b″ start) .board)
+  pub wear : (b″ : Board) → b″ .chip ≡ b .chip → replyOf p b″ start ≡ Accepted → SameBut p (leftOver p (b .chip)) (o .board) ((outcomeOf p b″ start) .board)
 
 -- T-07, which parts of a call are finished once k operations are made: the first ones, which make fewer than k, and with the one that is cut, if one is, there are k
 pub record Finishes (k : ℕ) (parts : List Part) : Type 0 where
@@ -210,7 +212,7 @@ ReadsAs p b c m = (a : ℕ) → a < p .C * p .alpha → clusterOf p a ≡ c → 
 
 -- T-07, a board b whose tables a cut took: it is not orderly, so that by the table every read, write and release is refused. A start is accepted, erases one block at most and
 -- leaves order. "Every accepted write then reads back, as does each item that a cut queue had finished unrefused; the write cut short reads wholly old or wholly new": new is what it
--- gave, over what the host last knew of its cluster, which is all ones if that was released. A start that is cut, and made again, leaves the same
+-- gave, over what the host last knew of its cluster, which is all ones if that was released. A start that is cut, and made again, leaves the same, unless it is cut between the erase of a block that it wears out and its mark: that block is then free
 pub record Recovered (p : Params) (b : Board) (k : Known) (short : List Request) (o : Outcome) : Type 0 where
   pub gone : orderly p b ≡ false
   pub accepted : o .answer .reply ≡ Accepted
@@ -218,7 +220,8 @@ pub record Recovered (p : Params) (b : Board) (k : Known) (short : List Request)
   pub order : InOrder p (o .board)
   pub kept : (c : ℕ) → among p short c ≡ false → ReadsAs p (o .board) c (old p b k)
   pub whole : (q : Request) → short ≡ q ∷ [] → ReadsAs p (o .board) (requestCluster p q) (old p b k) ⊎ ReadsAs p (o .board) (requestCluster p q) (given p q (k .memory))
-  pub again : (n : ℕ) → isCut p b (limited n start) ≡ true → (outcomeOf p (leaves p b (limited n start)) start) .board ≡ o .board
+  pub again : (n : ℕ) → isCut p b (limited n start) ≡ true → ((n ≡ 1) × (length (startOps p (b .chip) (b .wear)) ≡ 2) → ⊥)
+      → (outcomeOf p (leaves p b (limited n start)) start) .board ≡ o .board
 
 -- what holds, by what the host knows; after a cut format nothing is promised until a format is accepted
 abbrev pub Holds : Params → Board → Belief → Type 0
@@ -239,9 +242,11 @@ pub record OfRun (p : Params) (b : Board) (run : List Step) (b′ : Board) : Typ
   -- "Each page that the steps program is 255 throughout just before"; "No page is programmed twice between erases"
   pub erased : clean p (b .chip) (traceOf p b run) ≡ true
   pub once : noPageTwice (traceOf p b run)
-  -- a format is accepted again, and finds the blocks bad that the first one found
-  pub again : replyOf p b′ format ≡ Accepted
-  pub sameBad : (n : ℕ) → n < p .N → bad p (b′ .chip) n ≡ bad p (b .chip) n
+  -- a format may come again: it is refused for want of good blocks alone
+  pub again : replyOf p b′ format ≡ cond (tooFewBlocks p b′) TooFewBlocks Accepted
+  -- the blocks that the first one found bad still are, and no other is but by wear
+  pub stillBad : (n : ℕ) → n < p .N → bad p (b .chip) n ≡ true → bad p (b′ .chip) n ≡ true
+  pub newBad : (n : ℕ) → n < p .N → bad p (b′ .chip) n ≡ true → (bad p (b .chip) n ≡ true) ⊎ (p .E ≤ wearAt (b′ .wear) n)
 
 abbrev pub Condition2 : Type 0
 Condition2 = (p : Params) (b : Board) → replyOf p b format ≡ Accepted → (ss : List Step) → OfRun p b (plain format ∷ ss) (boardAfter p b (plain format ∷ ss))

@@ -77,7 +77,7 @@ oldCall o r lent ops looks bytes o′ =
 unfoldable pub oldFormat : Params → OldBoard → OldOutcome
 oldFormat p o =
     let b = withoutMarks o in
-    oldCall o (oldReply p o (row (tooFewBlocks p b) TooFewBlocks ∷ [])) [] (formatOps p (o .chip)) 0 [] (oldOf (formatted p b))
+    oldCall o (oldReply p o (row (tooFewBlocks p b) TooFewBlocks ∷ [])) [] (formatOps p (o .chip) (o .wear)) 0 [] (oldOf (formatted p b))
 
 unfoldable pub oldRead : Params → OldBoard → Request → OldOutcome
 oldRead p o q =
