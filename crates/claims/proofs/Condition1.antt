@@ -126,12 +126,16 @@ none-orderly p b q h =
       tidy = not-false _ (not-true _ (and-left (not (notOrderly p b)) _ o));
     }
 
--- so while at least μγ+1 blocks are not reserved row 10 does not apply
-never-full : (p : Params) (b : Board) (q : Request) → enough p b ≡ true → replyOf p b (write q) ≡ NoBlockLeft → ⊥
+-- one that gets 10 has passed them, and its row applies
+pub row-ten : (p : Params) (b : Board) (q : Request) → replyOf p b (write q) ≡ NoBlockLeft → OrderlyBoard p b × (noBlockLeft p b (requestRegion p q) ≡ true)
 unfolding rowsOf blockRow
-never-full p b q room e =
+row-ten p b q e =
     let w = (reply-by-table p b (write q)) .listed (earlyRows p b q) [] (row (noBlockLeft p b (requestRegion p q)) NoBlockLeft) refl .0 e in
-    never (w .1) (enough-found p b (none-orderly p b q (w .0)) room (requestRegion p q))
+    (none-orderly p b q (w .0), w .1)
+
+-- so while at least μγ+1 blocks are not reserved none does
+never-full : (p : Params) (b : Board) (q : Request) → enough p b ≡ true → replyOf p b (write q) ≡ NoBlockLeft → ⊥
+never-full p b q room e = let w = row-ten p b q e in never (w .1) (enough-found p b (w .0) room (requestRegion p q))
 
 -- ---- the others
 

@@ -20,6 +20,7 @@ pub mod Beliefs
 pub mod CutCalls
 pub mod Condition2
 pub mod Roomy
+pub mod Life
 pub mod RegionMachine
 pub mod Condition3
 pub mod Unique

@@ -7,14 +7,14 @@ use Prim.Native.Nat.{ℕ, zero, suc, _+_, _*_, _≤_, _<_}
 use native.Mathlib.Nat.{div-lt-iff-lt-mul}
 use native.Mathlib.Omega.{arith}
 use native.Mathlib.Decide.{ℕ-discrete}
-use mathlib.Core.Bool.{Bool, true, false, _&&_, cond}
+use mathlib.Core.Bool.{true, false, _&&_}
 use mathlib.Core.List.{List, [], _∷_}
 use lib.ListN.{length, take}
 use lib.Seq.{take-all}
 use borrow.Author.Tests.{eqb-false}
-use Rattle.lists.specs.Below.{countBelow}
+use Rattle.lists.proofs.Counts.{count-less}
 use Rattle.lists.proofs.Joins.{updated-other, updated-same}
-use Rattle.lists.proofs.Tests.{or-neither, so}
+use Rattle.lists.proofs.Tests.{and-left, or-neither, so}
 use Rattle.rules.specs.declared.Params.{Params}
 use Rattle.rules.specs.Parameters.{allowed}
 use Rattle.rules.specs.Numbers.{clusterOf, sectorOf}
@@ -64,23 +64,12 @@ same-started : (p : Params) (b b′ : Board) → b .chip ≡ b′ .chip → b .w
 unfolding started
 same-started p b b′ chip wear = rw (chip, wear)
 
--- fewer pass two tests than one
-count-both : (n : ℕ) (f g : ℕ → Bool) → countBelow n (λ i. f i && g i) ≤ countBelow n f
-unfolding countBelow
-count-both zero f g = omega arith
-count-both (suc n) f g = omega (arith, count-both n f g, one (f n) (g n))
-  where
-    one : (s t : Bool) → cond {A = ℕ} (s && t) 1 0 ≤ cond s 1 0
-    one true true = omega arith
-    one true false = omega arith
-    one false t = omega arith
-
 -- its operations are an erase for each block left over, and a mark at most for each
 start-long : (p : Params) (chip wear : List ℕ) → length (startOps p chip wear) ≤ erasesIn (startOps p chip wear) + erasesIn (startOps p chip wear)
 unfolding startOps
 start-long p chip wear =
     rw (where-below p wear (leftOver p chip), erases-long p wear (leftOver p chip) (p .N), (erases-counted p wear (leftOver p chip) (p .N)) .1)
-    (omega (arith, count-both (p .N) (leftOver p chip) (worn p wear)))
+    (omega (arith, count-less (p .N) (λ n. leftOver p chip n && worn p wear n) (leftOver p chip) (λ n h e. and-left (leftOver p chip n) _ e)))
 
 -- ---- a start on board b₀, whose chip shows b
 

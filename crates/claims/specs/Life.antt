@@ -1,0 +1,36 @@
+-- T-12: how long a board lasts. From an accepted format on, a write is refused with 10 only once so many erases were made that all but μγ of the blocks that were not bad are worn out.
+-- proofs/Life.antt has the theorem.
+-- Assumes nothing.
+use Prim.Native.Nat.{ℕ, zero, suc, _+_, _-_, _*_, _≤_}
+use mathlib.Core.Path.{_≡_}
+use mathlib.Core.Bool.{not, cond}
+use mathlib.Core.List.{List, _∷_}
+use Rattle.lists.specs.Below.{countBelow}
+use Rattle.rules.specs.declared.Params.{Params}
+use Rattle.rules.specs.declared.Reply.the-variants.{Accepted, NoBlockLeft}
+use Rattle.rules.specs.Tables.{Board, wearAt}
+use Rattle.rules.specs.Traces.{erasesIn}
+use Rattle.rules.specs.Requests.{Request, format, write}
+use Rattle.rules.specs.Format.{bad}
+use Rattle.rules.specs.Replies.{replyOf}
+use Rattle.rules.specs.Cuts.{Step, plain}
+use Rattle.claims.specs.Runs.{Belief, Known, beliefAfter, boardAfter, leaves, stands, traceOf}
+
+-- f 0 + f 1 + .. , n of them
+unfoldable pub sumBelow : ℕ → (ℕ → ℕ) → ℕ
+sumBelow zero f = 0
+sumBelow (suc n) f = sumBelow n f + f n
+
+-- R: how many blocks are not bad; and their wear together
+unfoldable pub goodAtFormat : Params → Board → ℕ
+goodAtFormat p b = countBelow (p .N) (λ n. not (bad p (b .chip) n))
+
+unfoldable pub wearAtFormat : Params → Board → ℕ
+wearAtFormat p b = sumBelow (p .N) (λ n. cond (bad p (b .chip) n) 0 (wearAt (b .wear) n))
+
+-- a write that gets 10, after any calls through any cuts, wherever the tables stand: (R − μγ) · (E − 1) erases less the wear at the format came between
+abbrev pub Life : Type 0
+Life =
+    (p : Params) (b : Board) → replyOf p b format ≡ Accepted → (ss : List Step) (x : Belief) (k : Known) → beliefAfter p b (plain format ∷ ss) x ≡ stands k
+    → (q : Request) → replyOf p (boardAfter p b (plain format ∷ ss)) (write q) ≡ NoBlockLeft
+    → (goodAtFormat p b - p .mu * p .gamma) * (p .E - 1) ≤ wearAtFormat p b + erasesIn (traceOf p (leaves p b (plain format)) ss)
