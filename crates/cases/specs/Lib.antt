@@ -1,3 +1,4 @@
 pub mod BoardT
 pub mod StartT
 pub mod CutT
+pub mod WornT
