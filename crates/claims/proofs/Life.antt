@@ -13,9 +13,10 @@ use lib.Dec.{eqb}
 use lib.ListN.{getD, length, length-set, set}
 use lib.Seq.{getD-set-other, getD-set-same}
 use borrow.Author.Tests.{eq-eqb, eqb-false, eqb-true, ne-eqb, not-true}
-use Rattle.lists.specs.Below.{countBelow, joinBelow}
+use Rattle.lists.specs.Below.{countBelow, joinBelow, sumBelow}
 use Rattle.lists.proofs.Counts.{count-less, count-split}
-use Rattle.lists.proofs.Tests.{and-left, and-right, count-le, never, so}
+use Rattle.lists.proofs.Sums.{count-sum, sum-add, sum-most, sum-zero}
+use Rattle.lists.proofs.Tests.{and-left, and-right, count-le, never}
 use Rattle.rules.specs.declared.Params.{Params}
 use Rattle.rules.specs.declared.Reply.the-variants.{Accepted, NoBlockLeft}
 use Rattle.rules.specs.Tables.{Board, bstAt, btEntry, none, notFound, wearAt}
@@ -36,7 +37,7 @@ use Rattle.rules.proofs.Views.{HasFree, free-cases}
 use Rattle.starts.specs.Stands.{Stands}
 use Rattle.starts.proofs.Steady.{stands-tables}
 use Rattle.claims.specs.Runs.{boardAfter, leaves, stands, traceOf}
-use Rattle.claims.specs.Life.{Life, goodAtFormat, sumBelow, wearAtFormat}
+use Rattle.claims.specs.Life.{Life, goodAtFormat, wearAtFormat}
 use Rattle.claims.proofs.Again.{run-new}
 use Rattle.claims.proofs.Beliefs.{Believed}
 use Rattle.claims.proofs.Condition1.{row-ten}
@@ -45,52 +46,12 @@ use Rattle.claims.proofs.CutTraces.{step-long, trace-made}
 use Rattle.claims.proofs.Steps.{format-leaves}
 use Rattle.claims.proofs.PlainRuns.{first-plain}
 
--- ---- sums
-
-sum-add : (n : ℕ) (f g : ℕ → ℕ) → sumBelow n (λ i. f i + g i) ≡ sumBelow n f + sumBelow n g
-unfolding sumBelow
-sum-add zero f g = refl
-sum-add (suc n) f g = omega (arith, sum-add n f g)
-
--- each that passes has e at least
-count-sum : (n : ℕ) (h : ℕ → Bool) (e : ℕ) (f : ℕ → ℕ) → ((i : ℕ) → i < n → h i ≡ true → e ≤ f i) → countBelow n h * e ≤ sumBelow n f
-unfolding countBelow sumBelow
-count-sum zero h e f a = omega arith
-count-sum (suc n) h e f a = go (so (h n)) (count-sum n h e f (λ i k. a i (omega arith)))
-  where
-    go : (h n ≡ true) ⊎ (h n ≡ false) → countBelow n h * e ≤ sumBelow n f → (countBelow n h + cond (h n) 1 0) * e ≤ sumBelow n f + f n
-    go (inl t) below = rw t (omega (arith, below, a n (omega arith) t))
-    go (inr t) below = rw t (omega (arith, below))
-
--- one number among those below n is m at most once
-sum-one : (n m : ℕ) → (m < n → sumBelow n (λ i. cond (eqb m i) 1 0) ≤ 1) × (n ≤ m → sumBelow n (λ i. cond (eqb m i) 1 0) ≡ 0)
-unfolding sumBelow
-sum-one zero m = (λ h. omega arith, λ h. refl)
-sum-one (suc n) m = go (ℕ-discrete m n) (sum-one n m)
-  where
-    go : Dec (m ≡ n) → (m < n → sumBelow n (λ i. cond (eqb m i) 1 0) ≤ 1) × (n ≤ m → sumBelow n (λ i. cond (eqb m i) 1 0) ≡ 0)
-        → (m < suc n → sumBelow n (λ i. cond (eqb m i) 1 0) + cond (eqb m n) 1 0 ≤ 1) × (suc n ≤ m → sumBelow n (λ i. cond (eqb m i) 1 0) + cond (eqb m n) 1 0 ≡ 0)
-    go (yes e) w = (λ h. rw (eq-eqb m n e) (omega (arith, w .1 (omega arith))), λ h. absurd (omega arith))
-    go (no e) w = (λ h. rw (ne-eqb m n e) (omega (arith, w .0 (omega arith))), λ h. rw (ne-eqb m n e) (omega (arith, w .1 (omega arith))))
-
-sum-most : (n m : ℕ) → sumBelow n (λ i. cond (eqb m i) 1 0) ≤ 1
-sum-most n m = go (ℕ-discrete (n - m) 0)
-  where
-    go : Dec (n - m ≡ 0) → sumBelow n (λ i. cond (eqb m i) 1 0) ≤ 1
-    go (yes e) = omega (arith, (sum-one n m) .1 (omega arith))
-    go (no e) = (sum-one n m) .0 (omega arith)
-
 -- ---- erases and wear
-
-sum-none : (n : ℕ) → sumBelow n (λ i. 0) ≡ 0
-unfolding sumBelow
-sum-none zero = refl
-sum-none (suc n) = omega (arith, sum-none n)
 
 -- the erases of the blocks below n are among all
 erases-each : (n : ℕ) (os : List Op) → sumBelow n (λ i. erasesOf i os) ≤ erasesIn os
 unfolding erasesOf erasesIn isErase
-erases-each n [] = omega (arith, sum-none n)
+erases-each n [] = omega (arith, sum-zero n (λ i. 0) (λ i k. refl))
 erases-each n (program m q x ∷ os) = omega (arith, erases-each n os)
 erases-each n (mark m ∷ os) = omega (arith, erases-each n os)
 erases-each n (erase m ∷ os) = omega (arith, sum-add n (λ i. cond (eqb m i) 1 0) (λ i. erasesOf i os), sum-most n m, erases-each n os)

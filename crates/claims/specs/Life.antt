@@ -1,11 +1,11 @@
 -- T-12: how long a board lasts. From an accepted format on, a write is refused with 10 only once so many erases were made that all but μγ of the blocks that were not bad are worn out.
 -- proofs/Life.antt has the theorem.
 -- Assumes nothing.
-use Prim.Native.Nat.{ℕ, zero, suc, _+_, _-_, _*_, _≤_}
+use Prim.Native.Nat.{ℕ, _+_, _-_, _*_, _≤_}
 use mathlib.Core.Path.{_≡_}
 use mathlib.Core.Bool.{not, cond}
 use mathlib.Core.List.{List, _∷_}
-use Rattle.lists.specs.Below.{countBelow}
+use Rattle.lists.specs.Below.{countBelow, sumBelow}
 use Rattle.rules.specs.declared.Params.{Params}
 use Rattle.rules.specs.declared.Reply.the-variants.{Accepted, NoBlockLeft}
 use Rattle.rules.specs.Tables.{Board, wearAt}
@@ -15,11 +15,6 @@ use Rattle.rules.specs.Format.{bad}
 use Rattle.rules.specs.Replies.{replyOf}
 use Rattle.rules.specs.Cuts.{Step, plain}
 use Rattle.claims.specs.Runs.{Belief, Known, beliefAfter, boardAfter, leaves, stands, traceOf}
-
--- f 0 + f 1 + .. , n of them
-unfoldable pub sumBelow : ℕ → (ℕ → ℕ) → ℕ
-sumBelow zero f = 0
-sumBelow (suc n) f = sumBelow n f + f n
 
 -- R: how many blocks are not bad; and their wear together
 unfoldable pub goodAtFormat : Params → Board → ℕ

@@ -11,9 +11,10 @@ use native.Mathlib.Omega.{arith}
 use lib.Dec.{eqb, ltb}
 use lib.ListN.{length}
 use borrow.Author.Tests.{ltb-false}
+use Rattle.lists.specs.Below.{sumBelow}
 use Rattle.lists.specs.Parts.{allAre}
 use Rattle.lists.proofs.Joins.{allAre-part}
-use Rattle.lists.proofs.Sums.{sum-but, sum-le, sum-same, sum-zero, sumBelow}
+use Rattle.lists.proofs.Sums.{sum-but, sum-le, sum-same, sum-zero}
 use Rattle.lists.proofs.Tests.{count-is, so}
 use Rattle.rules.specs.declared.Params.{Params}
 use Rattle.rules.specs.declared.Reply.the-variants.{Accepted}

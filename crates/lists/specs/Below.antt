@@ -1,4 +1,4 @@
--- Tests, counts and searches over the numbers below n, each by one recursion on n, as a loop goes.
+-- Tests, counts, sums and searches over the numbers below n, each by one recursion on n, as a loop goes.
 -- Assumes nothing.
 use Prim.Native.Nat.{ℕ, zero, suc, _+_, _^_}
 use mathlib.Core.Bool.{Bool, true, false, _&&_, _||_, cond}
@@ -19,6 +19,11 @@ allTrue (x ∷ xs) = x && allTrue xs
 unfoldable pub countBelow : ℕ → (ℕ → Bool) → ℕ
 countBelow zero f = 0
 countBelow (suc n) f = countBelow n f + cond (f n) 1 0
+
+-- f 0 + f 1 + .. , n of them
+unfoldable pub sumBelow : ℕ → (ℕ → ℕ) → ℕ
+sumBelow zero f = 0
+sumBelow (suc n) f = sumBelow n f + f n
 
 -- the lowest number below n that passes, `other` if none does
 unfoldable pub firstBelow : ℕ → ℕ → (ℕ → Bool) → ℕ
