@@ -61,7 +61,7 @@ module _ (p : Params) (b : Board) (k : ℕ) (c : Call) where
 -- ---- the works of the calls that come with a budget, as these laws take them
 
 pub format-work : (p : Params) (b : Board) → replyOf p b format ≡ Accepted
-    → workOf p b format ≡ single format (answerOf Accepted (formatOps p (b .chip)) 0) [] (formatOps p (b .chip)) (formatted p b)
+    → workOf p b format ≡ single format (answerOf Accepted (formatOps p (b .chip) (b .wear)) 0) [] (formatOps p (b .chip) (b .wear)) (formatted p b)
 unfolding workOf
 format-work p b e = work-accepted p b format _ _ _ _ e
 
@@ -71,6 +71,6 @@ unfolding workOf writeWork
 write-work p b q e = work-accepted p b (write q) _ _ _ _ e
 
 pub start-work : (p : Params) (b : Board) → replyOf p b start ≡ Accepted
-    → workOf p b start ≡ single start (answerOf Accepted (startOps p (b .chip)) 0) [] (startOps p (b .chip)) (started p b)
+    → workOf p b start ≡ single start (answerOf Accepted (startOps p (b .chip) (b .wear)) 0) [] (startOps p (b .chip) (b .wear)) (started p b)
 unfolding workOf
 start-work p b e = work-accepted p b start _ _ _ _ e
