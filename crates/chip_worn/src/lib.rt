@@ -1,6 +1,6 @@
 // Document 02's T-12: a block is erased, and marked where that wears it out. So a format, a start and a reclaim erase.
 ghost use mathlib.Core.Path.{_≡_};
-ghost use mathlib.Core.Bool.{true};
+ghost use mathlib.Core.Bool.{cond, true};
 ghost use Prim.Native.Nat.{_*_, _<_};
 ghost use lib.ListN.{length};
 ghost use Rattle.rules.specs.Parameters.{allowed, blockBytes};
@@ -61,4 +61,14 @@ pub fn erase_block(p: Params, chip: &mut [u8], wear: &mut [u32], n: PBlock) -> b
         mark_at(p, chip, n);
     }
     out
+}
+
+// What BST has for a block once it is erased: "the block becomes reserved" where that wears it out; else it is free.
+pub fn state_after(spent: bool) -> u8
+    ensures { λ s. ⌜ s ≡ cond spent 2 0 ⌝ }
+{
+    if spent {
+        return rules::RESERVED;
+    }
+    rules::FREE
 }

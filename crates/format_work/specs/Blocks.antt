@@ -3,14 +3,12 @@
 use mathlib.Core.Path.{_≡_}
 use mathlib.Core.Bool.{true, cond}
 use mathlib.Core.List.{List, [], _∷_}
-use Prim.Native.Nat.{ℕ, _+_, _*_, _≤_, _<_, min}
-use lib.ListN.{length, set, replicate}
+use Prim.Native.Nat.{ℕ, _*_, _≤_, _<_}
+use lib.ListN.{length, set}
 use Rattle.lists.specs.Below.{joinBelow}
-use Rattle.lists.specs.Parts.{putPart}
 use Rattle.rules.specs.declared.Params.{Params}
 use Rattle.rules.specs.Parameters.{allowed, blockBytes}
-use Rattle.rules.specs.Tables.{wearAt}
-use Rattle.rules.specs.Traces.{replayChip, replayWear, erasesIn}
+use Rattle.rules.specs.Traces.{erase, eraseOps, erasedState, erasesIn, onWear, replayChip, replayWear}
 use Rattle.rules.specs.Format.{bad, formatOps}
 
 pub record BlocksAsked (p : Params) (chip bst wear : List ℕ) : Type 0 where
@@ -23,17 +21,17 @@ pub record BlockAsked (p : Params) (chip bst wear : List ℕ) (n : ℕ) : Type 0
   pub all : BlocksAsked p chip bst wear
   pub low : n < p .N
 
--- a bad block is reserved and not touched, another is erased and free, with one erase more
+-- a bad block is reserved and not touched, another is erased, with one erase more, and free or, where it is worn out, marked and reserved
 pub record BlockDone (p : Params) (chip bst wear : List ℕ) (n : ℕ) (chip′ bst′ wear′ : List ℕ) (k : ℕ) : Type 0 where
-  pub chipIs : chip′ ≡ cond (bad p chip n) chip (putPart (blockBytes p) n (replicate (blockBytes p) 255) chip)
-  pub bstIs : bst′ ≡ set bst n (cond (bad p chip n) 2 0)
-  pub wearIs : wear′ ≡ cond (bad p chip n) wear (set wear n (min (wearAt wear n + 1) 4294967295))
+  pub chipIs : chip′ ≡ cond (bad p chip n) chip (replayChip p chip (eraseOps p wear n))
+  pub bstIs : bst′ ≡ set bst n (cond (bad p chip n) 2 (erasedState p wear n))
+  pub wearIs : wear′ ≡ cond (bad p chip n) wear (onWear wear (erase n))
   pub count : k ≡ cond (bad p chip n) 0 1
 
--- the format's operations are made, and BST tells the bad blocks from the others
+-- the format's operations are made, and BST tells the bad and the worn blocks from the others
 pub record BlocksDone (p : Params) (chip wear chip′ bst′ wear′ : List ℕ) (k : ℕ) : Type 0 where
-  pub chipIs : chip′ ≡ replayChip p chip (formatOps p chip)
-  pub bstIs : bst′ ≡ joinBelow (p .N) (λ n. cond (bad p chip n) 2 0 ∷ [])
-  pub wearIs : wear′ ≡ replayWear wear (formatOps p chip)
-  pub count : k ≡ erasesIn (formatOps p chip)
+  pub chipIs : chip′ ≡ replayChip p chip (formatOps p chip wear)
+  pub bstIs : bst′ ≡ joinBelow (p .N) (λ n. cond (bad p chip n) 2 (erasedState p wear n) ∷ [])
+  pub wearIs : wear′ ≡ replayWear wear (formatOps p chip wear)
+  pub count : k ≡ erasesIn (formatOps p chip wear)
   pub few : k ≤ p .N

@@ -1,12 +1,11 @@
 // Document 01, "Format": what is made of each block.
 ghost use mathlib.Core.Path.{_≡_};
 ghost use mathlib.Core.Bool.{cond, true};
-ghost use Prim.Native.Nat.{_+_, _*_, _<_, min};
-ghost use lib.ListN.{length, replicate, set};
+ghost use Prim.Native.Nat.{_*_, _<_};
+ghost use lib.ListN.{length, replicate};
 ghost use Rattle.lists.specs.Below.{listBelow};
-ghost use Rattle.lists.specs.Parts.{putPart};
 ghost use Rattle.rules.specs.Parameters.{allowed, blockBytes};
-ghost use Rattle.rules.specs.Tables.{none, wearAt};
+ghost use Rattle.rules.specs.Tables.{none};
 ghost use Rattle.rules.specs.Format.{bad};
 ghost use Rattle.format_work.specs.Blocks.{BlockAsked, BlockDone, BlocksAsked, BlocksDone};
 use rules::PBlock;
@@ -51,21 +50,7 @@ pub fn reserve_bad(p: Params, chip: &[u8], bst: &mut [u8])
     }
 }
 
-// Block n is erased, and its wear counts that.
-pub fn erase_block(p: Params, chip: &mut [u8], wear: &mut [u32], n: PBlock)
-    requires { ⌜ allowed p ≡ true ⌝ }
-    requires { ⌜ length (now chip) ≡ p .N * blockBytes p ⌝ }
-    requires { ⌜ length (now wear) ≡ p .N ⌝ }
-    requires { ⌜ n .0 < p .N ⌝ }
-    ensures { λ _. ⌜ now (chip .exit) ≡ putPart (blockBytes p) (n .0) (replicate (blockBytes p) 255) (now (chip .entry)) ⌝ }
-    ensures { λ _. ⌜ now (wear .exit) ≡ set (now (wear .entry)) (n .0) (min (wearAt (now (wear .entry)) (n .0) + 1) 4294967295) ⌝ }
-{
-    let w = chip_sizes::block_bytes(p);
-    chip_pages::erase_at(chip, w, n);
-    chip_tables::count_erase(wear, n);
-}
-
-// Block n becomes reserved where it is bad; else it is erased and becomes free. How many erases that took.
+// Block n becomes reserved where it is bad; else it is erased, and becomes free or, where that wears it out, reserved. How many erases that took.
 fn format_block(p: Params, chip: &mut [u8], bst: &mut [u8], wear: &mut [u32], n: PBlock) -> usize
     requires { ⌜ BlockAsked p (now chip) (now bst) (now wear) (n .0) ⌝ }
     ensures { λ k. ⌜ BlockDone p (now (chip .entry)) (now (bst .entry)) (now (wear .entry)) (n .0) (now (chip .exit)) (now (bst .exit)) (now (wear .exit)) k ⌝ }
@@ -74,8 +59,8 @@ fn format_block(p: Params, chip: &mut [u8], bst: &mut [u8], wear: &mut [u32], n:
         chip_tables::set_bst(bst, n, rules::RESERVED);
         return 0;
     }
-    erase_block(p, chip, wear, n);
-    chip_tables::set_bst(bst, n, rules::FREE);
+    let out = chip_worn::erase_block(p, chip, wear, n);
+    chip_tables::set_bst(bst, n, chip_worn::state_after(out));
     1
 }
 

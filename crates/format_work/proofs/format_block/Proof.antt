@@ -28,6 +28,9 @@ returns c =
 erase-block-requires : tie.Need-erase-block-requires
 erase-block-requires c κs = search needs
 
+state-after-requires : tie.Need-state-after-requires
+state-after-requires c κs = search needs
+
 set-bst-requires-2 : tie.Need-set-bst-requires-2
 set-bst-requires-2 c κs = search needs
 
@@ -42,14 +45,16 @@ same-length-5 c = search needs
 
 returns-2 : tie.Need-returns-2
 returns-2 c =
-    let at-erase-block = c .before .before .before .before .before .before .before .before in
+    let at-set-bst = c .before .before in
+    let at-state-after = at-set-bst .before in
+    let at-erase-block = at-state-after .before .before .before .before .before .before in
     let at-if1 = at-erase-block .before .before .before in
     let at-is-bad = at-if1 .before in
     let start = at-is-bad .before .before .before .before .before in
-    done-good _ _ _ _ _ (start .pre) (sym (at-if1 .if1 .left) ∙ at-is-bad .is-bad .ensures) _ _ _ (at-erase-block .erase-block .ensures .0) (c .before .before .set-bst2 .ensures)
-    (at-erase-block .erase-block .ensures .1)
+    done-good _ _ _ _ _ (start .pre) (sym (at-if1 .if1 .left) ∙ at-is-bad .is-bad .ensures) _ _ _ (at-erase-block .erase-block .ensures .0) _ (at-erase-block .erase-block .ensures .1 .1)
+    _ (at-state-after .state-after .ensures) (at-set-bst .set-bst2 .ensures) (at-erase-block .erase-block .ensures .1 .0)
 
 pub format-block-spec : {M : Type 1} → statement M
 format-block-spec =
     tie.close
-    (tie.spec is-bad-requires set-bst-requires same-length same-length-2 returns erase-block-requires set-bst-requires-2 same-length-3 same-length-4 same-length-5 returns-2)
+    (tie.spec is-bad-requires set-bst-requires same-length same-length-2 returns erase-block-requires state-after-requires set-bst-requires-2 same-length-3 same-length-4 same-length-5 returns-2)
