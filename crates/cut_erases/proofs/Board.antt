@@ -8,15 +8,15 @@ use native.Mathlib.Omega.{arith}
 use lib.Dec.{eqb}
 use lib.ListN.{length}
 use borrow.Author.Tests.{eqb-true}
-use Rattle.lists.specs.Below.{countBelow, joinBelow, listBelow}
-use Rattle.lists.proofs.Lists.{list-at, list-length}
-use Rattle.lists.proofs.Tests.{count-cong, truths}
+use Rattle.lists.specs.Below.{joinBelow, listBelow}
+use Rattle.lists.proofs.Lists.{list-at}
+use Rattle.lists.proofs.Tests.{truths}
 use Rattle.rules.specs.declared.Params.{Params}
 use Rattle.rules.specs.Parameters.{allowed}
 use Rattle.rules.specs.Tables.{Board, bstAt}
 use Rattle.rules.specs.Traces.{eraseWhere}
 use Rattle.rules.specs.Replies.{lengthsFit}
-use Rattle.rules.proofs.Erases.{erases-long, erasesBelow, where-below}
+use Rattle.rules.proofs.Erases.{erasesBelow, where-below}
 use Rattle.rules.proofs.TableFacts.{chip-size}
 use Rattle.chip_lost.proofs.Board.{Lengths}
 use Rattle.format_work.specs.Blocks.{BlocksAsked}
@@ -49,13 +49,10 @@ module _ (p : Params) (b : Board) (fits : lengthsFit p b ≡ true) where
 
 -- ---- the list of what is to be erased
 
-pub where-long : (p : Params) (f : ℕ → Bool) → length (eraseWhere p f) ≡ countBelow (p .N) f
-where-long p f = rw (where-below p f) (erases-long f (p .N))
-
-same-erases : (f g : ℕ → Bool) (n : ℕ) → ((i : ℕ) → i < n → f i ≡ g i) → erasesBelow f n ≡ erasesBelow g n
+same-erases : (p : Params) (wear : List ℕ) (f g : ℕ → Bool) (n : ℕ) → ((i : ℕ) → i < n → f i ≡ g i) → erasesBelow p wear f n ≡ erasesBelow p wear g n
 unfolding erasesBelow joinBelow
-same-erases f g zero h = refl
-same-erases f g (suc n) h = rw (same-erases f g n (λ i low. h i (omega arith)), h n (omega arith))
+same-erases p wear f g zero h = refl
+same-erases p wear f g (suc n) h = rw (same-erases p wear f g n (λ i low. h i (omega arith)), h n (omega arith))
 
 module _ (p : Params) (f : ℕ → Bool) (bst : List ℕ) (is : bst ≡ listBelow (p .N) (λ n. cond (f n) 0 2)) where
   listed-is : (n : ℕ) → n < p .N → listed bst n ≡ f n
@@ -66,8 +63,8 @@ module _ (p : Params) (f : ℕ → Bool) (bst : List ℕ) (is : bst ≡ listBelo
       go true = refl
       go false = refl
 
-  pub where-listed : eraseWhere p (listed bst) ≡ eraseWhere p f
-  where-listed = rw (where-below p (listed bst), where-below p f) (same-erases (listed bst) f (p .N) listed-is)
+  pub where-listed : (wear : List ℕ) → eraseWhere p wear (listed bst) ≡ eraseWhere p wear f
+  where-listed wear = rw (where-below p wear (listed bst), where-below p wear f) (same-erases p wear (listed bst) f (p .N) listed-is)
 
-  pub count-is : (k : ℕ) → k ≡ countBelow (length bst) (listed bst) → k ≡ countBelow (p .N) f
-  count-is k e = e ∙ rw (ap length is ∙ list-length (p .N) _) (count-cong (p .N) (listed bst) f listed-is)
+  pub count-is : (wear : List ℕ) (k : ℕ) → k ≡ length (eraseWhere p wear (listed bst)) → k ≡ length (eraseWhere p wear f)
+  count-is wear k e = e ∙ ap length (where-listed wear)

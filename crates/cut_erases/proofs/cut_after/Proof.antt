@@ -50,7 +50,7 @@ returns c =
     let at-lose = c .before .before .before .before .before .before .before .before .before .before .before .before in
     let at-erase-first = at-lose .before .before .before .before .before .before .before .before .before .before .before in
     let start = at-erase-first .before .before .before .before .before .before .before .before .before .before .before .before in
-    lost-board _ (board start) (take (start .args .k) (eraseWhere (start .args .p) (listed (start .args .bst .now)))) _ _ _ _ _ _ _ _ _ _ _ _ _ _ (table-lengths _ (board start) (start .pre .1)) (at-lose .lose .ensures) (at-erase-first .erase-first .ensures .0)
+    lost-board _ (board start) (take (start .args .k) (eraseWhere (start .args .p) (start .args .wear .now) (listed (start .args .bst .now)))) _ _ _ _ _ _ _ _ _ _ _ _ _ _ (table-lengths _ (board start) (start .pre .1)) (at-lose .lose .ensures) (at-erase-first .erase-first .ensures .0)
     (at-erase-first .erase-first .ensures .1)
 
 pub cut-after-spec : {M : Type 1} → statement M

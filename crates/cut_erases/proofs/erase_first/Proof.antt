@@ -1,10 +1,10 @@
--- `cut_erases::erase_first`: after n turns the blocks below n are gone over, and what is left is k less those that are listed.
+-- `cut_erases::erase_first`: after n turns the first k operations of the blocks below n are made, and what is left is k less all of these.
 -- Assumes nothing.
 use Prim.Native.Nat.{_-_, _≤_}
 use mathlib.Core.Path.{_≡_}
 use native.Mathlib.Omega.{arith}
 use Rattle.format_work.specs.Blocks.{BlocksAsked}
-use Rattle.cut_erases.proofs.First.{So, asked, at-first, chip-same, ended, takes, turn, wear-same}
+use Rattle.cut_erases.proofs.First.{So, asked, at-first, ended, takes, turn, wear-same}
 use Rattle.cut_erases.proofs.erase_first.Statement.{statement}
 use Rattle.cut_erases.proofs.erase_first.Tie as tie
 
@@ -48,12 +48,12 @@ loop-again c =
 same-length : tie.Need-same-length Inv-loop μ-loop
 same-length c =
     let a = c .before .before .before .before .before .pre in
-    chip-same _ _ _ _ _ a _ (c .before .loop .inv .0) _ _ _ (c .before .loop .inv .1 a)
+    (c .before .loop .inv .1 a) .chipSame
 
 same-length-2 : tie.Need-same-length-2 Inv-loop μ-loop
 same-length-2 c =
     let a = c .before .before .before .before .before .pre in
-    wear-same _ _ _ _ _ a _ (c .before .loop .inv .0) _ _ _ (c .before .loop .inv .1 a)
+    wear-same _ _ _ _ _ a _ _ _ _ (c .before .loop .inv .1 a)
 
 returns : tie.Need-returns Inv-loop μ-loop
 returns c =
