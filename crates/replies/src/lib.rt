@@ -200,7 +200,7 @@ pub fn format_reply(
     if rules::number(head) != 0 {
         return head;
     }
-    if chip_bad::count_good(p, chip) < p.mu * p.gamma + 1 {
+    if chip_bad::count_good(p, chip, wear) < p.mu * p.gamma + 1 {
         return Reply::TooFewBlocks;
     }
     Reply::Accepted

@@ -144,6 +144,6 @@ unfolding badAddress
 cluster-low p fine lba h = div-lt-iff-lt-mul ((sizes p fine) .sectors) .1 (leb-false _ _ h)
 
 -- the row of a format
-pub few-is : (p : Params) (b : Board) (k : ℕ) → k ≡ goodBlocks p (b .chip) → ltb k (p .mu * p .gamma + 1) ≡ tooFewBlocks p b
+pub few-is : (p : Params) (b : Board) (k : ℕ) → k ≡ goodBlocks p (b .chip) (b .wear) → ltb k (p .mu * p .gamma + 1) ≡ tooFewBlocks p b
 unfolding tooFewBlocks
 few-is p b k e = rw e

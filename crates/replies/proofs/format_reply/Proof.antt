@@ -1,14 +1,12 @@
 -- `replies::format_reply`: each return is the reply of the first row that applies.
 -- Assumes nothing.
-use mathlib.Core.Path.{_∙_}
 use native.Mathlib.Omega.{arith}
 use borrow.Author.Needs.{needs}
 use borrow.Author.Tests.{le-ltb, lt-ltb}
 use Rattle.rules.specs.Replies.{replyOf, rowsOf}
 use Rattle.rules.specs.Tables.{Board, boardOf}
 use Rattle.rules.proofs.Sizes.{sizes}
-use Rattle.rules.proofs.TableFacts.{chip-size}
-use Rattle.check_rules.proofs.Agree.{lengths-in}
+use Rattle.rules.proofs.TableFacts.{lengths-in}
 use Rattle.reply_rows.proofs.Rows.{after-lent, few-is, here, lent-passes, otherwise, refuses, skip}
 use Rattle.replies.proofs.format_reply.Statement.{statement}
 use Rattle.replies.proofs.format_reply.Tie as tie
@@ -30,7 +28,8 @@ count-good-requires : tie.Need-count-good-requires
 count-good-requires c κs =
     let a = c .before .before .before .before .before .before .before .before .before .before .before in
     let h = lent-passes _ (board a) _ _ (c .before .before .board-reply .ensures) (c .before .number .ensures) (c .if1 .left) in
-    (h .fine, (lengths-in _ (board a) (h .fine) (h .fits)) .chipLength ∙ chip-size _)
+    let long = lengths-in _ (board a) (h .fits) in
+    (h .fine, (long .chipLength, long .wearLength))
 
 mul-if2 : tie.Need-mul-if2
 mul-if2 c =
