@@ -3,29 +3,26 @@
 use mathlib.Core.Path.{_≡_, refl, ap, _∙_}
 use mathlib.Core.Bool.{Bool, true, false}
 use mathlib.Core.List.{List, [], _∷_, _++_}
-use Prim.Native.Nat.{ℕ, suc, _+_, _*_, _≤_, _<_, min}
+use Prim.Native.Nat.{ℕ, suc, _+_, _≤_, _<_}
 use native.Mathlib.Nat.{add-zero, zero-add}
 use native.Mathlib.Omega.{arith}
 use mir.Syntax.{w64}
 use mir.Val.{Fits}
-use lib.ListN.{getD, length, set, replicate, length-append}
+use lib.ListN.{getD, length, set, length-append}
 use Rattle.lists.specs.Below.{keepBelow}
-use Rattle.lists.specs.Parts.{putPart}
 use Rattle.rules.specs.declared.Params.{Params}
-use Rattle.rules.specs.Parameters.{frames, blockBytes}
+use Rattle.rules.specs.Parameters.{frames}
 use Rattle.rules.specs.Numbers.{segmentOf}
-use Rattle.rules.specs.Tables.{wearAt, marksLength, wordAt}
+use Rattle.rules.specs.Tables.{marksLength, wordAt}
 use Rattle.rules.specs.Pages.{block, frame, held}
-use Rattle.rules.specs.Traces.{erase, onChip, replayChip, framesOps}
+use Rattle.rules.specs.Traces.{erase, eraseOps, framesOps, onWear, replayChip}
 use Rattle.rules.specs.Write.{followCt}
-use Rattle.rules.proofs.Sizes.{sizes}
 use Rattle.rules.proofs.Chip.{replay-append}
 use Rattle.rules.proofs.Following.{follow-length}
 use Rattle.marks.specs.Marks.{markIn}
 use Rattle.rules.specs.Marks.{tableOf}
 use Rattle.marks.proofs.Tables.{table-marks}
 use Rattle.write_reclaim.specs.Moves.{Whole, MoveAsked, MovedIf, Between, FromTo, Copied, Reclaimed, markedFrames}
-use Rattle.write_reclaim.proofs.Places.{block-fits}
 use Rattle.write_reclaim.proofs.Kept as kept
 
 -- a table of 64-bit words holds marks
@@ -135,17 +132,7 @@ module _ (p : Params) (chip ct : List ℕ) (o n v : ℕ) (a : FromTo p chip ct o
 
 -- ---- the whole reclaim
 
--- any block lies on the chip
-pub erase-fits : (p : Params) (chip : List ℕ) → Whole p chip → (i w len : ℕ) → i < p .N → w ≡ blockBytes p → len ≡ length chip → i * w + w ≤ len
-erase-fits p chip a i w len low e same = rw (e, same) (block-fits p chip i 0 (record { whole = a; block = low; frame = (sizes p (a .fine)) .some }))
-
-pub reclaimed : (p : Params) (chip ct wear : List ℕ) (o n v w : ℕ) → w ≡ blockBytes p → (xs : List (List ℕ)) (chip₁ ct₁ : List ℕ) (k : ℕ) → Copied p chip ct n v xs chip₁ ct₁ k
-    → (chip₂ wear₂ : List ℕ) → chip₂ ≡ putPart w o (replicate w 255) chip₁ → wear₂ ≡ set wear o (min (wearAt wear o + 1) 4294967295)
-    → Reclaimed p chip ct wear o n v xs chip₂ ct₁ wear₂ k
-reclaimed p chip ct wear o n v w e xs chip₁ ct₁ k c chip₂ wear₂ x y =
-    record {
-      chipIs = x ∙ rw (e, c .chipIs, replay-append p chip (framesOps p n 0 xs) (erase o ∷ [])) (unfold replayChip onChip in refl);
-      ctIs = c .ctIs;
-      wearIs = y;
-      count = c .count;
-    }
+pub reclaimed : (p : Params) (chip ct wear : List ℕ) (o n v : ℕ) (xs : List (List ℕ)) (chip₁ ct₁ : List ℕ) (k : ℕ) → Copied p chip ct n v xs chip₁ ct₁ k
+    → (chip₂ wear₂ : List ℕ) → chip₂ ≡ replayChip p chip₁ (eraseOps p wear o) → wear₂ ≡ onWear wear (erase o) → Reclaimed p chip ct wear o n v xs chip₂ ct₁ wear₂ k
+reclaimed p chip ct wear o n v xs chip₁ ct₁ k c chip₂ wear₂ x y =
+    record { chipIs = x ∙ rw (c .chipIs, replay-append p chip (framesOps p n 0 xs) (eraseOps p wear o)); ctIs = c .ctIs; wearIs = y; count = c .count }

@@ -2,16 +2,15 @@
 -- Assumes nothing.
 use mathlib.Core.Path.{_≡_}
 use mathlib.Core.Bool.{Bool, true, cond}
-use mathlib.Core.List.{List, [], _∷_, _++_, map}
-use Prim.Native.Nat.{ℕ, _+_, _*_, _<_, min}
+use mathlib.Core.List.{List, _++_, map}
+use Prim.Native.Nat.{ℕ, _*_, _<_}
 use lib.ListN.{length, set}
 use Rattle.lists.specs.Below.{keepBelow}
 use Rattle.rules.specs.declared.Params.{Params}
 use Rattle.rules.specs.Parameters.{allowed, frames, blockBytes}
 use Rattle.rules.specs.Numbers.{segmentOf}
-use Rattle.rules.specs.Tables.{wearAt}
 use Rattle.rules.specs.Pages.{block, frame, held, erased}
-use Rattle.rules.specs.Traces.{erase, replayChip, frameOps, framesOps}
+use Rattle.rules.specs.Traces.{erase, eraseOps, frameOps, framesOps, onWear, replayChip}
 use Rattle.rules.specs.Write.{followCt}
 use Rattle.chip_marks.specs.Asked.{WordsAsked}
 
@@ -78,9 +77,9 @@ pub record ReclaimAsked (p : Params) (chip ct wear marks : List ℕ) (o n r v : 
   pub wearLength : length wear ≡ p .N
   pub words : WordsAsked p marks r v
 
--- the same, and then block o is erased, which counts
+-- the same, and then block o is erased, which counts, and marked where that wears it out
 pub record Reclaimed (p : Params) (chip ct wear : List ℕ) (o n v : ℕ) (xs : List (List ℕ)) (chip′ ct′ wear′ : List ℕ) (k : ℕ) : Type 0 where
-  pub chipIs : chip′ ≡ replayChip p chip (framesOps p n 0 xs ++ (erase o ∷ []))
+  pub chipIs : chip′ ≡ replayChip p chip (framesOps p n 0 xs ++ eraseOps p wear o)
   pub ctIs : ct′ ≡ followCt p v 0 xs ct
-  pub wearIs : wear′ ≡ set wear o (min (wearAt wear o + 1) 4294967295)
+  pub wearIs : wear′ ≡ onWear wear (erase o)
   pub count : k ≡ length xs

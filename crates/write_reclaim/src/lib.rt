@@ -1,4 +1,5 @@
-// Document 01, "Reclaim": the victim's valid frames, which are those with a mark, are copied to the free block, CT follows each, and the victim is erased.
+// Document 01, "Reclaim": the victim's valid frames, which are those with a mark, are copied to the free block, CT follows each, and the victim is erased;
+// T-12: and marked where that wears it out.
 ghost use mathlib.Core.Path.{_≡_};
 ghost use Prim.Native.Nat.{_≤_};
 ghost use Rattle.rules.specs.Pages.{block, frame, held};
@@ -103,7 +104,8 @@ fn copy_marked(
     k
 }
 
-// The frames with a mark of block o, which virtual block v of region r has, go to block n, and block o is erased. How many were copied.
+// The frames with a mark of block o, which virtual block v of region r has, go to block n, and block o is erased,
+// and marked where that wears it out. How many were copied.
 pub fn reclaim(
     p: Params,
     chip: &mut [u8],
@@ -121,8 +123,6 @@ pub fn reclaim(
         (now (chip .exit)) (now (ct .exit)) (now (wear .exit)) k) ⌝ }
 {
     let k = copy_marked(p, chip, ct, marks, o, n, r, v);
-    let w = chip_sizes::block_bytes(p);
-    chip_pages::erase_at(chip, w, o);
-    chip_tables::count_erase(wear, o);
+    chip_worn::erase_block(p, chip, wear, o);
     k
 }

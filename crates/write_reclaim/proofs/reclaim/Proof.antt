@@ -1,7 +1,8 @@
--- `write_reclaim::reclaim`: the frames with a mark are copied first, and the victim is erased last.
+-- `write_reclaim::reclaim`: the frames with a mark are copied first, and the victim is erased last, with its mark where it is worn.
 -- Assumes nothing.
+use mathlib.Core.Path.{_∙_}
 use borrow.Author.Needs.{needs}
-use Rattle.write_reclaim.proofs.Copies.{erase-fits, reclaimed}
+use Rattle.write_reclaim.proofs.Copies.{reclaimed}
 use Rattle.write_reclaim.proofs.reclaim.Statement.{statement}
 use Rattle.write_reclaim.proofs.reclaim.Tie as tie
 
@@ -10,18 +11,12 @@ copy-marked-requires c κs =
     let start = c .before .before .before .before .before .before in
     let a = start .pre in (a .blocks, a .words)
 
-block-bytes-requires : tie.Need-block-bytes-requires
-block-bytes-requires c κs = search needs
-
-erase-at-requires : tie.Need-erase-at-requires
-erase-at-requires c κs =
+erase-block-requires : tie.Need-erase-block-requires
+erase-block-requires c κs =
     let at-copy-marked = c .before .before .before .before .before .before in
     let start = at-copy-marked .before .before .before .before .before .before .before in
     let a = start .pre .blocks .between in
-    erase-fits _ _ (a .whole) _ _ _ (a .from) (c .before .block-bytes .ensures) (at-copy-marked .copy-marked .kept .1 .0)
-
-count-erase-requires : tie.Need-count-erase-requires
-count-erase-requires c κs = search needs
+    (a .whole .fine, (at-copy-marked .copy-marked .kept .1 .0 ∙ a .whole .size, (start .pre .wearLength, a .from)))
 
 same-length : tie.Need-same-length
 same-length c = search needs
@@ -34,20 +29,9 @@ same-length-3 c = search needs
 
 returns : tie.Need-returns
 returns c m e =
-    let at-erase-at = c .before .before .before .before .before .before in
-    let at-block-bytes = at-erase-at .before .before in
-    let at-copy-marked = at-block-bytes .before .before .before .before .before in
-    reclaimed _ _ _ _ _ _ _ _ (at-block-bytes .block-bytes .ensures) _ _ _ _ (at-copy-marked .copy-marked .ensures m e) _ _ (at-erase-at .erase-at .ensures) (c .before .before .count-erase .ensures)
+    let at-erase-block = c .before .before .before .before in
+    let at-copy-marked = at-erase-block .before .before .before .before .before .before .before in
+    reclaimed _ _ _ _ _ _ _ _ _ _ _ (at-copy-marked .copy-marked .ensures m e) _ _ (at-erase-block .erase-block .ensures .0) (at-erase-block .erase-block .ensures .1 .0)
 
 pub reclaim-spec : {M : Type 1} → statement M
-reclaim-spec =
-    tie.close
-    (tie.spec
-    copy-marked-requires
-    block-bytes-requires
-    erase-at-requires
-    count-erase-requires
-    same-length
-    same-length-2
-    same-length-3
-    returns)
+reclaim-spec = tie.close (tie.spec copy-marked-requires erase-block-requires same-length same-length-2 same-length-3 returns)
