@@ -2,7 +2,7 @@
 -- Assumes nothing.
 use mathlib.Core.Path.{_≡_, ap, refl, sym, _∙_}
 use mathlib.Core.Bool.{Bool, true}
-use mathlib.Core.List.{List, [], _∷_, map}
+use mathlib.Core.List.{List, map}
 use Prim.Native.Nat.{ℕ, _+_, _*_, _<_}
 use native.Mathlib.Omega.{arith}
 use borrow.Author.Tests.{lt-ltb, ne-eqb}
@@ -14,9 +14,10 @@ use Rattle.rules.specs.Parameters.{allowed, frames}
 use Rattle.rules.specs.Tables.{Board, boardOf, none, btAt, btEntry}
 use Rattle.rules.specs.Pages.{block, frame}
 use Rattle.rules.specs.Regions.{view, viewOf, bodyAt, validFrames}
-use Rattle.rules.specs.Traces.{erase, isErase, erasesIn, onWear, replayChip, replayWear, framesOps}
-use Rattle.rules.specs.Write.{continues, opens, reclaims, planVBlock, planFrame, copies, freeBlock, planBlock, eraseOps, roomOps, followCt, planBst}
+use Rattle.rules.specs.Traces.{eraseOps, erasedState, erasesIn, replayChip, replayWear, framesOps}
+use Rattle.rules.specs.Write.{continues, opens, reclaims, planVBlock, planFrame, copies, freeBlock, planBlock, victimOps, roomOps, followCt, planBst}
 use Rattle.rules.proofs.Sizes.{sizes}
+use Rattle.rules.proofs.WornBlocks.{wear-out-counts, wear-out-wear}
 use Rattle.rules.specs.Marks.{Marks, marksIn, marksOf, marksOn, tableOf}
 use Rattle.marks.proofs.FrameMarks.{marked-valid}
 use Rattle.write_reclaim.specs.Moves.{Reclaimed, ReclaimAsked, markedFrames}
@@ -53,10 +54,13 @@ module _ (p : Params) (chip ct bt bst wear marks : List ℕ) (r v n : ℕ) (a : 
     pub old-in : o < length bst
     old-in = rw (eo, a .taking .bstLength) (a .blocks .between .from)
 
-    pub block-reclaimed : (m : ℕ → Bool) (chip′ ct′ bt′ bst₁ bst′ wear′ : List ℕ) (k : ℕ) → Reclaimed p chip ct wear o n v (markedFrames p (block p chip o) m) chip′ ct′ wear′ k
-        → bt′ ≡ set bt (r * p .gamma + v) n → bst₁ ≡ set bst n 1 → bst′ ≡ set bst₁ o 0
+    pub old-worn : o < length wear
+    old-worn = rw (eo, a .wearLength) (a .blocks .between .from)
+
+    pub block-reclaimed : (m : ℕ → Bool) (chip′ ct′ bt′ bst₁ bst′ wear′ : List ℕ) (k s : ℕ) → s ≡ erasedState p wear o → Reclaimed p chip ct wear o n v (markedFrames p (block p chip o) m) chip′ ct′ wear′ k
+        → bt′ ≡ set bt (r * p .gamma + v) n → bst₁ ≡ set bst n 1 → bst′ ≡ set bst₁ o s
         → BlockReclaimed p chip ct bt bst wear r v n (markedFrames p (block p chip (btAt p bt r v)) m) chip′ ct′ bt′ bst′ wear′ k
-    block-reclaimed m chip′ ct′ bt′ bst₁ bst′ wear′ k d x y w = record { moved = rw eo at d; btIs = x; bstIs = w ∙ rw (y, eo) }
+    block-reclaimed m chip′ ct′ bt′ bst₁ bst′ wear′ k s es d x y w = record { moved = rw eo at d; btIs = x; bstIs = w ∙ rw (y, es, eo) }
 
 -- ---- by the plan
 
@@ -65,7 +69,7 @@ module _ (p : Params) (chip ct bt fst bst wear marks stamps : List ℕ) (r : ℕ
   b = boardOf chip ct bt fst bst wear marks stamps
 
   pub made-continues : (v f : ℕ) → RoomMade p b r (continues v f) v f 0 0 chip ct bt bst wear
-  unfolding planVBlock planFrame copies eraseOps erasesIn roomOps framesOps replayChip followCt planBlock planBst replayWear
+  unfolding planVBlock planFrame copies victimOps erasesIn roomOps framesOps replayChip followCt planBlock planBst replayWear
   made-continues v f =
       record {
         vblock = refl;
@@ -80,27 +84,27 @@ module _ (p : Params) (chip ct bt fst bst wear marks stamps : List ℕ) (r : ℕ
       }
 
   pub made-opens : (v n : ℕ) (bt′ bst′ : List ℕ) → n ≡ freeBlock p bst wear → Opened p bt bst r v n bt′ bst′ → RoomMade p b r (opens v) v 0 0 0 chip ct bt′ bst′ wear
-  unfolding planVBlock planFrame copies eraseOps erasesIn roomOps framesOps replayChip followCt planBlock planBst replayWear
+  unfolding planVBlock planFrame copies victimOps erasesIn roomOps framesOps replayChip followCt planBlock planBst replayWear
   made-opens v n bt′ bst′ en o =
       record { vblock = refl; frame = refl; count = refl; erases = refl; chipIs = refl; ctIs = refl; btIs = o .btIs ∙ rw en; bstIs = o .bstIs ∙ rw en; wearIs = refl }
 
   made-reclaims : (v : ℕ) (chip′ ct′ bt′ bst′ wear′ : List ℕ) (k : ℕ) → BlockReclaimed p chip ct bt bst wear r v (freeBlock p bst wear) (copies p (view p b r) (reclaims v)) chip′ ct′ bt′ bst′ wear′ k
       → RoomMade p b r (reclaims v) v k k 1 chip′ ct′ bt′ bst′ wear′
-  unfolding planVBlock planFrame eraseOps erasesIn isErase roomOps planBlock planBst
+  unfolding planVBlock planFrame victimOps roomOps planBlock planBst
   made-reclaims v chip′ ct′ bt′ bst′ wear′ k d =
       record {
         vblock = refl;
         frame = d .moved .count ∙ unfold copies in map-length (frame p ((view p b r) .body v)) (validFrames p (view p b r) v);
         count = d .moved .count;
-        erases = refl;
+        erases = sym ((wear-out-counts p wear (btAt p bt r v)) .1);
         chipIs = d .moved .chipIs;
         ctIs = d .moved .ctIs;
         btIs = d .btIs;
         bstIs = d .bstIs;
         wearIs =
             d .moved .wearIs
-            ∙ sym (wear-append wear (framesOps p (freeBlock p bst wear) 0 (copies p (view p b r) (reclaims v))) (erase (btAt p bt r v) ∷ [])
-            ∙ rw (frames-wear p (freeBlock p bst wear) 0 (copies p (view p b r) (reclaims v)) wear) (unfold replayWear onWear in refl));
+            ∙ sym (wear-append wear (framesOps p (freeBlock p bst wear) 0 (copies p (view p b r) (reclaims v))) (eraseOps p wear (btAt p bt r v))
+            ∙ rw (frames-wear p (freeBlock p bst wear) 0 (copies p (view p b r) (reclaims v)) wear) (wear-out-wear p wear (btAt p bt r v) wear));
       }
 
 -- the copies of a reclaim are the marked frames, where each mark equals the validity rule

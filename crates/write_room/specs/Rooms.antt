@@ -9,8 +9,8 @@ use Rattle.rules.specs.declared.Params.{Params}
 use Rattle.rules.specs.Parameters.{allowed}
 use Rattle.rules.specs.Tables.{Board, btAt}
 use Rattle.rules.specs.Regions.{view}
-use Rattle.rules.specs.Traces.{erasesIn, replayChip, replayWear}
-use Rattle.rules.specs.Write.{Plan, continues, opens, reclaims, planVBlock, planFrame, copies, freeBlock, planBlock, eraseOps, roomOps, followCt, planBst}
+use Rattle.rules.specs.Traces.{erasedState, erasesIn, replayChip, replayWear}
+use Rattle.rules.specs.Write.{Plan, continues, opens, reclaims, planVBlock, planFrame, copies, freeBlock, planBlock, victimOps, roomOps, followCt, planBst}
 use Rattle.chip_marks.specs.Asked.{WordsAsked}
 use Rattle.write_choose.specs.Search.{Pool}
 use Rattle.write_reclaim.specs.Moves.{FromTo, Reclaimed}
@@ -43,11 +43,11 @@ pub record ReclaimReady (p : Params) (chip ct bt bst wear marks : List ℕ) (r v
   pub words : WordsAsked p marks r v
   pub blocks : FromTo p chip ct (btAt p bt r v) n v
 
--- the frames xs, which are its marked ones, are copied, it is erased and free, and BT names the other, which is used
+-- the frames xs, which are its marked ones, are copied, it is erased and free, or reserved where it is worn, and BT names the other, which is used
 pub record BlockReclaimed (p : Params) (chip ct bt bst wear : List ℕ) (r v n : ℕ) (xs : List (List ℕ)) (chip′ ct′ bt′ bst′ wear′ : List ℕ) (k : ℕ) : Type 0 where
   pub moved : Reclaimed p chip ct wear (btAt p bt r v) n v xs chip′ ct′ wear′ k
   pub btIs : bt′ ≡ set bt (r * p .gamma + v) n
-  pub bstIs : bst′ ≡ set (set bst n 1) (btAt p bt r v) 0
+  pub bstIs : bst′ ≡ set (set bst n 1) (btAt p bt r v) (erasedState p wear (btAt p bt r v))
 
 -- by the plan, and block n is the one that it writes
 abbrev pub RoomAsked : Params → List ℕ → List ℕ → List ℕ → List ℕ → List ℕ → List ℕ → ℕ → Plan → ℕ → Type 0
@@ -60,7 +60,7 @@ pub record RoomMade (p : Params) (b : Board) (r : ℕ) (pl : Plan) (v f copied e
   pub vblock : v ≡ planVBlock pl
   pub frame : f ≡ planFrame p (view p b r) pl
   pub count : copied ≡ length (copies p (view p b r) pl)
-  pub erases : erased ≡ erasesIn (eraseOps p b r pl)
+  pub erases : erased ≡ erasesIn (victimOps p b r pl)
   pub chipIs : chip′ ≡ replayChip p (b .chip) (roomOps p b r pl)
   pub ctIs : ct′ ≡ followCt p (planVBlock pl) 0 (copies p (view p b r) pl) (b .ct)
   pub btIs : bt′ ≡ set (b .bt) (r * p .gamma + planVBlock pl) (planBlock p b r pl)

@@ -2,7 +2,7 @@
 -- Assumes nothing.
 use lib.ListN.{length-set}
 use borrow.Author.Needs.{needs}
-use Rattle.write_room.proofs.Rooms.{free-few, free-in, reclaim-asked, old-in, block-reclaimed}
+use Rattle.write_room.proofs.Rooms.{free-few, free-in, reclaim-asked, old-in, old-worn, block-reclaimed}
 use Rattle.write_room.proofs.reclaim_block.Statement.{statement}
 use Rattle.write_room.proofs.reclaim_block.Tie as tie
 
@@ -11,26 +11,32 @@ bt-at-requires c κs =
     let start = c .before .before .before .before .before .before .before in
     (start .pre .taking .btLength, (start .pre .taking .region, start .pre .taking .low))
 
+erased-state-requires : tie.Need-erased-state-requires
+erased-state-requires c κs =
+    let at-bt-at = c .before in
+    let start = at-bt-at .before .before .before .before .before .before .before .before in
+    old-worn _ _ _ _ _ _ _ _ _ _ (start .pre) _ (at-bt-at .bt-at .ensures .0)
+
 reclaim-requires : tie.Need-reclaim-requires
 reclaim-requires c κs =
-    let at-bt-at = c .before .before .before in
+    let at-bt-at = c .before .before .before .before .before in
     let start = at-bt-at .before .before .before .before .before .before .before .before in
     reclaim-asked _ _ _ _ _ _ _ _ _ _ (start .pre) _ (at-bt-at .bt-at .ensures .0)
 
 set-bt-requires : tie.Need-set-bt-requires
 set-bt-requires c κs =
-    let start = c .before .before .before .before .before .before .before .before .before .before .before .before .before .before .before .before .before .before .before in
+    let start = c .before .before .before .before .before .before .before .before .before .before .before .before .before .before .before .before .before .before .before .before .before in
     (start .pre .taking .btLength, (start .pre .taking .region, (start .pre .taking .low, free-few _ _ _ _ _ _ (start .pre .taking))))
 
 set-bst-requires : tie.Need-set-bst-requires
 set-bst-requires c κs =
-    let start = c .before .before .before .before .before .before .before .before .before .before .before .before .before .before .before .before .before .before .before .before .before .before .before in
+    let start = c .before .before .before .before .before .before .before .before .before .before .before .before .before .before .before .before .before .before .before .before .before .before .before .before .before in
     free-in _ _ _ _ _ _ (start .pre .taking)
 
 set-bst-requires-2 : tie.Need-set-bst-requires-2
 set-bst-requires-2 c κs =
     let at-set-bst = c .before .before .before in
-    let at-bt-at = at-set-bst .before .before .before .before .before .before .before .before .before .before .before .before .before .before .before .before in
+    let at-bt-at = at-set-bst .before .before .before .before .before .before .before .before .before .before .before .before .before .before .before .before .before .before in
     let start = at-bt-at .before .before .before .before .before .before .before .before in
     rw (at-set-bst .set-bst .ensures, length-set) (old-in _ _ _ _ _ _ _ _ _ _ (start .pre) _ (at-bt-at .bt-at .ensures .0))
 
@@ -54,9 +60,10 @@ returns c =
     let at-set-bst = c .before .before .before .before .before .before in
     let at-set-bt = at-set-bst .before .before .before .before in
     let at-reclaim = at-set-bt .before .before .before .before .before .before .before .before in
-    let at-bt-at = at-reclaim .before .before .before .before in
+    let at-erased-state = at-reclaim .before .before .before .before in
+    let at-bt-at = at-erased-state .before .before in
     let start = at-bt-at .before .before .before .before .before .before .before .before in
-    λ m e. block-reclaimed _ _ _ _ _ _ _ _ _ _ (start .pre) _ (at-bt-at .bt-at .ensures .0) (m _ _) _ _ _ _ _ _ _
+    λ m e. block-reclaimed _ _ _ _ _ _ _ _ _ _ (start .pre) _ (at-bt-at .bt-at .ensures .0) (m _ _) _ _ _ _ _ _ _ _ (at-erased-state .erased-state .ensures)
     (at-reclaim .reclaim .ensures m e) (at-set-bt .set-bt .ensures) (at-set-bst .set-bst .ensures) (c .before .before .set-bst2 .ensures)
 
 pub reclaim-block-spec : {M : Type 1} → statement M
@@ -64,6 +71,7 @@ reclaim-block-spec =
     tie.close
     (tie.spec
     bt-at-requires
+    erased-state-requires
     reclaim-requires
     set-bt-requires
     set-bst-requires
