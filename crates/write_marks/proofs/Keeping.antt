@@ -17,9 +17,10 @@ use Rattle.rules.specs.Numbers.{regionOf}
 use Rattle.rules.specs.Pages.{frame}
 use Rattle.rules.specs.Regions.{validFrames, view, viewOf}
 use Rattle.rules.specs.Tables.{Board, ctAt, none, marksLength}
-use Rattle.rules.specs.Traces.{erasesIn, isErase}
-use Rattle.rules.specs.Write.{Plan, continues, copies, eraseOps, opens, planVBlock, reclaims}
+use Rattle.rules.specs.Traces.{erasesIn}
+use Rattle.rules.specs.Write.{Plan, continues, copies, opens, planErases, planVBlock, reclaims, victimOps}
 use Rattle.rules.proofs.Sizes.{sizes}
+use Rattle.rules.proofs.WritePromise.{erase-counts}
 use Rattle.marks.specs.Kept.{firstMarks, putMark, roomMarks, withoutOld}
 use Rattle.rules.specs.Marks.{Marks}
 use Rattle.read_work.specs.Lookup.{Lookup, Stands, Within, blockFor, lastFor}
@@ -72,9 +73,9 @@ module _ (p : Params) (chip ct bt : List ℕ) (c : ℕ) (l : Lookup p chip ct bt
 
 -- ---- a reclaim's copies
 
-pub room-is : (p : Params) (b : Board) (r : ℕ) (pl : Plan) (v copied erases : ℕ) → v ≡ planVBlock pl → copied ≡ length (copies p (view p b r) pl) → erases ≡ erasesIn (eraseOps p b r pl) → (m : Marks)
+pub room-is : (p : Params) (b : Board) (r : ℕ) (pl : Plan) (v copied erases : ℕ) → v ≡ planVBlock pl → copied ≡ length (copies p (view p b r) pl) → erases ≡ erasesIn (victimOps p b r pl) → (m : Marks)
     → cond (eqb erases 0) m (firstMarks m r v copied) ≡ roomMarks p (view p b r) r pl m
-unfolding roomMarks eraseOps erasesIn isErase copies planVBlock
-room-is p b r (continues v′ f) v copied erases ev ec ee m = rw ee
-room-is p b r (opens v′) v copied erases ev ec ee m = rw ee
-room-is p b r (reclaims v′) v copied erases ev ec ee m = rw (ee, ev, ec, map-length (frame p ((view p b r) .body v′)) (validFrames p (view p b r) v′))
+unfolding roomMarks planErases copies planVBlock
+room-is p b r (continues v′ f) v copied erases ev ec ee m = rw (ee, (erase-counts p b r (continues v′ f)) .1)
+room-is p b r (opens v′) v copied erases ev ec ee m = rw (ee, (erase-counts p b r (opens v′)) .1)
+room-is p b r (reclaims v′) v copied erases ev ec ee m = rw (ee, (erase-counts p b r (reclaims v′)) .1, ev, ec, map-length (frame p ((view p b r) .body v′)) (validFrames p (view p b r) v′))
