@@ -165,7 +165,8 @@ enum cnftl_reply {
     CNFTL_NOT_ORDERLY = 7,    /* chip and tables break a cnftl_rule; of a
                                  start: the chip is none to start from      */
     CNFTL_TOO_FEW_ANSWERS = 8, /* fewer places for answers than requests    */
-    CNFTL_NO_STAMP_LEFT = 9   /* a write's region has no stamp left         */
+    CNFTL_NO_STAMP_LEFT = 9,  /* a write's region has no stamp left         */
+    CNFTL_NO_BLOCK_LEFT = 10  /* a write needs a free block and there is none*/
 };
 
 /* The values of a BST entry. */

@@ -11,7 +11,9 @@
  * short, which the start finds wholly old or wholly new.  And what a
  * why has told with the read and the write that follow it; their third count,
  * which C does not get, is the model's.  The header's writes per erase are
- * compared with the model's for any allowed parameters.
+ * compared with the model's for any allowed parameters.  Half of the boards
+ * have blocks with few rated erases, and many have wear near those, so that
+ * formats, reclaims and starts wear blocks out and writes find none free.
  *
  *   fuzz [--calls N] [--seed S] [--mutant K]    compare
  *   fuzz --mutants                              list the model's mutants
@@ -34,11 +36,11 @@ enum slice {
     CHIP, CT, BT, FST, BST, WEAR, MARKS, STAMPS, TABLES, DATA = TABLES, LIST,
     REQUESTS, ANSWERS, SLICES
 };
-enum { GUARD = 64, DATA_ROOM = 16 * 512 + GUARD, REPLIES = 10 };
+enum { GUARD = 64, DATA_ROOM = 16 * 512 + GUARD, REPLIES = 11 };
 enum { LIST_ROOM = (CNFTL_WHY_ENTRIES + 1) * 4, RULES = CNFTL_RULE_STAMPS + 1 };
 enum { MOST_ITEMS = 8, REQUESTS_ROOM = (3 * MOST_ITEMS + 2) * 4 };
 enum { ANSWERS_ROOM = (MOST_ITEMS + 3) * 8 };
-enum { RATED = 1000000 }; /* the rated erases of a block of each board */
+enum { RATED = 1000000 }; /* the most rated erases of a block, as of Board T */
 
 static const char *const slice_name[SLICES] = {
     "chip", "ct", "bt", "fst", "bst", "wear", "marks", "stamps", "data",
@@ -139,6 +141,7 @@ static uint64_t *wides_of(const struct side *a, enum slice i)
 #define fst (words_of(&product, FST))
 #define bst (bytes_of(&product, BST))
 #define marks (wides_of(&product, MARKS))
+#define wear (longs_of(&product, WEAR))
 #define stamps (longs_of(&product, STAMPS))
 #define chip (bytes_of(&product, CHIP))
 
@@ -256,6 +259,13 @@ static uint64_t items_seen[REPLIES]; /* replies to the items of queues */
 static uint64_t broken[RULES];   /* rules that a why has told */
 static uint64_t forecasts[4];    /* writes as a why has forecast them */
 static uint64_t stampless;       /* those forecast to be refused with 9 */
+static uint64_t blockless;       /* and those with 10 */
+static uint64_t worn_out[7];     /* blocks that calls wore out, by kind */
+static uint64_t unmarked;        /* cuts between such an erase and its mark */
+static uint64_t worn_formats;    /* formats refused with 6 for wear alone */
+static uint64_t short_writes;    /* accepted writes where mu*gamma blocks or
+                                    fewer are not reserved */
+static uint64_t short_reads;     /* and reads, compared with the shadow */
 static uint64_t held_reads;      /* reads of a frame that a why has told */
 static uint64_t looks_told[3];   /* third counts as told: 0, 1, and 2 or more */
 static uint64_t cut[7], whole[7]; /* accepted calls with a budget, by kind: cut,
@@ -634,6 +644,76 @@ static void follow_shadow(const struct call *k, uint64_t a)
     }
 }
 
+/* Blocks that are not reserved. */
+static uint32_t blocks_kept(void)
+{
+    uint32_t kept = 0;
+
+    for (uint32_t b = 0; b < par.n; b++)
+        kept += bst[b] != CNFTL_BLOCK_RESERVED;
+    return kept;
+}
+
+/* Whether fewer than mu*gamma+1 blocks are not reserved. */
+static bool is_short(void)
+{
+    return blocks_kept() <= par.mu * par.gamma;
+}
+
+/* What the last call got lent: which blocks are bad, and their wear. */
+static bool lent_bad[65536];
+static uint32_t lent_wear[65536];
+
+/* Keeps these. */
+static void keep_blocks(void)
+{
+    for (uint32_t b = 0; b < par.n; b++) {
+        lent_bad[b] = bad_block(b);
+        lent_wear[b] = wear[b];
+    }
+}
+
+/* Counts the blocks that an accepted call has worn out, which have a mark that
+   they had not, and whether a cut left one without. */
+static void count_worn(ptrdiff_t kind, bool cut_call)
+{
+    bool left = false;
+
+    for (uint32_t b = 0; b < par.n; b++) {
+        bool now = bad_block(b);
+
+        worn_out[kind] += now && !lent_bad[b];
+        left = left || (!now && wear[b] > lent_wear[b] && wear[b] >= par.e);
+    }
+    unmarked += cut_call && left;
+}
+
+/* Blocks that are not bad; those of them that one erase more leaves good. */
+static uint32_t blocks_not_bad(bool after_erase)
+{
+    uint32_t all = 0;
+
+    for (uint32_t b = 0; b < par.n; b++)
+        all += !bad_block(b)
+            && (!after_erase || (uint64_t)wear[b] + 1 < par.e);
+    return all;
+}
+
+/* Whether a right call on a board that was changed by calls alone since its
+   format may be refused so: a write where blocks are worn out and none is free,
+   or a format that would leave too few. */
+static bool may_be_refused(const struct call *k, uint32_t reply)
+{
+    if (k->kind == 'W' && reply == CNFTL_NO_BLOCK_LEFT) {
+        for (uint32_t b = 0; b < par.n; b++)
+            if (bst[b] == CNFTL_BLOCK_FREE)
+                return false;
+        return is_short();
+    }
+    return k->kind == 'F' && reply == CNFTL_TOO_FEW_BLOCKS
+        && blocks_not_bad(true) <= par.mu * par.gamma;
+}
+
 /* Counts the items of a queue by their replies. */
 static void count_items(const struct call *k)
 {
@@ -643,6 +723,19 @@ static void count_items(const struct call *k)
         items_seen[cnftl_reply_of(a) % REPLIES]++;
         reclaims += cnftl_erases_of(a) == 1;
     }
+}
+
+/* Counts what was seen of worn blocks. */
+static void count_wear(const struct call *k, ptrdiff_t kind, uint32_t reply)
+{
+    if (reply == CNFTL_ACCEPTED && strchr("FWQS", k->kind))
+        count_worn(kind, k->limited && is_cut());
+    if (reply == CNFTL_ACCEPTED && k->kind == 'W' && !is_cut())
+        short_writes += is_short();
+    if (reply == CNFTL_ACCEPTED && k->kind == 'R' && shadow_holds)
+        short_reads += is_short();
+    if (reply == CNFTL_TOO_FEW_BLOCKS && k->kind == 'F')
+        worn_formats += blocks_not_bad(false) > par.mu * par.gamma;
 }
 
 /* Counts what was seen. */
@@ -657,6 +750,8 @@ static void count_call(const struct call *k, uint64_t a)
         whole[kind] += !is_cut();
     }
     seen[cnftl_reply_of(a)]++;
+    if (own_parameters(k))
+        count_wear(k, kind, cnftl_reply_of(a));
     reclaims += k->kind == 'W' && cnftl_erases_of(a) == 1;
     if (k->kind == 'Q' && cnftl_reply_of(a) == CNFTL_ACCEPTED)
         count_items(k);
@@ -732,6 +827,8 @@ static uint64_t answer_of(const struct call *k)
         fill_slice(k, (enum slice)i);
     fill_requests(k);
     memcpy(lent_answers, bytes_of(&product, ANSWERS), room[ANSWERS]);
+    if (own_parameters(k) && room[CHIP] > 0)
+        keep_blocks();
     by_product = call_product(k);
     by_model = call_model(k);
     if (by_product != by_model)
@@ -778,8 +875,8 @@ static struct call right_call(char kind)
 static void give_budget(struct call *k)
 {
     uint32_t pages = (uint32_t)cnftl_pages_per_block(&par);
-    uint32_t each = once_in(2) ? par.alpha : pages + 1;
-    uint32_t most = k->kind == 'F' ? par.n : k->kind == 'S' ? 2
+    uint32_t each = once_in(2) ? par.alpha : pages + 2;
+    uint32_t most = k->kind == 'F' ? 2 * par.n : k->kind == 'S' ? 4
                   : k->kind == 'W' ? each
                   : each * (uint32_t)(k->len[REQUESTS] / 3);
 
@@ -1070,17 +1167,32 @@ static uint32_t some_entry(bool named)
     return CNFTL_NONE;
 }
 
-/* Wear of one of several kinds: new, near together, near its limit, any. */
-static void random_wear(void)
+/* A wear near the rated erases, or far from them. */
+static uint32_t wear_near_rated(void)
 {
-    uint32_t kind = below(4);
+    const uint32_t values[] = {
+        par.e < 2 ? 0 : par.e - 2, par.e - 1, par.e, par.e + 1, 0, UINT32_MAX
+    };
+
+    return values[below(sizeof values / sizeof *values)];
+}
+
+/* Wear of one of several kinds: new, near together, near its limit, any, near
+   the rated erases, or so for a few blocks and little for the others.  The
+   first kinds and the last leave most blocks to a format. */
+static void random_wear(bool little)
+{
+    static const uint32_t few[] = { 0, 0, 1, 5, 5, 5 };
+    uint32_t kind = little ? few[below(6)] : below(6);
 
     for (uint32_t b = 0; b < par.n; b++) {
-        const uint32_t values[4] = {
-            0, below(3), UINT32_MAX - below(3), (uint32_t)rnd()
+        const uint32_t values[6] = {
+            0, below(3), UINT32_MAX - below(3), (uint32_t)rnd(),
+            wear_near_rated(),
+            once_in(6) ? wear_near_rated() : par.e < 3 ? 0 : below(par.e - 2)
         };
 
-        longs_of(&product, WEAR)[b] = values[kind];
+        wear[b] = values[kind];
     }
 }
 
@@ -1132,17 +1244,20 @@ static void raw_chip(void)
             *mark_of(b, j) = 255;
     for (uint32_t i = below((spare < 8 ? spare : 8) + 2); i > 0; i--)
         mark_bad(below(par.n));
-    random_wear();
+    random_wear(!once_in(6));
 }
 
-/* Gives a virtual block a free block with k frames of the region's clusters.
-   Each frame's cluster takes it into CT half of the time. */
+/* Gives a virtual block a free block, if there is one, with k frames of the
+   region's clusters.  Each frame's cluster takes it into CT half of the
+   time. */
 static void put_block(uint32_t region, uint32_t virtual_block, uint32_t k)
 {
     uint32_t block = some_block(CNFTL_BLOCK_FREE);
     uint32_t kinds_of = between(1, clusters_of_region(region));
     uint32_t entry = region * par.gamma + virtual_block;
 
+    if (block == CNFTL_NONE)
+        return;
     bst[block] = CNFTL_BLOCK_USED;
     bt[entry] = (uint16_t)block;
     for (uint32_t frame = 0; frame < k; frame++) {
@@ -1170,6 +1285,16 @@ static void shuffle_clusters(uint32_t region, uint32_t *list)
         list[j] = list[i - 1];
         list[i - 1] = cluster;
     }
+}
+
+/* Blocks that are free. */
+static uint32_t free_blocks(void)
+{
+    uint32_t all = 0;
+
+    for (uint32_t b = 0; b < par.n; b++)
+        all += bst[b] == CNFTL_BLOCK_FREE;
+    return all;
 }
 
 /* Gives a region all of its blocks, full, with a frame of every cluster, each
@@ -1202,7 +1327,7 @@ static void put_region(uint32_t region)
 
     if (clusters_of_region(region) == 0)
         return;
-    if (once_in(large_blocks() ? 2 : 4)) {
+    if (once_in(large_blocks() ? 2 : 4) && free_blocks() >= par.gamma) {
         pack_region(region);
         return;
     }
@@ -1262,27 +1387,47 @@ static uint32_t marks_of(uint32_t entry)
     return ones;
 }
 
-/* An orderly state that the calls need not be able to reach.  Needs N above
-   mu*gamma. */
+/* A free block becomes reserved: with anything on it, worn, or erased. */
+static void reserve_block(uint32_t block)
+{
+    bst[block] = CNFTL_BLOCK_RESERVED;
+    if (once_in(2))
+        fill_random(chip + block * block_bytes(), block_bytes());
+    else if (once_in(2))
+        *mark_of(block, 0) = 0;
+}
+
+/* All free blocks become reserved, or all but one. */
+static void reserve_free_blocks(void)
+{
+    uint32_t left = once_in(3);
+
+    while (free_blocks() > left)
+        reserve_block(some_block(CNFTL_BLOCK_FREE));
+}
+
+/* An orderly state that the calls need not be able to reach, at times with too
+   few blocks for all regions or with none that is free. */
 static void build_orderly(void)
 {
-    uint32_t spare = par.n - par.mu * par.gamma - 1;
+    uint32_t needed = par.mu * par.gamma + 1;
+    uint32_t spare = par.n < needed ? 0 : par.n - needed;
 
+    if (once_in(8))
+        spare = par.n - 1;
     memset(chip, 255, room[CHIP]);
     memset(ct, 255, room[CT]);
     memset(bt, 255, room[BT]);
     memset(fst, 255, room[FST]);
     memset(bst, CNFTL_BLOCK_FREE, room[BST]);
-    random_wear();
+    random_wear(once_in(2));
     random_stamps();
-    for (uint32_t i = below(spare + 1); i > 0; i--) {
-        uint32_t block = below(par.n);
-
-        bst[block] = CNFTL_BLOCK_RESERVED;
-        fill_random(chip + block * block_bytes(), block_bytes());
-    }
+    for (uint32_t i = below(spare + 1); i > 0; i--)
+        reserve_block(below(par.n));
     for (uint32_t r = 0; r < par.mu; r++)
         put_region(r);
+    if (once_in(6))
+        reserve_free_blocks();
     put_marks();
 }
 
@@ -1310,7 +1455,7 @@ static void spread_stamps(uint32_t region)
 static void make_startable(void)
 {
     for (uint32_t b = 0; b < par.n; b++)
-        if (bst[b] == CNFTL_BLOCK_RESERVED)
+        if (bst[b] == CNFTL_BLOCK_RESERVED && !bad_block(b))
             mark_bad(b);
     for (uint32_t r = 0; r < par.mu; r++)
         spread_stamps(r);
@@ -1345,13 +1490,18 @@ static void change_fst(void)
     *entry = other_entry(*entry, segments());
 }
 
-/* A BT entry: at times the one of another virtual block of the region. */
+/* A BT entry: at times that of another virtual block of the region or of any,
+   or one just past the last block. */
 static void change_bt(void)
 {
-    uint32_t i = below(par.mu * par.gamma);
+    uint32_t i = below(par.mu * par.gamma), named = some_entry(true);
 
-    if (once_in(2))
+    if (once_in(4))
+        bt[i] = (uint16_t)(par.n + below(3));
+    else if (once_in(3))
         bt[i] = bt[i / par.gamma * par.gamma + below(par.gamma)];
+    else if (once_in(2) && named != CNFTL_NONE)
+        bt[i] = bt[named];
     else
         bt[i] = other_entry(bt[i], par.n);
 }
@@ -1447,19 +1597,14 @@ static void cut_frame(void)
            255, cnftl_page_bytes(&par));
 }
 
-/* Free blocks become reserved until mu*gamma or fewer are left. */
+/* Free blocks become reserved until mu*gamma or fewer are not, or until none is
+   free. */
 static void reserve_blocks(void)
 {
-    uint32_t kept = 0, wanted = par.mu * par.gamma - once_in(4), block;
+    uint32_t wanted = once_in(2) ? 0 : par.mu * par.gamma - once_in(4);
 
-    for (uint32_t b = 0; b < par.n; b++)
-        kept += bst[b] != CNFTL_BLOCK_RESERVED;
-    for (; kept > wanted; kept--) {
-        block = some_block(CNFTL_BLOCK_FREE);
-        if (block == CNFTL_NONE)
-            return;
-        bst[block] = CNFTL_BLOCK_RESERVED;
-    }
+    while (blocks_kept() > wanted && free_blocks() > 0)
+        reserve_block(some_block(CNFTL_BLOCK_FREE));
 }
 
 /* A used block loses its last frame, and CT forgets that frame. */
@@ -1763,6 +1908,13 @@ static void repeat_stamp(void)
     }
 }
 
+/* Each block has been erased nearly as often as it is rated for, or more. */
+static void wear_blocks(void)
+{
+    for (uint32_t b = 0; b < par.n; b++)
+        wear[b] = once_in(2) ? par.e - 1 : wear_near_rated();
+}
+
 /* What a start looks at changes: whole blocks, or two stamps. */
 static void change_for_start(void)
 {
@@ -1792,7 +1944,8 @@ static void scramble_table(void)
 
 /* Changes one thing, most often, in both sides' states: marks or stamps alone,
    or another thing, which the marks then follow half of the time, so that they
-   do not always give it away.  At times no stamps are left then. */
+   do not always give it away.  At times no stamps are left then, or the blocks
+   are nearly worn. */
 static void change_state(void)
 {
     static void (*const changes[])(void) = {
@@ -1819,6 +1972,8 @@ static void change_state(void)
     }
     if (once_in(8))
         use_up_stamps();
+    if (once_in(4))
+        wear_blocks();
     copy_side(&model, &product);
 }
 
@@ -1955,15 +2110,17 @@ static void read_as_told(struct call k, const uint32_t *list)
     held_reads += list[CNFTL_WHY_HELD];
 }
 
-/* Writes one sector that a why has told to have no stamp left. */
+/* Writes one sector that a why has told to have no stamp or no block left. */
 static void refused_as_told(struct call k, const uint32_t *list)
 {
     uint64_t a = answer_of(&k);
 
-    if (cnftl_reply_of(a) != CNFTL_NO_STAMP_LEFT || list[CNFTL_WHY_TARGET] != 0
-        || list[CNFTL_WHY_TAKES] != 0 || list[CNFTL_WHY_COPIES] != 0)
+    if (cnftl_reply_of(a) != list[CNFTL_WHY_WRITE]
+        || list[CNFTL_WHY_TARGET] != 0 || list[CNFTL_WHY_TAKES] != 0
+        || list[CNFTL_WHY_COPIES] != 0)
         differ(&k, "the forecast", a, a);
-    stampless++;
+    stampless += cnftl_reply_of(a) == CNFTL_NO_STAMP_LEFT;
+    blockless += cnftl_reply_of(a) == CNFTL_NO_BLOCK_LEFT;
 }
 
 /* Whether the frame of a cluster in a virtual block of its region has the
@@ -2027,7 +2184,8 @@ static void hold_to_it(const struct call *why)
     k.len[LIST] = 0;
     if (k.kind == 'R')
         read_as_told(k, list);
-    else if (list[CNFTL_WHY_WRITE] == CNFTL_NO_STAMP_LEFT)
+    else if (list[CNFTL_WHY_WRITE] == CNFTL_NO_STAMP_LEFT
+             || list[CNFTL_WHY_WRITE] == CNFTL_NO_BLOCK_LEFT)
         refused_as_told(k, list);
     else
         write_as_told(k, list);
@@ -2072,20 +2230,6 @@ static void faulty_request(void)
     make_call(&k);
 }
 
-/* A format; a board that cannot be formatted gets a start, which cannot be made
-   either, and few calls more. */
-static void format_request(void)
-{
-    struct call k = right_call('F'), start = right_call('S');
-
-    if (make_call(&k) == CNFTL_ACCEPTED)
-        return;
-    if (calls < limit)
-        make_call(&start);
-    if (rest_of_episode > 8)
-        rest_of_episode = 8;
-}
-
 /* What comes after a cut: a start, some of which are cut themselves, and a few
    reads.  The start is accepted if the board was changed by calls and cuts
    alone since a format. */
@@ -2111,6 +2255,26 @@ static void start_again(void)
     }
 }
 
+/* The board gets at most this many calls more. */
+static void end_soon(uint32_t most)
+{
+    if (rest_of_episode > most)
+        rest_of_episode = most;
+}
+
+/* A format; a board that cannot be formatted gets a start and few calls
+   more. */
+static void format_request(void)
+{
+    struct call k = right_call('F'), start = right_call('S');
+
+    if (make_call(&k) == CNFTL_ACCEPTED)
+        return;
+    if (calls < limit)
+        make_call(&start);
+    end_soon(8);
+}
+
 /* A right call with a budget.  Most times a start follows a cut, and a format
    that of a format. */
 static void limited_request(void)
@@ -2121,7 +2285,8 @@ static void limited_request(void)
 
     give_budget(&k);
     a = answer_of(&k);
-    if (sound && cnftl_reply_of(a) != CNFTL_ACCEPTED)
+    if (sound && cnftl_reply_of(a) != CNFTL_ACCEPTED
+        && !may_be_refused(&k, cnftl_reply_of(a)))
         differ(&k, "the reply on a sound board", a, CNFTL_ACCEPTED);
     if (!is_cut() || once_in(8) || calls >= limit)
         return;
@@ -2132,9 +2297,10 @@ static void limited_request(void)
 }
 
 /* A right read, write, release, why, queue or start.  It is accepted if the
-   board was changed by calls alone since a format, and a start then erases
-   nothing.  A board that is cut is started soon, one that is not orderly is
-   formatted soon, and one with no stamp left in a region later. */
+   board was changed by calls alone since a format, but for a write where no
+   block is left, and a start then erases nothing.  A board that is cut is
+   started soon, one that is not orderly is formatted soon, one with no stamp
+   left in a region later, and one with no block left gets not many calls. */
 static void right_request(void)
 {
     struct call k = right_call(once_in(64) ? 'S'
@@ -2143,11 +2309,14 @@ static void right_request(void)
     uint64_t a = answer_of(&k);
     uint32_t reply = cnftl_reply_of(a);
 
-    if (sound && (reply != CNFTL_ACCEPTED
-                  || (k.kind == 'S' && cnftl_erases_of(a) != 0)))
+    if (sound && !may_be_refused(&k, reply)
+        && (reply != CNFTL_ACCEPTED
+            || (k.kind == 'S' && cnftl_erases_of(a) != 0)))
         differ(&k, "the reply on a sound board", a, CNFTL_ACCEPTED);
     if (k.kind == 'Y' && reply == CNFTL_ACCEPTED)
         hold_to_it(&k);
+    if (reply == CNFTL_NO_BLOCK_LEFT)
+        end_soon(60);
     if (is_cut() && once_in(2) && calls < limit)
         start_again();
     else if (((reply == CNFTL_NOT_ORDERLY && once_in(4))
@@ -2173,7 +2342,7 @@ static void start_state(void)
 
     if (kind == 0)
         return;
-    if (kind < (large_blocks() ? 14 : 7) && par.n > par.mu * par.gamma) {
+    if (kind < (large_blocks() ? 14 : 7)) {
         build_orderly();
         if (once_in(2))
             make_startable();
@@ -2236,15 +2405,25 @@ static uint32_t clusters_for(uint32_t mu, uint32_t l)
     return mu * (l - 1) + between(1, mu);
 }
 
-/* Fills in C and N: C is tight a third of the time, a few blocks are spare,
-   and rarely there are too few blocks. */
+/* Rated erases of a block: half of the time so few that a board has them. */
+static uint32_t some_rated(void)
+{
+    static const uint32_t values[] = { 1, 2, 2, 3, 3, 3, 5, 5, 5, 20, 20, 20 };
+
+    return once_in(2) ? RATED
+                      : values[below(sizeof values / sizeof *values)];
+}
+
+/* Fills in C, N and E: C is tight a third of the time, a few blocks are spare,
+   more of them where they wear out soon, and rarely there are too few. */
 static struct cnftl_params with_sizes(struct cnftl_params p)
 {
     uint32_t most = p.gamma * p.beta * p.d - 1;
 
+    p.e = some_rated();
     p.c = clusters_for(p.mu, once_in(3) ? most : between(1, most));
     p.n = once_in(24) ? between(1, p.mu * p.gamma)
-                      : p.mu * p.gamma + between(1, 4);
+                      : p.mu * p.gamma + between(1, p.e < RATED ? 12 : 4);
     return p;
 }
 
@@ -2314,6 +2493,7 @@ static struct cnftl_params extreme_board(void)
         p.gamma = 16;
         p.c = 16 * 31;
         p.n = 16 * 16 + between(1, 3);
+        p.e = some_rated();
         return p;
     default: /* one region */
         p.alpha = between(1, 4);
@@ -2335,18 +2515,20 @@ static struct cnftl_params large_block_board(void)
     p.gamma = between(2, 3);
     p.c = p.gamma * p.beta * p.d - between(1, 8);
     p.n = p.gamma + between(1, 4);
+    p.e = some_rated();
     return p;
 }
 
 /* The large extremes, each in its turn. */
 static void run_large_board(uint64_t turn)
 {
-    static const struct cnftl_params most_regions =
-        { 16, 1, 2, 1, 1024, 1, 1024, 1026, RATED };
-    static const struct cnftl_params most_blocks =
-        { 16, 1, 1, 1, 2, 2, 2, 65535, RATED };
-    static const struct cnftl_params most_clusters =
-        { 16, 1, 16, 16, 17, 16, 17 * 4095, 17 * 16 + 4, RATED };
+    uint32_t e = some_rated();
+    const struct cnftl_params most_regions =
+        { 16, 1, 2, 1, 1024, 1, 1024, 1026, e };
+    const struct cnftl_params most_blocks =
+        { 16, 1, 1, 1, 2, 2, 2, 65535, e };
+    const struct cnftl_params most_clusters =
+        { 16, 1, 16, 16, 17, 16, 17 * 4095, 17 * 16 + 4, e };
 
     switch (turn % 4) {
     case 0:
@@ -2385,14 +2567,13 @@ static void run_all(void)
 /* The replies that items of a queue get. */
 static const int item_replies[] = {
     CNFTL_ACCEPTED, CNFTL_BAD_COUNT, CNFTL_BAD_ADDRESS, CNFTL_WRONG_DATA,
-    CNFTL_NOT_ORDERLY, CNFTL_NO_STAMP_LEFT
+    CNFTL_NOT_ORDERLY, CNFTL_NO_STAMP_LEFT, CNFTL_NO_BLOCK_LEFT
 };
 enum { ITEM_REPLIES = sizeof item_replies / sizeof *item_replies };
 
 /* The replies that a start gets. */
 static const int start_replies[] = {
-    CNFTL_ACCEPTED, CNFTL_BAD_PARAMETER, CNFTL_WRONG_LENGTH,
-    CNFTL_TOO_FEW_BLOCKS, CNFTL_NOT_ORDERLY
+    CNFTL_ACCEPTED, CNFTL_BAD_PARAMETER, CNFTL_WRONG_LENGTH, CNFTL_NOT_ORDERLY
 };
 enum { START_REPLIES = sizeof start_replies / sizeof *start_replies };
 
@@ -2416,11 +2597,32 @@ static bool report_cuts(void)
     return all;
 }
 
+/* Prints what was seen of worn blocks; false if something never was. */
+static bool report_wear(void)
+{
+    bool all = unmarked > 0 && worn_formats > 0 && short_writes > 0
+            && short_reads > 0;
+
+    printf("fuzz: blocks worn out");
+    for (int i = 0; call_kinds[i]; i++) {
+        if (strchr("FWQS", call_kinds[i]) == NULL)
+            continue;
+        printf(" by %c %" PRIu64, call_kinds[i], worn_out[i]);
+        all = all && worn_out[i] > 0;
+    }
+    printf(", cuts before the mark of one %" PRIu64 "; formats refused for wear"
+           " alone %" PRIu64 "\n", unmarked, worn_formats);
+    printf("fuzz: with mu*gamma blocks or fewer not reserved: %" PRIu64
+           " writes accepted, %" PRIu64 " reads compared with the bytes last"
+           " accepted\n", short_writes, short_reads);
+    return all;
+}
+
 /* Prints what was seen; false if something never was. */
 static bool report(void)
 {
     bool all = reclaims > 0 && shadow_reads > 0 && kinds[3] > 0
-            && held_reads > 0 && stampless > 0;
+            && held_reads > 0 && stampless > 0 && blockless > 0;
 
     for (int r = 0; r < REPLIES; r++) {
         printf("fuzz: reply %d: %" PRIu64 " calls\n", r, seen[r]);
@@ -2446,11 +2648,14 @@ static bool report(void)
     for (int i = 0; i < START_REPLIES; i++)
         all = all && starts_seen[start_replies[i]] > 0;
     all = all && sweeps > 0 && came_back > 0;
+    all = all && starts_seen[CNFTL_TOO_FEW_BLOCKS] == 0;
     all = report_cuts() && all;
+    all = report_wear() && all;
     printf("fuzz: %" PRIu64 " whys, %" PRIu64 " read as told, written as told:"
            " %" PRIu64 " continued, %" PRIu64 " opened, %" PRIu64
-           " reclaimed, %" PRIu64 " had no stamp left\n", kinds[4], held_reads,
-           forecasts[1], forecasts[2], forecasts[3], stampless);
+           " reclaimed, %" PRIu64 " had no stamp left, %" PRIu64
+           " no block\n", kinds[4], held_reads, forecasts[1], forecasts[2],
+           forecasts[3], stampless, blockless);
     for (int i = 1; i < 4; i++)
         all = all && forecasts[i] > 0;
     printf("fuzz: spare areas looked at, as told: none %" PRIu64 " times, one %"
@@ -2464,7 +2669,7 @@ static bool report(void)
     all = all && worst_figures > 0 && empty_figures > 0;
     for (int i = 1; i < RULES; i++) {
         printf("fuzz: rule %d told broken: %" PRIu64 " times\n", i, broken[i]);
-        all = all && broken[i] > 0;
+        all = all && (broken[i] > 0) == (i != CNFTL_RULE_ENOUGH);
     }
     return all;
 }

@@ -433,19 +433,18 @@ static bool used_exactly_if_named(const struct view *v)
     return true;
 }
 
-/* "At least mu*gamma+1 blocks are not reserved." */
+/* "At least mu*gamma+1 blocks are not reserved."  T-12: "An orderly state no
+   longer asks for" that; the rule keeps its place, and none breaks it. */
 static bool enough_blocks(const struct view *v)
 {
     uint32_t kept = 0;
 
+    if (!MUTANT(BLOCKS_ASKED) && !MUTANT(BLOCK_ASKED))
+        return true;
     for (uint32_t b = 0; b < v->p.n; b++)
         if (v->bst[b] != RESERVED)
             kept++;
-    if (MUTANT(FEW_BLOCKS))
-        return true;
-    if (MUTANT(ONE_BLOCK_SHORT))
-        return kept >= v->p.mu * v->p.gamma;
-    return kept >= v->p.mu * v->p.gamma + 1;
+    return kept >= (MUTANT(BLOCK_ASKED) ? 1 : v->p.mu * v->p.gamma + 1);
 }
 
 /* Whether every page of a block from a frame on is erased. */
@@ -687,8 +686,8 @@ static bool orderly(const struct view *v)
 
 /* ==== Budgets ========================================================== */
 
-/* What a budget counts. */
-enum operation { HOST_PAGE, COPIED_PAGE, BLOCK_ERASE, OPERATIONS };
+/* What a budget counts.  T-12: "These mark programs count in T-07's budget". */
+enum operation { HOST_PAGE, COPIED_PAGE, BLOCK_ERASE, WORN_MARK, OPERATIONS };
 
 /* T-07: "Power may go after any page program or block erase, each of them
    whole."  The power that the call being made has left, where it has a budget,
@@ -707,7 +706,8 @@ static bool costs_nothing(enum operation kind)
 {
     return (MUTANT(CUT_COPIES_FREE) && kind == COPIED_PAGE)
         || (MUTANT(CUT_PROGRAMS_FREE) && kind != BLOCK_ERASE)
-        || (MUTANT(CUT_ERASES_FREE) && kind == BLOCK_ERASE);
+        || (MUTANT(CUT_ERASES_FREE) && kind == BLOCK_ERASE)
+        || (MUTANT(CUT_MARKS_FREE) && kind == WORN_MARK);
 }
 
 /* The call goes no further if its budget is spent. */
@@ -871,6 +871,85 @@ static uint32_t good_blocks(const struct view *v)
     return good;
 }
 
+/* T-12: "When an erase .. brings a block's wear to E or more": whether a block
+   with this wear after its erase is worn. */
+static bool worn_at(const struct params *p, uint64_t wear)
+{
+    if (MUTANT(WORN_LATE))
+        return wear > p->e;
+    return MUTANT(WORN_EXACTLY) ? wear == p->e : wear >= p->e;
+}
+
+/* The same before the erase, which counts one more. */
+static bool erase_wears_out(const struct view *v, uint32_t block)
+{
+    return worn_at(&v->p, (uint64_t)v->wear[block]
+                          + !MUTANT(FORMAT_6_BY_WEAR));
+}
+
+/* T-12: "Format's 6 counts blocks still good after its erases". */
+static uint32_t blocks_after_format(const struct view *v)
+{
+    uint32_t kept = 0;
+
+    for (uint32_t b = 0; b < v->p.n; b++)
+        kept += !block_bad(v, b)
+             && (MUTANT(FORMAT_6_BY_BAD) || !erase_wears_out(v, b));
+    return kept;
+}
+
+/* The marks of worn blocks that were programmed in all, for a mutant. */
+static uint32_t marks_made;
+
+/* "its first page gets a zero in spare byte 5" */
+static void put_worn_mark(struct lent *l, uint32_t block)
+{
+    uint32_t page = MUTANT(WORN_SECOND_PAGE) && l->v.p.p >= 2;
+    uint8_t *first = l->chip + page_at(&l->v.p, block, 0, 0);
+
+    first[page * page_bytes(&l->v.p) + l->v.p.s
+          + (MUTANT(WORN_BYTE_6) ? 6 : 5)] = 0;
+}
+
+/* Programs that mark: one operation. */
+static void program_worn_mark(struct lent *l, uint32_t block)
+{
+    begin_operation();
+    assert(model_mutant != MODEL_RIGHT || page_erased(&l->v, block, 0, 0));
+    put_worn_mark(l, block);
+    marks_made++;
+    end_operation(WORN_MARK);
+}
+
+/* A block is about to be erased; a mutant marks it before that. */
+static void begin_erase(struct lent *l, uint32_t block)
+{
+    if (MUTANT(WORN_MARK_FIRST) && erase_wears_out(&l->v, block))
+        program_worn_mark(l, block);
+    begin_operation();
+}
+
+/* A block was erased and its wear counted: it "becomes reserved" if that has
+   worn it out, right after its mark, and else free. */
+static void end_erase(struct lent *l, uint32_t block, bool left_free)
+{
+    bool worn = worn_at(&l->v.p, l->wear[block]);
+
+    if (MUTANT(WORN_MARK_FIRST) && worn)
+        put_worn_mark(l, block);
+    end_operation(BLOCK_ERASE);
+    l->bst[block] = worn && !left_free ? RESERVED : FREE;
+    if (worn && !MUTANT(WORN_UNMARKED) && !MUTANT(WORN_MARK_FIRST))
+        program_worn_mark(l, block);
+}
+
+/* What a call that has programmed so many marks before it reports for its own:
+   they "are not reported". */
+static uint32_t reported_marks(uint32_t before)
+{
+    return MUTANT(WORN_REPORTED) ? marks_made - before : 0;
+}
+
 /* "Bad blocks become reserved and are not touched. All others are erased (one
    erase each) and become free." */
 static void format_block(struct lent *l, uint32_t block)
@@ -881,14 +960,13 @@ static void format_block(struct lent *l, uint32_t block)
             erase_pages(l, block);
         return;
     }
-    l->bst[block] = FREE;
-    begin_operation();
+    begin_erase(l, block);
     erase_pages(l, block);
     if (MUTANT(FORMAT_CLEARS_WEAR))
         l->wear[block] = 0;
     if (!MUTANT(FORMAT_NO_WEAR))
         count_erase(l, block);
-    end_operation(BLOCK_ERASE);
+    end_erase(l, block, MUTANT(WORN_FREE_AT_FORMAT));
 }
 
 /* Works every mark out from the rule, as the chip and the tables now stand. */
@@ -997,8 +1075,18 @@ static void load_old(const struct view *v, const struct spot *old,
         memset(bytes, 255, (size_t)v->p.alpha * v->p.s);
 }
 
+/* Whether as many blocks as this are free. */
+static bool blocks_free(const struct view *v, uint32_t wanted)
+{
+    uint32_t all = 0;
+
+    for (uint32_t b = 0; b < v->p.n; b++)
+        all += v->bst[b] == FREE;
+    return all >= wanted;
+}
+
 /* "Free block. The one with the lowest wear, the lowest number on a tie."
-   An orderly state has one; block 0 stands in where a mutant has none. */
+   A write that needs one has one; block 0 stands in where a mutant has none. */
 static uint32_t free_block(const struct view *v)
 {
     bool found = false;
@@ -1165,15 +1253,18 @@ static uint32_t copy_frames(struct lent *l, uint32_t region, uint32_t victim,
     return copied;
 }
 
-/* "The victim is erased": its pages and its wear. */
+/* "The victim is erased and becomes free": its pages and its wear; or it is
+   worn out. */
 static void erase_victim(struct lent *l, uint32_t block)
 {
-    begin_operation();
+    begin_erase(l, block);
     if (!MUTANT(VICTIM_NOT_ERASED))
         erase_pages(l, block);
     if (!MUTANT(RECLAIM_NO_WEAR))
         count_erase(l, block);
-    end_operation(BLOCK_ERASE);
+    end_erase(l, block, MUTANT(WORN_FREE_AT_RECLAIM));
+    if (MUTANT(VICTIM_NOT_FREED))
+        l->bst[block] = USED;
 }
 
 /* The same before the copies, which then come from memory, as a mutant does
@@ -1225,8 +1316,6 @@ static struct spot reclaim(struct lent *l, uint32_t region, uint32_t written,
         if (!MUTANT(CUT_FRAME_FIRST))
             erase_victim(l, old);
     }
-    if (!MUTANT(VICTIM_NOT_FREED))
-        l->bst[old] = FREE;
     assign(l, region, victim, taken);
     at.frame = MUTANT(COPIES_FROM_1) ? 0 : *copied;
     return at;
@@ -1417,7 +1506,7 @@ void model_writes_per_erase(const struct cnftl_params *given,
 
 enum {
     ACCEPTED, BAD_PARAMETER, WRONG_LENGTH, BAD_COUNT, BAD_ADDRESS, WRONG_DATA,
-    TOO_FEW_BLOCKS, NOT_ORDERLY, TOO_FEW_ANSWERS, NO_STAMP_LEFT
+    TOO_FEW_BLOCKS, NOT_ORDERLY, TOO_FEW_ANSWERS, NO_STAMP_LEFT, NO_BLOCK_LEFT
 };
 
 /* The entries of the list of T-05. */
@@ -1496,20 +1585,63 @@ static uint32_t refuse_request(const struct view *v, uint32_t lba,
     return orderly(v) ? ACCEPTED : NOT_ORDERLY;
 }
 
-/* T-07: "9, after 7, when a write's region has no stamp left." */
+/* T-12: "a write needs a free block": where the open block of its region has no
+   frame left, or there is none, it opens a virtual block or reclaims one. */
+static bool needs_block(const struct view *v, uint32_t cluster)
+{
+    uint32_t region = region_of(&v->p, cluster), assigned = 0;
+
+    for (uint32_t i = 0; i < v->p.gamma; i++)
+        assigned += block_of(v, region, i) != NONE;
+    if ((MUTANT(TEN_AT_RECLAIM_ONLY) && assigned < v->p.gamma)
+        || (MUTANT(TEN_AT_OPENING_ONLY) && assigned == v->p.gamma))
+        return false;
+    return MUTANT(TEN_ALWAYS) || !open_frame(v, region).found;
+}
+
+/* T-12: "10 .. exactly when a write needs a free block and there is none". */
+static bool no_block_left(const struct view *v, uint32_t cluster)
+{
+    return !MUTANT(TEN_NEVER) && needs_block(v, cluster)
+        && !blocks_free(v, MUTANT(TEN_EARLY) ? 2 : 1);
+}
+
+/* T-07: "9, after 7, when a write's region has no stamp left."  T-12: "10,
+   after 9". */
 static uint32_t refuse_write(const struct view *v, uint32_t lba,
                              uint32_t count, size_t data_len)
 {
     uint32_t reply = refuse_request(v, lba, count, data_len);
+    uint32_t cluster = cluster_of(&v->p, lba);
+    bool blockless = reply == ACCEPTED && no_block_left(v, cluster);
 
     if (reply != ACCEPTED
         && !(reply == NOT_ORDERLY && MUTANT(STAMP_BEFORE_ORDER)))
         return reply;
-    return no_stamp_left(v, cluster_of(&v->p, lba)) ? NO_STAMP_LEFT : reply;
+    if (blockless && MUTANT(TEN_BEFORE_NINE))
+        return NO_BLOCK_LEFT;
+    if (no_stamp_left(v, cluster))
+        return NO_STAMP_LEFT;
+    if (blockless)
+        return MUTANT(TEN_IS_SIX) ? TOO_FEW_BLOCKS : NO_BLOCK_LEFT;
+    return reply;
 }
 
-/* 6: "fewer than mu*gamma+1 blocks are not bad".  "a format reports 0 programs
-   and one erase for each block not bad." */
+/* What a format reports: "0 programs and one erase for each block not bad", of
+   which there were so many; also for those that it has worn out. */
+static uint64_t formatted(const struct view *v, uint32_t good, uint32_t marked)
+{
+    if (MUTANT(FORMAT_NO_ERASES))
+        good = 0;
+    if (MUTANT(FORMAT_COUNTS_BAD))
+        good = v->p.n;
+    if (MUTANT(FORMAT_COUNTS_KEPT))
+        good = good_blocks(v);
+    return answer(ACCEPTED, reported_marks(marked), good, 0);
+}
+
+/* 6: "fewer than mu*gamma+1 blocks are not bad", by T-12's count, "and is given
+   before anything is erased". */
 uint64_t model_format(uint32_t s, uint32_t alpha, uint32_t beta, uint32_t d,
                       uint32_t mu, uint32_t gamma, uint32_t c, uint32_t n,
                       uint32_t e,
@@ -1531,20 +1663,20 @@ uint64_t model_format(uint32_t s, uint32_t alpha, uint32_t beta, uint32_t d,
         { p, chip, ct, bt, fst, bst, wear, marks, stamps },
         chip, ct, bt, fst, bst, wear, marks, stamps
     };
-    uint32_t reply = refuse_board(&p, &len), good;
+    uint32_t reply = refuse_board(&p, &len), good, marked = marks_made;
 
     if (reply != ACCEPTED)
         return answer(reply, 0, 0, 0);
     good = good_blocks(&l.v);
-    if (good < mu * gamma + !MUTANT(FORMAT_BLOCKS_EXACT))
-        return answer(TOO_FEW_BLOCKS, 0, 0, 0);
+    if (blocks_after_format(&l.v) < mu * gamma + !MUTANT(FORMAT_BLOCKS_EXACT))
+        reply = TOO_FEW_BLOCKS;
+    if (reply != ACCEPTED && !MUTANT(FORMAT_6_LATE))
+        return answer(reply, 0, 0, 0);
     past_refusals();
     format_steps(&l);
-    if (MUTANT(FORMAT_NO_ERASES))
-        good = 0;
-    if (MUTANT(FORMAT_COUNTS_BAD))
-        good = n;
-    return answer(ACCEPTED, 0, good, 0);
+    if (reply != ACCEPTED)
+        return answer(reply, 0, 0, 0);
+    return formatted(&l.v, good, marked);
 }
 
 /* "A read reports 0 and 0 and writes only its data buffer".  T-08's looks come
@@ -1572,8 +1704,13 @@ uint64_t model_read(uint32_t s, uint32_t alpha, uint32_t beta, uint32_t d,
     uint32_t reply = refuse_board(&p, &len);
 
     if (reply == ACCEPTED)
-        reply = MUTANT(READ_GIVES_9) ? refuse_write(&v, lba, count, data_len)
-                                     : refuse_request(&v, lba, count, data_len);
+        reply = refuse_request(&v, lba, count, data_len);
+    if (reply == ACCEPTED && MUTANT(READ_GIVES_9)
+        && no_stamp_left(&v, cluster_of(&p, lba)))
+        reply = NO_STAMP_LEFT;
+    if (reply == ACCEPTED && MUTANT(READ_GIVES_10)
+        && no_block_left(&v, cluster_of(&p, lba)))
+        reply = NO_BLOCK_LEFT;
     if (reply == NOT_ORDERLY && MUTANT(REFUSED_READ_CLEARS))
         memset(data, 255, data_len);
     if (reply != ACCEPTED)
@@ -1607,14 +1744,15 @@ static uint64_t refused_write(const struct lent *l, uint32_t reply,
 static uint64_t accepted_write(struct lent *l, uint32_t lba, uint32_t count,
                                const uint8_t *data)
 {
+    uint32_t marked = marks_made;
     struct work work = write_steps(l, lba, count, data);
 
     if (MUTANT(PROGRAMS_ALPHA))
         work.copied = 0;
     if (MUTANT(ERASE_UNCOUNTED))
         work.erases = 0;
-    return answer(ACCEPTED, l->v.p.alpha * (work.copied + 1), work.erases,
-                  work.looks);
+    return answer(ACCEPTED, l->v.p.alpha * (work.copied + 1)
+                            + reported_marks(marked), work.erases, work.looks);
 }
 
 /* Refuses or makes the steps of a write. */
@@ -1827,6 +1965,8 @@ static uint32_t refuse_release(const struct view *v, uint32_t cluster)
         return NOT_ORDERLY;
     if (MUTANT(RELEASE_GIVES_9) && no_stamp_left(v, cluster))
         return NO_STAMP_LEFT;
+    if (MUTANT(RELEASE_GIVES_10) && no_block_left(v, cluster))
+        return NO_BLOCK_LEFT;
     return ACCEPTED;
 }
 
@@ -1887,8 +2027,10 @@ static uint32_t told_rule(const struct view *v)
 {
     uint32_t rule = broken_rule(v);
 
-    if (MUTANT(WHY_RULE_ORDER) && rule == 4 && !enough_blocks(v))
-        return 5;
+    if (MUTANT(WHY_RULE_ORDER) && rule == 4 && !free_blocks_erased(v))
+        return 6;
+    if (MUTANT(WHY_RULE_NUMBERS) && rule > 5)
+        return rule - 1;
     if (MUTANT(WHY_MARKS_FIRST) && rule == 9 && !marks_orderly(v))
         return 10;
     if (MUTANT(WHY_STAMPS_FIRST) && rule == 10 && !stamps_orderly(v))
@@ -1936,8 +2078,8 @@ static void tell_victim(const struct view *v, uint32_t region, uint32_t *list)
 }
 
 /* "For a write it says whether the frame lies in the open block, opens a named
-   virtual block, or reclaims a named one"; T-12: "T-05's forecast gives 9 ..
-   too", with nothing after it. */
+   virtual block, or reclaims a named one"; T-12: "T-05's forecast gives 9 and
+   10 too", with nothing after it. */
 static void tell_write(const struct view *v, uint32_t cluster, uint32_t *list)
 {
     uint32_t region = region_of(&v->p, cluster), i = 0;
@@ -1945,6 +2087,10 @@ static void tell_write(const struct view *v, uint32_t cluster, uint32_t *list)
 
     if (no_stamp_left(v, cluster) && !MUTANT(WHY_PAST_STAMPS)) {
         list[WHY_WRITE] = NO_STAMP_LEFT;
+        return;
+    }
+    if (no_block_left(v, cluster) && !MUTANT(WHY_PAST_BLOCKS)) {
+        list[WHY_WRITE] = NO_BLOCK_LEFT;
         return;
     }
     if (open.found) {
@@ -1964,11 +2110,12 @@ static void tell_write(const struct view *v, uint32_t cluster, uint32_t *list)
 }
 
 /* The forecast, the frame, and the looks that T-08 counts; frame and looks are
-   told where the forecast is 9 too. */
+   told where the forecast is 9 or 10 too. */
 static void tell_all(const struct view *v, uint32_t cluster, uint32_t *list)
 {
     tell_write(v, cluster, list);
-    if (MUTANT(WHY_9_BARE) && no_stamp_left(v, cluster))
+    if ((MUTANT(WHY_9_BARE) && no_stamp_left(v, cluster))
+        || (MUTANT(WHY_10_BARE) && no_block_left(v, cluster)))
         return;
     tell_frame(v, cluster, list);
     list[WHY_LOOKS] = looks_for(v, cluster);
@@ -2234,12 +2381,12 @@ static uint32_t start_blocks(struct lent *l)
         }
         if (!found->left_over)
             continue;
-        begin_operation();
+        begin_erase(l, b);
         if (!MUTANT(START_NOT_ERASED))
             erase_pages(l, b);
         if (!MUTANT(START_NO_WEAR))
             count_erase(l, b);
-        end_operation(BLOCK_ERASE);
+        end_erase(l, b, MUTANT(WORN_FREE_AT_START));
         erases++;
     }
     return MUTANT(START_NO_COUNT) ? 0 : erases;
@@ -2351,12 +2498,12 @@ static uint32_t start_steps(struct lent *l)
     return erases;
 }
 
-/* T-07: "Refusals: 1, 2, 6 and 7 for the start". */
+/* T-07: "Refusals: 1, 2, 6 and 7 for the start"; T-12: "start and salvage no
+   longer give 6". */
 static uint32_t refuse_start(const struct view *v)
 {
-    bool few = good_blocks(v) < v->p.mu * v->p.gamma + 1;
-
-    if (few && !(MUTANT(START_7_FIRST) && !startable(v)))
+    if (MUTANT(START_GIVES_6)
+        && good_blocks(v) < v->p.mu * v->p.gamma + 1)
         return TOO_FEW_BLOCKS;
     return startable(v) ? ACCEPTED : NOT_ORDERLY;
 }
@@ -2383,14 +2530,15 @@ uint64_t model_start(uint32_t s, uint32_t alpha, uint32_t beta, uint32_t d,
         { p, chip, ct, bt, fst, bst, wear, marks, stamps },
         chip, ct, bt, fst, bst, wear, marks, stamps
     };
-    uint32_t reply = refuse_board(&p, &len);
+    uint32_t reply = refuse_board(&p, &len), marked = marks_made, erases;
 
     if (reply == ACCEPTED)
         reply = refuse_start(&l.v);
     if (reply != ACCEPTED)
         return answer(reply, 0, 0, 0);
     past_refusals();
-    return answer(ACCEPTED, 0, start_steps(&l), 0);
+    erases = start_steps(&l);
+    return answer(ACCEPTED, reported_marks(marked), erases, 0);
 }
 
 /* ==== Calls that power may end ========================================= */

@@ -34,13 +34,22 @@
     X(STAMP_EARLY, "replies: 9 where one stamp is left")                       \
     X(READ_GIVES_9, "replies: 9 given to a read")                              \
     X(RELEASE_GIVES_9, "replies: 9 given to a release")                        \
+    X(TEN_BEFORE_NINE, "replies: 10 checked before 9")                         \
+    X(TEN_ALWAYS, "replies: 10 where the open block has room, too")            \
+    X(TEN_EARLY, "replies: 10 where one block is free")                        \
+    X(TEN_NEVER, "replies: no 10, a block that is not free is taken")          \
+    X(TEN_IS_SIX, "replies: 6 in place of 10")                                 \
+    X(TEN_AT_RECLAIM_ONLY, "replies: no 10 where a virtual block is opened")   \
+    X(TEN_AT_OPENING_ONLY, "replies: no 10 where a block is reclaimed")        \
+    X(READ_GIVES_10, "replies: 10 given to a read")                            \
+    X(RELEASE_GIVES_10, "replies: 10 given to a release")                      \
     /* when a state is orderly */                                              \
     X(BST_VALUE, "orderly: a BST entry above 2 accepted")                      \
     X(NAMED_TWICE, "orderly: a block named twice accepted")                    \
     X(NAMED_NOT_USED, "orderly: a named block that is not used accepted")      \
     X(USED_NOT_NAMED, "orderly: a used block that is not named accepted")      \
-    X(FEW_BLOCKS, "orderly: fewer than mu*gamma+1 blocks accepted")            \
-    X(ONE_BLOCK_SHORT, "orderly: mu*gamma blocks accepted")                    \
+    X(BLOCKS_ASKED, "orderly: mu*gamma+1 blocks not reserved asked for")       \
+    X(BLOCK_ASKED, "orderly: a block that is not reserved asked for")          \
     X(FREE_NOT_ERASED, "orderly: a free block not erased accepted")            \
     X(RESERVED_ERASED, "orderly: a reserved block must be erased")             \
     X(EMPTY_USED, "orderly: a used block with no frame accepted")              \
@@ -78,6 +87,21 @@
     X(BAD_BEYOND_THE_BLOCK, "format: with P 1, the next block's mark counts")  \
     X(FORMAT_BLOCKS_EXACT, "format: mu*gamma good blocks are enough")          \
     X(FORMAT_KEEPS_FST, "format: FST stays as it was")                         \
+    X(FORMAT_6_BY_BAD, "format: 6 by the blocks that are not bad alone")       \
+    X(FORMAT_6_BY_WEAR, "format: 6 by the wear before its erases")             \
+    X(FORMAT_6_LATE, "format: 6 given after its erases")                       \
+    X(FORMAT_COUNTS_KEPT, "format: no erase counted for those it wears out")   \
+    /* worn blocks */                                                          \
+    X(WORN_LATE, "worn: at E + 1 erases")                                      \
+    X(WORN_EXACTLY, "worn: at E erases and not above")                         \
+    X(WORN_UNMARKED, "worn: no mark")                                          \
+    X(WORN_MARK_FIRST, "worn: the mark comes before the erase")                \
+    X(WORN_SECOND_PAGE, "worn: the mark on the second page")                   \
+    X(WORN_BYTE_6, "worn: the mark in spare byte 6")                           \
+    X(WORN_REPORTED, "worn: the mark reported as a program")                   \
+    X(WORN_FREE_AT_FORMAT, "worn: the block left free at a format")            \
+    X(WORN_FREE_AT_RECLAIM, "worn: the block left free at a reclaim")          \
+    X(WORN_FREE_AT_START, "worn: the block left free at a start")              \
     /* read and write */                                                       \
     X(FIRST_FRAME, "read: the first frame of the cluster, not the last")       \
     X(BEGUN_VALID, "valid: a frame that is only begun may be")                 \
@@ -139,7 +163,8 @@
     X(OLD_VIRTUAL, "stamps: spare byte 11 of the old virtual block kept")      \
     X(COPY_STAMP, "stamps: a copy gets that of the write")                     \
     /* why */                                                                  \
-    X(WHY_RULE_ORDER, "why: too few blocks told before used if named")         \
+    X(WHY_RULE_ORDER, "why: free but not erased told before used if named")    \
+    X(WHY_RULE_NUMBERS, "why: the rules after the fifth numbered one less")    \
     X(WHY_MARKS_FIRST, "why: a wrong mark told before a wrong CT entry")       \
     X(WHY_STAMPS_FIRST, "why: a wrong stamp told before a wrong mark")         \
     X(WHY_STALE, "why: the first frame of the cluster, not the last")          \
@@ -148,6 +173,8 @@
     X(WHY_FILLS_4, "why: the list is filled with reply 4 too")                 \
     X(WHY_PAST_STAMPS, "why: the forecast goes on where no stamp is left")     \
     X(WHY_9_BARE, "why: no frame told where no stamp is left")                 \
+    X(WHY_PAST_BLOCKS, "why: the forecast goes on where no block is left")     \
+    X(WHY_10_BARE, "why: no frame told where no block is left")                \
     /* queue */                                                                \
     X(QUEUE_STOPS, "queue: a refused item stops it")                           \
     X(QUEUE_OLD_STATE, "queue: each item with the FST from before it")         \
@@ -172,7 +199,7 @@
     X(LOOKS_COPIES, "looks: one counted for each copy too")                    \
     X(LOOKS_WHOLE, "looks: none counted for a write of a whole cluster")       \
     /* start */                                                                \
-    X(START_7_FIRST, "start: 7 tested before 6")                               \
+    X(START_GIVES_6, "start: 6 where fewer than mu*gamma+1 are not bad")       \
     X(START_GAMMA, "start: a virtual block from gamma up taken for one")       \
     X(START_ANY_BLOCK, "start: a block that is not orderly erased, not 7")     \
     X(START_THREE, "start: three blocks of a virtual block accepted")          \
@@ -209,6 +236,7 @@
     X(CUT_COPIES_FREE, "cut: copied pages not counted")                        \
     X(CUT_PROGRAMS_FREE, "cut: only erases counted")                           \
     X(CUT_ERASES_FREE, "cut: erases not counted")                              \
+    X(CUT_MARKS_FREE, "cut: the marks of worn blocks not counted")             \
     X(CUT_BEFORE_REFUSALS, "cut: budget 0 cuts a call that is to be refused")  \
     X(CUT_REFUSED, "cut: a refused call loses its tables")                     \
     X(CUT_KEEPS_CT, "cut: CT kept")                                            \
