@@ -9,7 +9,12 @@
  * what the host knows.  That start is made twice, cut after each of its own
  * operations, and made again.  A budget of one more is the plain call.  All
  * bytes of each call are compared with the model's.  The run goes on with the
- * call as it is or, at times, with one of the boards that came back.
+ * call as it is or, at times, with one of the boards that came back.  Half of
+ * the boards have few rated erases, so that their blocks wear out and cuts fall
+ * between an erase and its mark; where a write then needs a free block and
+ * there is none, or a format would leave too few, it is refused at every
+ * budget, and every sector still reads as before.  A board whose format was cut
+ * and whose next one is refused so has come to its end.
  *
  * What the host knows is kept here, in plain arrays: the bytes last accepted
  * for each cluster, which clusters were released since, and the write that was
@@ -34,7 +39,8 @@
 #include <string.h>
 
 enum { MOST_S = 18, MOST_ALPHA = 4, MOST_F = 6, MOST_MU = 3, MOST_GAMMA = 4 };
-enum { MOST_P = MOST_ALPHA * MOST_F, MOST_N = MOST_MU * MOST_GAMMA + 4 };
+enum { MOST_P = MOST_ALPHA * MOST_F, MOST_SPARE = 4, WORN_SPARE = 8 };
+enum { MOST_N = MOST_MU * MOST_GAMMA + WORN_SPARE, RATED = 1000000 };
 enum { MOST_C = MOST_MU * (MOST_GAMMA * MOST_F - 1), MOST_ITEMS = 3 };
 enum { MOST_CLUSTER = MOST_ALPHA * MOST_S };
 enum { SHAPES = MOST_ALPHA * MOST_GAMMA * MOST_MU };
@@ -266,13 +272,69 @@ static uint64_t operations(uint64_t a)
     return cnftl_programs_of(a) + (uint64_t)cnftl_erases_of(a);
 }
 
-/* Those of a call: of a queue, of its items together. */
+/* A page of a chip, counted over it. */
+static const uint8_t *page_at(const struct state *b, size_t page)
+{
+    return b->chip + page * cnftl_page_bytes(&par);
+}
+
+/* Whether a block has a bad mark on its first or second page. */
+static bool is_bad(const struct state *b, size_t block)
+{
+    size_t pages = cnftl_pages_per_block(&par);
+    const uint8_t *first = page_at(b, block * pages) + par.s;
+
+    return first[5] != 255
+        || (pages > 1 && first[cnftl_page_bytes(&par) + 5] != 255);
+}
+
+/* How many blocks have one. */
+static uint32_t bad_in(const struct state *b)
+{
+    uint32_t bad = 0;
+
+    for (uint32_t i = 0; i < par.n; i++)
+        bad += is_bad(b, i);
+    return bad;
+}
+
+/* The marks of worn blocks of the call that is cut, which no answer reports,
+   and those of its items. */
+static struct {
+    uint64_t own, item[MOST_ITEMS];
+} marked;
+
+/* Counts them, those of a queue by single writes. */
+static void count_marks(const struct state *before, const struct state *after,
+                        const struct call *k)
+{
+    static struct state b;
+    uint32_t bad = bad_in(before);
+
+    memset(&marked, 0, sizeof marked);
+    memcpy(&b, before, sizeof b);
+    if (k->kind != 'Q')
+        marked.own = bad_in(after) - bad;
+    for (size_t i = 0; i < k->items; i++) {
+        struct cnftl_board board = lend(&b);
+        const struct cnftl_request *item = &k->item[i];
+        size_t len = (size_t)item->count * par.s;
+
+        if (item->first + len <= sizeof k->data)
+            layer->write(CNFTL_BOARD(&board), item->lba, item->count,
+                         k->data + item->first, len);
+        marked.item[i] = bad_in(&b) - bad;
+        bad = bad_in(&b);
+    }
+}
+
+/* The operations of a call: of a queue, of its items together. */
 static uint64_t operations_of(const struct call *k, const struct answer *a)
 {
-    uint64_t made = operations(a->own);
+    uint64_t made = operations(a->own) + marked.own;
 
     for (size_t i = 0; i < k->items; i++)
-        made += operations(a->item[i]);
+        made += operations(a->item[i]) + marked.item[i];
     return made;
 }
 
@@ -335,22 +397,6 @@ static void know_release(struct knowledge *host, uint32_t cluster)
     host->released[cluster] = true;
 }
 
-/* A page of a chip, counted over it. */
-static const uint8_t *page_at(const struct state *b, size_t page)
-{
-    return b->chip + page * cnftl_page_bytes(&par);
-}
-
-/* Whether a block has the maker's bad mark on its first or second page. */
-static bool is_bad(const struct state *b, size_t block)
-{
-    size_t pages = cnftl_pages_per_block(&par);
-    const uint8_t *first = page_at(b, block * pages) + par.s;
-
-    return first[5] != 255
-        || (pages > 1 && first[cnftl_page_bytes(&par) + 5] != 255);
-}
-
 /* The number of four bytes, low byte first. */
 static uint32_t number_at(const uint8_t *from)
 {
@@ -394,6 +440,20 @@ static void read_cluster(struct state *b, uint32_t cluster, uint8_t *to,
     reads++;
 }
 
+/* Reads every cluster of a board that was not cut: reads hold also where no
+   block is left. */
+static void read_all(struct state *b, const struct knowledge *host,
+                     const struct call *k)
+{
+    for (uint32_t x = 0; x < par.c; x++) {
+        uint8_t now[MOST_CLUSTER];
+
+        read_cluster(b, x, now, k);
+        expect(memcmp(now, host->bytes[x], cluster_bytes()) == 0, k,
+               "beside it a cluster reads otherwise");
+    }
+}
+
 /* Reads every cluster after a start on the chip as it was cut, and holds it to
    what the host knows.  What is found is what the host then knows. */
 static void find_all(struct state *b, const struct state *as_cut,
@@ -428,6 +488,12 @@ static uint64_t calls_cut[4], cuts_of[4]; /* by kind */
 static uint64_t starts, start_erases;     /* starts after a cut, their erases */
 static uint64_t finished_items;           /* accepted ones of cut queues */
 static uint64_t longest;                  /* the most operations of a call */
+static uint64_t worn, worn_starts;        /* blocks worn out, and by starts */
+static uint64_t unmarked;                 /* cuts between erase and mark */
+static uint64_t tens, sixes;              /* writes and formats of runs that
+                                             were refused with 10 and 6 */
+static uint64_t ends;                     /* boards whose format was cut and
+                                             that none can be made on */
 
 static const struct call start_call = {
     'S', false, 0, 0, 0, 0, 0, { { 0, 0, 0 } }, { 0 }
@@ -480,33 +546,85 @@ static void start_to(const struct state *from, const struct call *k,
     expect(memcmp(&b, right, sizeof b) == 0, k, "a start finds otherwise");
 }
 
+/* Whether a block is erased throughout, but for the mark of a worn block. */
+static bool is_worn(const struct state *b, uint32_t block)
+{
+    size_t pages = cnftl_pages_per_block(&par), page = cnftl_page_bytes(&par);
+    const uint8_t *first = page_at(b, block * pages);
+
+    return first[par.s + 5] == 0 && all_ones(first, par.s + 5)
+        && all_ones(first + par.s + 6, pages * page - par.s - 6);
+}
+
+/* Looks at the blocks that a call has erased, between these boards: exactly
+   those whose wear came to E or more are marked, and else erased, and reserved.
+   A cut call has no BST, and its last erase may have no mark yet. */
+static void worn_right(const struct state *before, const struct state *after,
+                       const struct call *k, bool is_cut)
+{
+    uint32_t without = 0;
+
+    for (uint32_t i = 0; i < par.n; i++) {
+        bool fresh = is_bad(after, i) && !is_bad(before, i);
+        bool due = after->wear[i] != before->wear[i] && after->wear[i] >= par.e;
+
+        expect(!fresh || is_worn(after, i), k, "a mark on another block");
+        expect(!fresh || after->wear[i] >= par.e, k, "a mark too early");
+        expect(is_cut || !fresh || after->bst[i] == CNFTL_BLOCK_RESERVED, k,
+               "a worn block is not reserved");
+        without += due && !fresh;
+    }
+    expect(without <= (is_cut ? 1 : 0), k, "a worn block is not marked");
+    unmarked += without;
+}
+
+/* The board that a start leaves where the one before it was cut between an
+   erase and its mark: the block is erased and free. */
+static void unmark(const struct state *as_cut, struct state *b)
+{
+    size_t bytes = cnftl_pages_per_block(&par) * cnftl_page_bytes(&par);
+
+    for (uint32_t i = 0; i < par.n; i++)
+        if (is_bad(b, i) && !is_bad(as_cut, i)) {
+            b->chip[i * bytes + par.s + 5] = 255;
+            b->bst[i] = CNFTL_BLOCK_FREE;
+        }
+}
+
 /* Starts a board that was cut, and looks that it has come back with what the
    host knows: once, and again, and where the start is cut itself. */
 static void start_after(const struct state *as_cut, struct state *b,
                         const struct knowledge *host, struct knowledge *found,
                         const struct call *k)
 {
-    static struct state again;
+    static struct state again, without;
     struct call limited;
     struct answer a;
-    uint64_t erases;
+    uint64_t erases, most;
 
     memcpy(b, as_cut, sizeof *b);
     a = make_both(b, &start_call);
     erases = cnftl_erases_of(a.own);
     expect(a.own == erases << 32, k, "the start after it is refused");
     expect(erases <= 1, k, "the start after it erases more than one block");
+    worn_right(as_cut, b, k, false);
     starts++;
     start_erases += erases;
+    most = erases + bad_in(b) - bad_in(as_cut);
+    worn_starts += most - erases;
     find_all(b, as_cut, host, found, k);
     start_to(b, &start_call, b, 0);
-    for (uint64_t i = 0; i <= erases; i++) {
+    memcpy(&without, b, sizeof without);
+    unmark(as_cut, &without);
+    for (uint64_t i = 0; i <= most; i++) {
         limited = with_budget(&start_call, i);
         memcpy(&again, as_cut, sizeof again);
         make_cut(&again, &limited);
-        start_to(&again, &start_call, b, erases - i);
+        worn_right(as_cut, &again, &limited, true);
+        start_to(&again, &start_call, i == 1 && most == 2 ? &without : b,
+                 i == 0 ? erases : 0);
     }
-    limited = with_budget(&start_call, erases + 1);
+    limited = with_budget(&start_call, most + 1);
     start_to(as_cut, &limited, b, erases);
 }
 
@@ -524,7 +642,7 @@ static void know_cut_queue(const struct call *k, const struct answer *a,
         const uint8_t *data = k->data + item->first;
         bool right = cnftl_reply_of(plain->item[i]) == CNFTL_ACCEPTED;
 
-        made += operations(plain->item[i]);
+        made += operations(plain->item[i]) + marked.item[i];
         expect(a->item[i] == (made < k->budget ? plain->item[i] : UINT64_MAX),
                k, "another item is finished");
         if (made < k->budget && right) {
@@ -548,8 +666,20 @@ static void know_cut(const struct call *k, const struct answer *a,
         know_cut_queue(k, a, plain, host);
 }
 
-/* Formats a board whose format was cut, and looks that nothing is on it. */
-static void format_after(const struct state *as_cut, struct state *b,
+/* Whether a format of this board is to be refused: fewer than mu*gamma+1 blocks
+   are not bad and left good by one more erase. */
+static bool too_few(const struct state *b)
+{
+    uint32_t left = 0;
+
+    for (uint32_t i = 0; i < par.n; i++)
+        left += !is_bad(b, i) && (uint64_t)b->wear[i] + 1 < par.e;
+    return left < par.mu * par.gamma + 1;
+}
+
+/* Formats a board whose format was cut, and looks that nothing is on it.  False
+   where that is refused because too few blocks would be left. */
+static bool format_after(const struct state *as_cut, struct state *b,
                          const struct call *k, struct knowledge *found)
 {
     static struct knowledge nothing;
@@ -562,10 +692,18 @@ static void format_after(const struct state *as_cut, struct state *b,
     memcpy(b, as_cut, sizeof *b);
     format.kind = 'F';
     a = make_both(b, &format);
+    if (too_few(as_cut)) {
+        expect(a.own == CNFTL_TOO_FEW_BLOCKS
+               && memcmp(b, as_cut, sizeof *b) == 0, k,
+               "the format after it leaves too few blocks");
+        return false;
+    }
     expect(cnftl_reply_of(a.own) == CNFTL_ACCEPTED, k,
            "the format after it is refused");
+    worn_right(as_cut, b, k, false);
     know_nothing_written(&nothing);
     find_all(b, b, &nothing, found, k);
+    return true;
 }
 
 /* Looks that chip and wear stand between those before a call and after it:
@@ -605,8 +743,8 @@ static void is_refused(const struct state *before, uint32_t lba, uint32_t reply)
     }
 }
 
-/* Cuts a call, and brings the board back. */
-static void cut_at(const struct state *before, const struct call *k,
+/* Cuts a call, and brings the board back; false where it does not come back. */
+static bool cut_at(const struct state *before, const struct call *k,
                    const struct answer *plain, const struct state *after,
                    const struct knowledge *host, struct state *b,
                    struct knowledge *found)
@@ -619,14 +757,14 @@ static void cut_at(const struct state *before, const struct call *k,
     a = make_cut(&as_cut, k);
     between_both(before, &as_cut, after, k,
                  k->budget == operations_of(k, plain));
+    worn_right(before, &as_cut, k, true);
     is_refused(&as_cut, 0, CNFTL_NOT_ORDERLY);
-    if (k->kind == 'F') {
-        format_after(&as_cut, b, k, found);
-        return;
-    }
+    if (k->kind == 'F')
+        return format_after(&as_cut, b, k, found);
     memcpy(&then, host, sizeof then);
     know_cut(k, &a, plain, &then);
     start_after(&as_cut, b, &then, found, k);
+    return true;
 }
 
 /* A budget that is not spent makes no difference. */
@@ -642,9 +780,9 @@ static void whole_with(const struct state *before, const struct call *k,
            k, "an unspent budget makes a difference");
 }
 
-/* Cuts a call after every one of its operations.  One of the boards that come
-   back, and what is known of it, is kept. */
-static void cut_everywhere(const struct state *before, const struct call *k,
+/* Cuts a call after every one of its operations.  One of the boards, and what
+   is known of it, is kept; false where that one does not come back. */
+static bool cut_everywhere(const struct state *before, const struct call *k,
                            const struct answer *plain,
                            const struct state *after,
                            const struct knowledge *host, struct state *kept,
@@ -653,13 +791,15 @@ static void cut_everywhere(const struct state *before, const struct call *k,
     static struct state b;
     static struct knowledge found;
     uint64_t most = operations_of(k, plain), keep = below((uint32_t)most + 1);
+    bool back = true;
 
     is_refused(before, cnftl_sectors(&par), CNFTL_BAD_ADDRESS);
     for (uint64_t i = 0; i <= most; i++) {
         struct call limited = with_budget(k, i);
+        bool now = cut_at(before, &limited, plain, after, host, &b, &found);
 
-        cut_at(before, &limited, plain, after, host, &b, &found);
         if (i == keep) {
+            back = now;
             memcpy(kept, &b, sizeof b);
             memcpy(kept_host, &found, sizeof found);
         }
@@ -671,6 +811,7 @@ static void cut_everywhere(const struct state *before, const struct call *k,
     }
     calls_cut[strchr(cut_kinds, k->kind) - cut_kinds]++;
     longest = most > longest ? most : longest;
+    return back;
 }
 
 /* ==== Runs ============================================================= */
@@ -682,11 +823,12 @@ static uint64_t went_on;        /* times that a run went on after a cut */
 static uint32_t hot;            /* the clusters that get half the traffic */
 
 /* The parameters of a board: each shape in its turn, C tight half of the time,
-   and a few blocks more than needed. */
+   few rated erases half of the time, and a few blocks more than needed. */
 static struct cnftl_params some_parameters(void)
 {
+    static const uint32_t few[] = { 2, 3, 3, 5, 20 };
     uint32_t shape = (uint32_t)(boards % SHAPES), most;
-    struct cnftl_params p = { 0, 0, 0, 0, 0, 0, 0, 0, 1000000 };
+    struct cnftl_params p = { 0, 0, 0, 0, 0, 0, 0, 0, RATED };
 
     shapes[shape]++;
     p.s = between(16, MOST_S);
@@ -699,8 +841,22 @@ static struct cnftl_params some_parameters(void)
     } while (p.beta * p.d > MOST_F || p.gamma * p.beta * p.d == 1);
     most = p.gamma * p.beta * p.d - 1;
     p.c = p.mu * (once_in(2) ? most : between(1, most)) - below(p.mu);
-    p.n = p.mu * p.gamma + between(1, 4);
+    if (once_in(2))
+        p.e = few[below(sizeof few / sizeof *few)];
+    p.n = p.mu * p.gamma + between(1, p.e < RATED ? WORN_SPARE : MOST_SPARE);
     return p;
+}
+
+/* The wear of a block: what the first format wears out, while it need not be
+   left, and else less. */
+static uint32_t some_wear(uint32_t *spare)
+{
+    const uint32_t values[] = { par.e - 1, par.e, par.e + 1, UINT32_MAX - 1 };
+
+    if (*spare == 0 || !once_in(4))
+        return below(par.e - 1 < 4 ? par.e - 1 : 4);
+    *spare -= 1;
+    return values[below(4)];
 }
 
 /* A new board: any chip, with bad blocks as long as there are enough others,
@@ -723,7 +879,7 @@ static void new_board(struct state *b)
             spare--;
             bad_blocks++;
         }
-        b->wear[i] = once_in(16) ? UINT32_MAX - 1 : below(4);
+        b->wear[i] = some_wear(&spare);
     }
     hot = between(1, par.c < 3 ? par.c : 3);
 }
@@ -737,7 +893,8 @@ static void some_sectors(uint32_t *lba, uint32_t *count)
     *count = once_in(2) ? par.alpha - place : between(1, par.alpha - place);
 }
 
-/* A call that the board accepts; an item of a queue may be refused. */
+/* A call that the board accepts if it has the blocks; an item of a queue may be
+   refused. */
 static struct call some_call(char kind)
 {
     struct call k = start_call;
@@ -784,29 +941,81 @@ static void know_call(const struct call *k, const struct answer *a,
     }
 }
 
+/* Whether worn blocks have left a board no free one. */
+static bool no_block_left(const struct state *b)
+{
+    uint32_t reserved = 0;
+
+    for (uint32_t i = 0; i < par.n; i++) {
+        if (b->bst[i] == CNFTL_BLOCK_FREE)
+            return false;
+        reserved += b->bst[i] == CNFTL_BLOCK_RESERVED;
+    }
+    return par.n - reserved <= par.mu * par.gamma;
+}
+
+/* A write or a format that is refused for want of blocks: so at every budget,
+   it changes nothing, and all reads as before. */
+static void refused_call(struct state *b, const struct state *before,
+                         const struct knowledge *host, const struct call *k,
+                         uint64_t reply)
+{
+    expect((k->kind == 'W' && reply == CNFTL_NO_BLOCK_LEFT && no_block_left(b))
+           || (k->kind == 'F' && reply == CNFTL_TOO_FEW_BLOCKS && too_few(b)),
+           k, "the call is refused");
+    for (uint64_t i = 0; i < 3; i++) {
+        struct call limited = with_budget(k, i);
+
+        expect(make_both(b, &limited).own == reply, k,
+               "with a budget the call is not refused so");
+    }
+    expect(memcmp(b, before, sizeof *b) == 0, k, "a refusal changes something");
+    read_all(b, host, k);
+    tens += k->kind == 'W';
+    sixes += k->kind == 'F';
+}
+
+/* Counts what a call of a run has done. */
+static void count_call(const struct state *before, const struct state *after,
+                       const struct call *k, const struct answer *a)
+{
+    for (size_t i = 0; i < k->items; i++) {
+        reclaims += cnftl_erases_of(a->item[i]);
+        tens += cnftl_reply_of(a->item[i]) == CNFTL_NO_BLOCK_LEFT;
+    }
+    reclaims += k->kind == 'W' && cnftl_erases_of(a->own) == 1;
+    worn += bad_in(after) - bad_in(before);
+}
+
 /* One call of a run: cut everywhere, and then made; at times the run goes on
-   with a board that came back from a cut. */
-static void run_call(struct state *b, struct knowledge *host,
+   with a board that came back from a cut.  False where that one did not. */
+static bool run_call(struct state *b, struct knowledge *host,
                      const struct call *k)
 {
     static struct state before, kept;
     static struct knowledge kept_host;
     struct answer a;
+    bool back = true;
 
     memcpy(&before, b, sizeof before);
     a = make_both(b, k);
-    expect(cnftl_reply_of(a.own) == CNFTL_ACCEPTED, k, "the call is refused");
-    for (size_t i = 0; i < k->items; i++)
-        reclaims += cnftl_erases_of(a.item[i]);
-    reclaims += k->kind == 'W' && cnftl_erases_of(a.own) == 1;
-    if (k->kind != 'L')
-        cut_everywhere(&before, k, &a, b, host, &kept, &kept_host);
-    know_call(k, &a, b, host);
-    if (k->kind != 'L' && once_in(4)) {
-        memcpy(b, &kept, sizeof kept);
-        memcpy(host, &kept_host, sizeof kept_host);
-        went_on++;
+    if (cnftl_reply_of(a.own) != CNFTL_ACCEPTED) {
+        refused_call(b, &before, host, k, a.own);
+        return true;
     }
+    worn_right(&before, b, k, false);
+    count_call(&before, b, k, &a);
+    count_marks(&before, b, k);
+    if (k->kind != 'L')
+        back = cut_everywhere(&before, k, &a, b, host, &kept, &kept_host);
+    know_call(k, &a, b, host);
+    if (k->kind == 'L' || !once_in(4))
+        return true;
+    memcpy(b, &kept, sizeof kept);
+    memcpy(host, &kept_host, sizeof kept_host);
+    went_on += back;
+    ends += !back;
+    return back;
 }
 
 /* A board with its run: a format, writes until all regions may be full and
@@ -818,17 +1027,18 @@ static void run_board(void)
     static struct knowledge host;
     struct call k;
     uint32_t calls;
+    bool back;
 
     par = some_parameters();
     assert(cnftl_params_allowed(&par));
     new_board(&b);
     know_nothing_written(&host);
     k = some_call('F');
-    run_call(&b, &host, &k);
+    back = run_call(&b, &host, &k);
     calls = par.mu * par.gamma * par.beta * par.d + between(5, 25);
-    for (; calls > 0; calls--) {
+    for (; calls > 0 && back; calls--) {
         k = some_call(once_in(64) ? 'F' : "WWWWWWWWWQQQLLS"[below(15)]);
-        run_call(&b, &host, &k);
+        back = run_call(&b, &host, &k);
     }
     boards++;
 }
@@ -840,7 +1050,8 @@ static bool report(void)
 {
     bool all = came_old > 0 && came_new > 0 && came_back > 0
             && start_erases > 0 && finished_items > 0 && reclaims > 0
-            && went_on > 0 && bad_blocks > 0;
+            && went_on > 0 && bad_blocks > 0 && worn > 0 && worn_starts > 0
+            && unmarked > 0 && tens > 0 && sixes > 0 && ends > 0;
 
     printf("cuts: %" PRIu64 " cuts on %" PRIu64 " boards, in all of", cuts,
            boards);
@@ -863,6 +1074,11 @@ static bool report(void)
            " released clusters came back; %" PRIu64
            " items of queues were finished before a cut\n", starts,
            start_erases, reads, came_old, came_new, came_back, finished_items);
+    printf("cuts: %" PRIu64 " blocks worn out in runs, %" PRIu64 " by starts"
+           " after a cut, %" PRIu64 " cuts between erase and mark; %" PRIu64
+           " writes refused with 10 and %" PRIu64 " formats with 6, %" PRIu64
+           " boards ended with a cut format\n", worn, worn_starts, unmarked,
+           tens, sixes, ends);
     return all;
 }
 
@@ -871,6 +1087,12 @@ static const int wrong_layers[] = {
     MODEL_BEGUN_REFUSED, MODEL_BEGUN_VALID, MODEL_BEGUN_HIDES,
     MODEL_OLD_NOT_COPIED, MODEL_ERASE_FIRST, MODEL_STAMP_BEFORE,
     MODEL_OLD_STAMP, MODEL_OLD_VIRTUAL, MODEL_COPY_STAMP,
+    MODEL_WORN_LATE, MODEL_WORN_EXACTLY, MODEL_WORN_UNMARKED,
+    MODEL_WORN_MARK_FIRST, MODEL_WORN_SECOND_PAGE, MODEL_WORN_BYTE_6,
+    MODEL_WORN_REPORTED, MODEL_WORN_FREE_AT_FORMAT, MODEL_WORN_FREE_AT_RECLAIM,
+    MODEL_WORN_FREE_AT_START, MODEL_TEN_NEVER, MODEL_TEN_IS_SIX,
+    MODEL_FORMAT_6_BY_BAD, MODEL_FORMAT_6_LATE, MODEL_BLOCKS_ASKED,
+    MODEL_START_GIVES_6, MODEL_CUT_MARKS_FREE,
     MODEL_START_PAIR_REFUSED, MODEL_START_STAMPS_ALL, MODEL_START_FULL_ERASED,
     MODEL_START_NOT_ERASED, MODEL_START_NO_COUNT, MODEL_START_SMALLEST,
     MODEL_START_LAST_FRAME, MODEL_START_BEGUN_CT, MODEL_START_FST_FULL,

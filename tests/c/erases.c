@@ -6,9 +6,11 @@
  * single writes, queues, releases, reads, starts and calls that are refused.
  * The erases of a region are those that the answers to its accepted writes
  * count, and two of them must never be fewer than G accepted writes to the
- * region apart, where G is the figure.  That is T-10 for every window: one with e
- * erases is then at least (e - 1)*G + 1 writes long, so k writes bring at most
- * k/G erases, rounded up.
+ * region apart, where G is the figure.  That is T-10 for every window: one with
+ * e erases is then at least (e - 1)*G + 1 writes long, so k writes bring at
+ * most k/G erases, rounded up.  Half of the boards have few rated erases: their
+ * blocks wear out until writes find none that is free, and soon after that the
+ * board gets no more calls.
  *
  *   erases CALLS SEED [MORE]    with G + MORE in place of G
  *
@@ -25,11 +27,13 @@
 #include <string.h>
 
 enum { MOST_S = 18, MOST_ALPHA = 3, MOST_BETA = 4, MOST_D = 3, MOST_MU = 4 };
-enum { MOST_GAMMA = 4, MOST_N = MOST_MU * MOST_GAMMA + 4 };
+enum { MOST_GAMMA = 4, MOST_SPARE = 4, WORN_SPARE = 24, RATED = 1000000 };
+enum { MOST_N = MOST_MU * MOST_GAMMA + WORN_SPARE };
 enum { MOST_P = MOST_ALPHA * MOST_BETA * MOST_D };
 enum { MOST_C = MOST_MU * (MOST_GAMMA * MOST_BETA * MOST_D - 1) };
-enum { MOST_DATA = MOST_ALPHA * MOST_S, MOST_ITEMS = 8, REPLIES = 10 };
-enum { CALLS_EACH = 1000 }; /* that a board gets */
+enum { MOST_DATA = MOST_ALPHA * MOST_S, MOST_ITEMS = 8, REPLIES = 11 };
+enum { CALLS_EACH = 1000, LAST_CALLS = 20 }; /* that a board gets, and once
+                                                no block is left */
 
 /* Where a board's writes go: anywhere, most often to few hot clusters, or where
    they leave the most to copy. */
@@ -58,12 +62,16 @@ static enum traffic traffic;
 static bool releasing;         /* whether this board gets releases */
 static uint32_t hot_from, hot; /* the hot clusters */
 static uint64_t counted_wear;  /* what the wear should be in all */
+static int left;               /* the calls that this board still gets */
 static bool reached;           /* whether a figure of 2 or more was reached:
                                   two erases exactly that far apart */
 
 /* What was seen. */
 static uint64_t calls, boards, fewer_clusters, writes, items, erases;
 static uint64_t releases, reads, starts, refusals[REPLIES];
+static uint64_t worn, worn_boards; /* blocks worn out, boards that have them */
+static uint64_t short_erases;      /* erases by writes where mu*gamma blocks or
+                                      fewer are not reserved after them */
 /* By gamma: boards with a figure of 2 or more, those of them that reached it,
    and the erases by which they did. */
 static uint64_t roomy[MOST_GAMMA + 1], tight[MOST_GAMMA + 1];
@@ -100,27 +108,31 @@ static void fail(const char *what)
    and the last regions have a cluster less than the first, at times none. */
 static void choose_params(void)
 {
-    uint32_t frames;
+    static const uint32_t few[] = { 2, 3, 5, 20 };
+    uint32_t frames, e = below(2) == 0 ? RATED : few[below(4)];
 
     do {
         *p = (struct cnftl_params){
             16 + below(MOST_S - 15), 1 + below(MOST_ALPHA),
             1 + below(MOST_BETA), 1 + below(MOST_D), 1 + below(MOST_MU),
-            1 + below(MOST_GAMMA), 0, 0, 1000000
+            1 + below(MOST_GAMMA), 0, 0, e
         };
         frames = p->gamma * p->beta * p->d;
     } while (frames == 1);
     p->c = p->mu * below(frames - 1) + 1 + below(p->mu);
-    p->n = p->mu * p->gamma + 1 + below(MOST_N - MOST_MU * MOST_GAMMA);
+    p->n = p->mu * p->gamma + 1 + below(e < RATED ? WORN_SPARE : MOST_SPARE);
     assert(cnftl_params_allowed(p) && p->c <= MOST_C && p->n <= MOST_N);
 }
 
-/* A new chip, with the maker's bad mark on as many blocks as may have it. */
+/* A new chip, with the maker's bad mark on as many blocks as may have it, or on
+   few where blocks wear out soon. */
 static void new_chip(void)
 {
+    uint32_t most = p->n - p->mu * p->gamma - 1;
+
     memset(chip, 255, sizeof chip);
     memset(wear, 0, sizeof wear);
-    for (uint32_t i = p->mu * p->gamma + 1; i < p->n; i++) {
+    for (uint32_t i = p->e < RATED ? below(most / 4 + 1) : most; i > 0; i--) {
         size_t page = below(p->n) * cnftl_pages_per_block(p);
 
         chip[page * cnftl_page_bytes(p) + p->s + 5] = 0;
@@ -167,16 +179,39 @@ static void open_board(void)
 }
 
 /* The erases answered since the format, and its own, are those that the table
-   of wear counts. */
+   of wear counts, and a block is worn exactly if that counts E or more. */
 static void close_board(void)
 {
-    uint64_t all = 0;
+    uint64_t all = 0, before = worn;
 
-    for (uint32_t block = 0; block < p->n; block++)
+    for (uint32_t block = 0; block < p->n; block++) {
         all += wear[block];
+        worn += wear[block] >= p->e;
+        if (wear[block] > p->e)
+            fail("a worn block is erased");
+        if (wear[block] >= p->e && bst[block] != CNFTL_BLOCK_RESERVED)
+            fail("a worn block is not reserved");
+    }
     if (all != counted_wear)
         fail("another sum of wear than erases answered");
+    worn_boards += worn > before;
     tight[p->gamma] += reached;
+}
+
+/* Blocks with this entry in BST. */
+static uint32_t blocks_that_are(enum cnftl_block_state state)
+{
+    uint32_t all = 0;
+
+    for (uint32_t block = 0; block < p->n; block++)
+        all += bst[block] == state;
+    return all;
+}
+
+/* Whether fewer than mu*gamma+1 blocks are not reserved. */
+static bool is_short(void)
+{
+    return p->n - blocks_that_are(CNFTL_BLOCK_RESERVED) <= p->mu * p->gamma;
 }
 
 /* ==== Writes =========================================================== */
@@ -188,6 +223,7 @@ static void hold_erase(struct region *r)
 
     erases++;
     counted_wear++;
+    short_erases += is_short();
     if (r->erased_at != 0 && apart < r->figure + more)
         fail("two erases of a region nearer than its figure");
     if (r->erased_at != 0 && apart == r->figure && r->figure >= 2) {
@@ -202,6 +238,8 @@ static void count_write(uint32_t lba, uint64_t a)
 {
     struct region *r = &regions[lba / p->alpha % p->mu];
 
+    if (cnftl_reply_of(a) == CNFTL_NO_BLOCK_LEFT && left > LAST_CALLS)
+        left = LAST_CALLS;
     if (cnftl_reply_of(a) != CNFTL_ACCEPTED) {
         refusals[cnftl_reply_of(a) % REPLIES]++;
         return;
@@ -257,6 +295,13 @@ static struct cnftl_request choose_write(void)
     return (struct cnftl_request){ lba, 1 + below(p->alpha - place), 0 };
 }
 
+/* Whether a write may be refused with 10: blocks are worn, and none is free. */
+static bool is_blockless(uint64_t a)
+{
+    return a == CNFTL_NO_BLOCK_LEFT && is_short()
+        && blocks_that_are(CNFTL_BLOCK_FREE) == 0;
+}
+
 /* One write. */
 static void write_one(void)
 {
@@ -264,7 +309,7 @@ static void write_one(void)
     uint64_t a = cnftl_board_write(&board, r.lba, r.count, data,
                                    (size_t)r.count * p->s);
 
-    if (cnftl_reply_of(a) != CNFTL_ACCEPTED)
+    if (cnftl_reply_of(a) != CNFTL_ACCEPTED && !is_blockless(a))
         fail("a right write is refused");
     count_write(r.lba, a);
 }
@@ -389,10 +434,11 @@ static uint64_t wrong_call(uint32_t reply)
     }
 }
 
-/* A call that is refused, with one reply or another, and counts nothing. */
+/* A call that is refused, with one reply or another up to 9, and counts
+   nothing. */
 static void refused_call(void)
 {
-    uint32_t reply = 1 + below(REPLIES - 1);
+    uint32_t reply = 1 + below(CNFTL_NO_STAMP_LEFT);
 
     if (wrong_call(reply) != reply)
         fail("a wrong call is not refused as it should be");
@@ -427,7 +473,8 @@ static void make_call(void)
 static bool report(void)
 {
     bool all = fewer_clusters > 0 && items > 0 && erases >= calls / 10
-            && releases > 0 && reads > 0 && starts > 0;
+            && releases > 0 && reads > 0 && starts > 0 && worn > 0
+            && short_erases > 0;
 
     printf("erases: %" PRIu64 " calls from seed %" PRIu64 " on %" PRIu64
            " boards, %" PRIu64 " of them with fewer clusters than regions\n",
@@ -440,7 +487,9 @@ static bool report(void)
         printf(" %d: %" PRIu64, reply, refusals[reply]);
         all = all && refusals[reply] > 0;
     }
-    printf("\n");
+    printf("\n  %" PRIu64 " blocks worn out on %" PRIu64 " boards, %" PRIu64
+           " erases where mu*gamma blocks or fewer were not reserved\n", worn,
+           worn_boards, short_erases);
     for (int gamma = 1; gamma <= MOST_GAMMA; gamma++) {
         printf("  gamma %d: %" PRIu64 " boards with G of 2 or more, %" PRIu64
                " had erases exactly G writes apart, %" PRIu64 " times\n",
@@ -464,7 +513,7 @@ int main(int argc, char **argv)
         more = (uint32_t)strtoul(argv[3], NULL, 10);
     while (calls < limit) {
         open_board();
-        for (int i = 0; i < CALLS_EACH && calls < limit; i++)
+        for (left = CALLS_EACH; left > 0 && calls < limit; left--)
             make_call();
         close_board();
     }

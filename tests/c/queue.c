@@ -42,7 +42,7 @@ uint64_t cnftl_queue_two(uint32_t s, uint32_t alpha, uint32_t beta, uint32_t d,
                          uint64_t *answers, size_t answers_len);
 
 enum { CHIP, CT, BT, FST, BST, WEAR, MARKS, STAMPS, TABLES };
-enum { ROOM = 1 << 16, REPLIES = 10, PLACES = 6, FILLED = 4, MOST_DATA = 200 };
+enum { ROOM = 1 << 16, REPLIES = 11, PLACES = 6, FILLED = 4, MOST_DATA = 200 };
 
 static const size_t width[TABLES] = { 1, 2, 2, 2, 1, 4, 8, 4 };
 /* Both sides' chip and tables: the product's, and the model's. */
@@ -74,12 +74,15 @@ static uint32_t below(uint32_t n)
     lent[i][MARKS], len[MARKS], (uint32_t *)lent[i][STAMPS], len[STAMPS]
 
 /* A new board of some small size, formatted, and the same on both sides.  A
-   region has a few stamps left only, at times. */
+   region has a few stamps left only, at times, or all blocks few erases. */
 static void new_board(void)
 {
+    static const uint32_t few[] = { 2, 3, 5 };
+    uint32_t e = below(3) == 0 ? few[below(3)] : 1000000;
+
     p = (struct cnftl_params){ 16 + below(3), 1 + below(3), 1 + below(3),
                                1 + below(3), 1 + below(3), 2 + below(2), 0, 0,
-                               1000000 };
+                               e };
     p.c = p.mu * (1 + below(p.gamma * p.beta * p.d - 1));
     p.n = p.mu * p.gamma + 1 + below(3);
     len[CHIP] = cnftl_chip_bytes(&p);
@@ -227,6 +230,6 @@ int main(int argc, char **argv)
     printf("  %" PRIu64 " writes looked at two spare areas or more, %" PRIu64
            " at one or more and reclaimed\n", long_looks, reclaim_looks);
     return !(own_seen[0] && own_seen[1] && own_seen[2] && seen[0] && seen[3]
-             && seen[4] && seen[5] && seen[7] && seen[9] && reclaims
-             && long_looks && reclaim_looks);
+             && seen[4] && seen[5] && seen[7] && seen[9] && seen[10]
+             && reclaims && long_looks && reclaim_looks);
 }
