@@ -174,10 +174,12 @@ static void tell_rule(const uint32_t *list, int bare)
            cnftl_rule_text(list[CNFTL_WHY_RULE]));
 }
 
-/* Whether a write would be refused, since the region has no stamp left. */
-static int is_stampless(const uint32_t *list)
+/* Whether a write would be refused, since the region has no stamp left or the
+   board no free block for it. */
+static int is_refused(const uint32_t *list)
 {
-    return list[CNFTL_WHY_WRITE] == CNFTL_NO_STAMP_LEFT;
+    return list[CNFTL_WHY_WRITE] == CNFTL_NO_STAMP_LEFT
+        || list[CNFTL_WHY_WRITE] == CNFTL_NO_BLOCK_LEFT;
 }
 
 /* Tells how many spare areas the search for the sector's frame looks at, and of
@@ -186,7 +188,7 @@ static void tell_looks(const uint32_t *list)
 {
     uint32_t looks = list[CNFTL_WHY_LOOKS], frame = list[CNFTL_WHY_FRAME];
 
-    fputs(is_stampless(list) ? "A read" : "A read or a write", stdout);
+    fputs(is_refused(list) ? "A read" : "A read or a write", stdout);
     if (looks == 0)
         printf(" of it looks at no spare area.\n");
     else if (looks == 1)
@@ -246,12 +248,32 @@ static void tell_write(const struct cnftl_board *b, uint32_t region,
                                                              : takes);
 }
 
-/* Tells that a write of the region is refused, and why. */
-static void tell_no_stamp(uint32_t region)
+/* How many blocks have this entry in BST. */
+static unsigned long blocks_that_are(const struct cnftl_board *b,
+                                     uint8_t state)
 {
-    printf("A write is refused with reply %d: region %lu has no stamp left.\n"
-           "  It takes no more writes until the board is formatted.\n",
-           CNFTL_NO_STAMP_LEFT, (unsigned long)region);
+    unsigned long count = 0;
+
+    for (size_t i = 0; i < cnftl_bst_entries(&b->params); i++)
+        count += b->bst[i] == state;
+    return count;
+}
+
+/* Tells that a write of the region is refused, and why. */
+static void tell_refusal(const struct cnftl_board *b, uint32_t region,
+                         const uint32_t *list)
+{
+    if (list[CNFTL_WHY_WRITE] == CNFTL_NO_STAMP_LEFT)
+        printf("A write is refused with reply %d: region %lu has no stamp "
+               "left.\n  It takes no more writes until the board is "
+               "formatted.\n", CNFTL_NO_STAMP_LEFT, (unsigned long)region);
+    else
+        printf("A write is refused with reply %d: it needs a free block and "
+               "there is none.\n  Of %lu blocks %lu are used and %lu bad or "
+               "worn.  What is written still reads.\n", CNFTL_NO_BLOCK_LEFT,
+               (unsigned long)b->params.n,
+               blocks_that_are(b, CNFTL_BLOCK_USED),
+               blocks_that_are(b, CNFTL_BLOCK_RESERVED));
 }
 
 /* Tells why a sector of an orderly board reads so, and what a write would do;
@@ -261,11 +283,11 @@ static void tell_answer(const struct cnftl_board *b, uint32_t region,
 {
     tell_read(b, list);
     tell_looks(list);
-    if (is_stampless(list))
-        tell_no_stamp(region);
+    if (is_refused(list))
+        tell_refusal(b, region, list);
     else
         tell_write(b, region, list);
-    if (list[CNFTL_WHY_HELD] || !is_stampless(list))
+    if (list[CNFTL_WHY_HELD] || !is_refused(list))
         printf("V valid, S stale, B begun, E erased, one letter a frame; "
                "^ the frame meant\n");
 }

@@ -16,7 +16,8 @@
  * Exit status: 0 done, 1 wrong use, 2 the file cannot be read or written, or
  * there is no memory for it, 3 the file is no board image of this version,
  * 4 the image is too short or too long, 5 the layer refused a call, 6 a serial
- * did not read back, 7 the board has one region only.
+ * did not read back, 7 the board has one region only, 8 no block is left for a
+ * serial, while all that were entered before still read.
  */
 #include "image.h"
 
@@ -28,7 +29,7 @@
 /* The exit statuses. */
 enum {
     DONE = 0, WRONG_USE = 1, NO_ACCESS = 2, NO_BOARD = 3, WRONG_SIZE = 4,
-    REFUSED = 5, NOT_READ_BACK = 6, ONE_REGION = 7
+    REFUSED = 5, NOT_READ_BACK = 6, ONE_REGION = 7, WORN_OUT = 8
 };
 enum { LEDGERS = 2, NEW_SERIALS = 3, RECORD_BYTES = 15 };
 
@@ -136,7 +137,8 @@ static void start_board(const char *path, const char *why,
     check("start", cnftl_board_start(b), counts);
     swept = counts->erases - swept;
     printf("%s: %s, so it was started from its chip\n", path, why);
-    printf("  %lu blocks in use, %lu free, %lu bad; %lu left over and erased\n",
+    printf("  %lu blocks in use, %lu free, %lu bad or worn; "
+           "%lu left over and erased\n",
            blocks_in(b, CNFTL_BLOCK_USED), blocks_in(b, CNFTL_BLOCK_FREE),
            blocks_in(b, CNFTL_BLOCK_RESERVED), swept);
     printf("  %lu of %lu clusters found\n",
@@ -269,33 +271,45 @@ static struct ledger walk(const struct cnftl_board *b, uint32_t region,
     return l;
 }
 
-/* Enters a serial in a sector and reads it back. */
-static void enter(const struct cnftl_board *b, uint32_t lba,
-                  unsigned long serial, struct counts *counts)
+/* Enters a serial in a sector and reads it back; 0 if no block is left for
+   it. */
+static int enter(const struct cnftl_board *b, uint32_t lba,
+                 unsigned long serial, struct counts *counts)
 {
     uint32_t s = b->params.s;
     uint8_t record[512], back[512];
+    uint64_t a;
 
     make_record(record, s, serial);
-    check("write", cnftl_board_write(b, lba, 1, record, s), counts);
+    a = cnftl_board_write(b, lba, 1, record, s);
+    if (cnftl_reply_of(a) == CNFTL_NO_BLOCK_LEFT)
+        return 0;
+    check("write", a, counts);
     check("read", cnftl_board_read(b, lba, 1, back, s), counts);
     if (memcmp(record, back, s) != 0)
         fail(NOT_READ_BACK, "sector %lu does not read back",
              (unsigned long)lba);
+    return 1;
 }
 
-/* Enters the next serials of a ledger, as far as it has sectors for them, and
-   says how many they were. */
+/* Enters the next serials of a ledger, as far as it has sectors and the board
+   has blocks for them, and says how many they were. */
 static uint32_t enter_some(const struct cnftl_board *b, const struct ledger *l,
-                           struct counts *counts)
+                           struct counts *counts, int *worn_out)
 {
     uint32_t sectors = cnftl_region_sectors(&b->params, l->region), i = 0;
 
     while (i < NEW_SERIALS && l->next + i < sectors) {
         uint32_t lba = cnftl_region_lba(&b->params, l->region, l->next + i);
 
+        if (!enter(b, lba, l->newest + i + 1, counts)) {
+            printf("ledger %lu: the board is worn out: %s (reply %d)\n",
+                   (unsigned long)l->region,
+                   cnftl_reply_text(CNFTL_NO_BLOCK_LEFT), CNFTL_NO_BLOCK_LEFT);
+            *worn_out = 1;
+            return i;
+        }
         i++;
-        enter(b, lba, l->newest + i, counts);
         tell(l->region, lba, l->newest + i, " entered");
     }
     if (i < NEW_SERIALS)
@@ -303,21 +317,24 @@ static uint32_t enter_some(const struct cnftl_board *b, const struct ledger *l,
     return i;
 }
 
-/* Lists both ledgers, enters serials in each, and counts what is there then. */
-static void run(const struct cnftl_board *b, struct counts *counts)
+/* Lists both ledgers, enters serials in each, and counts what is there then.
+   Whether the board had no block left for one. */
+static int run(const struct cnftl_board *b, struct counts *counts)
 {
     struct ledger before[LEDGERS];
     uint32_t entered[LEDGERS];
+    int worn_out = 0;
 
     for (uint32_t region = 0; region < LEDGERS; region++)
         before[region] = walk(b, region, 1, counts);
     for (uint32_t region = 0; region < LEDGERS; region++)
-        entered[region] = enter_some(b, &before[region], counts);
+        entered[region] = enter_some(b, &before[region], counts, &worn_out);
     for (uint32_t region = 0; region < LEDGERS; region++)
         printf("ledger %lu: %lu serials found, %lu entered, %lu now\n",
                (unsigned long)region, (unsigned long)before[region].records,
                (unsigned long)entered[region],
                (unsigned long)walk(b, region, 0, counts).records);
+    return worn_out;
 }
 
 /* Opens the board, works on its ledgers, and saves it. */
@@ -325,6 +342,7 @@ int main(int argc, char **argv)
 {
     struct counts counts = { 0, 0 };
     struct cnftl_board b;
+    int worn_out;
 
     if (argc != 2)
         fail(WRONG_USE, "use: control IMAGE");
@@ -335,10 +353,10 @@ int main(int argc, char **argv)
         return DONE;
     }
     b = open_board(argv[1], &counts);
-    run(&b, &counts);
+    worn_out = run(&b, &counts);
     save(argv[1], &b);
     printf("%lu pages programmed, %lu blocks erased\n", counts.programs,
            counts.erases);
     image_free_board(&b);
-    return DONE;
+    return worn_out ? WORN_OUT : DONE;
 }

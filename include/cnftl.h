@@ -36,7 +36,7 @@
  *     written.  CNFTL_NONE is none in all three.
  *   - bst: for each physical block a cnftl_block_state.  wear: for each
  *     physical block the number of its erases, which stays at 4,294,967,295
- *     once there.
+ *     once there.  A block whose erases come to e or more is worn, see below.
  *   - marks: one bit for each frame, 1 exactly if the frame is valid: all its
  *     pages are programmed, the CT entry of its cluster names its segment, and
  *     no later such frame of that segment holds the same cluster.  A frame with
@@ -51,6 +51,22 @@
  *     A region whose entry is 4,294,967,295 has no stamp left: its writes are
  *     refused with 9 until the next format.
  *
+ * Worn blocks: e is the number of erases that a block is rated for.  When an
+ * erase, of a format, of a write's reclaim or of a start, brings the wear of a
+ * block to e or more, spare byte 5 of its first page becomes 0, with the rest
+ * of the block still erased, and the block becomes reserved.  To every later
+ * format and start it is a bad block.  The programs of these marks are in no
+ * count.  The board goes on with the blocks that are left.  While at least
+ * mu*gamma+1 blocks are not reserved, a right write always has a free block;
+ * with fewer, one that needs a free block and finds none is refused with 10.
+ * Reads go on, and so do writes that find a frame in the open block of their
+ * region.  A format does not help: it is refused with 6 where it would leave
+ * fewer than mu*gamma+1 blocks.
+ * How long a board lasts: let g blocks be not bad, and none of them erased
+ * before the format.  Each then has e - 1 erases left, so at least
+ * (g - mu*gamma)*(e - 1) reclaims come before the first reply 10, and those of
+ * a region are at least cnftl_writes_per_erase accepted writes apart.
+ *
  * What the caller answers for:
  *   - Every pointer is non-null and aligned for its element type, even when
  *     its length is 0; that of an empty list of requests too.
@@ -59,9 +75,10 @@
  *     chip, and not the data, the list, the requests or the answers and any
  *     other of them.
  *   - During a call nobody else writes the lent memory, and during a format,
- *     a write, a queue, a release or a start nobody else reads it.  Calls on different
- *     boards may run at the same time.
- *   - A board is used with the same parameters in every call.
+ *     a write, a queue, a release or a start nobody else reads it.  Calls on
+ *     different boards may run at the same time.
+ *   - A board is used with the same parameters in every call, and with its own
+ *     wear: with one that counts less, a block serves longer than it is rated.
  *
  * Example (C99; include stdio.h and string.h, and link with libcnftl.a):
  *
@@ -120,7 +137,8 @@ __attribute__((used)) static uint32_t (*const cnftl_needs_api)(void)
  * its cluster, 5 is 255, 6 is 0, 7 to 10 are the stamp, low byte first, 11 is
  * the virtual block, counted within its region, and 12 to 15 are 255.  All
  * pages of a frame have one stamp, which is the one that the write took for
- * them; the copies of a reclaim keep it.  An erased page is 255 throughout.
+ * them; the copies of a reclaim keep it.  An erased page is 255 throughout, and
+ * so is the first page of a worn block but for a 0 in spare byte 5.
  */
 #define CNFTL_SPARE_BYTES 16u
 
@@ -161,19 +179,21 @@ enum cnftl_reply {
     CNFTL_WRONG_DATA = 5,     /* data length is not count*s; of an item of a
                                  queue: its count*s bytes, from first on, do
                                  not lie in data                            */
-    CNFTL_TOO_FEW_BLOCKS = 6, /* fewer than mu*gamma+1 blocks are not bad   */
+    CNFTL_TOO_FEW_BLOCKS = 6, /* fewer than mu*gamma+1 blocks are not bad and
+                                 not worn by the erases of this format      */
     CNFTL_NOT_ORDERLY = 7,    /* chip and tables break a cnftl_rule; of a
                                  start: the chip is none to start from      */
     CNFTL_TOO_FEW_ANSWERS = 8, /* fewer places for answers than requests    */
     CNFTL_NO_STAMP_LEFT = 9,  /* a write's region has no stamp left         */
-    CNFTL_NO_BLOCK_LEFT = 10  /* a write needs a free block and there is none*/
+    CNFTL_NO_BLOCK_LEFT = 10  /* a write needs a free block, to open a virtual
+                                 block or to reclaim one, and none is free  */
 };
 
 /* The values of a BST entry. */
 enum cnftl_block_state {
     CNFTL_BLOCK_FREE = 0,
     CNFTL_BLOCK_USED = 1,
-    CNFTL_BLOCK_RESERVED = 2
+    CNFTL_BLOCK_RESERVED = 2 /* bad from the maker, or worn */
 };
 
 /* The entries of the list that a cnftl_why fills, and their number. */
@@ -187,7 +207,8 @@ enum cnftl_why_entry {
     CNFTL_WHY_PHYSICAL = 6, /*   physical block,                            */
     CNFTL_WHY_FRAME = 7,    /*   frame in the block; 0 unless held          */
     CNFTL_WHY_WRITE = 8,    /* what a write would do: a cnftl_why_write, or
-                               CNFTL_NO_STAMP_LEFT where it is refused so   */
+                               CNFTL_NO_STAMP_LEFT or CNFTL_NO_BLOCK_LEFT
+                               where it is refused so                       */
     CNFTL_WHY_TARGET = 9,   /*   the virtual block it would do it with      */
     CNFTL_WHY_TAKES = 10,   /*   the frame that the write would take        */
     CNFTL_WHY_COPIES = 11,  /*   valid frames that it would copy first; all
@@ -209,7 +230,8 @@ enum cnftl_rule {
     CNFTL_RULE_BT = 2,         /* BT entries are none or below n            */
     CNFTL_RULE_TWICE = 3,      /* no block is named twice                   */
     CNFTL_RULE_USED = 4,       /* a block is used exactly if BT names it    */
-    CNFTL_RULE_ENOUGH = 5,     /* mu*gamma+1 blocks or more not reserved    */
+    CNFTL_RULE_ENOUGH = 5,     /* never told: a state need not have
+                                  mu*gamma+1 blocks that are not reserved   */
     CNFTL_RULE_FREE = 6,       /* free blocks are erased throughout         */
     CNFTL_RULE_USED_BLOCK = 7, /* in a used block of a region the first k
                                   frames, k from 1 to F, are programmed with
@@ -242,11 +264,14 @@ enum cnftl_why_write {
 /*
  * Format.  A block is bad if spare byte 5 of its first page, or of its second
  * page where a block has two, is not 255: it becomes reserved and is not
- * touched.  All others are erased and become free, and the wear of each goes up
- * by one unless it is 4,294,967,295.  CT, BT and FST become none, and all marks
- * and stamps 0.  The wear lent must be the board's wear so far (0 for a new
- * chip).
- * Replies 1, 2, 6, 0.  Counts: 0 programs, one erase for each block not bad.
+ * touched.  All others are erased and become free, or reserved where that wears
+ * them out, and the wear of each goes up by one unless it is 4,294,967,295.
+ * CT, BT and FST become none, and all marks and stamps 0.  The wear lent must
+ * be the board's wear so far (0 for a new chip).
+ * Replies 1, 2, 6, 0.  6 is given before anything is erased, when fewer than
+ * mu*gamma+1 blocks are not bad and have a wear of e - 2 or less; so with e = 1
+ * it always is.  Counts: 0 programs, one erase for each block not bad, also for
+ * those that it wears out.
  */
 uint64_t cnftl_format(uint32_t s, uint32_t alpha, uint32_t beta, uint32_t d,
                       uint32_t mu, uint32_t gamma, uint32_t c, uint32_t n,
@@ -268,13 +293,14 @@ uint64_t cnftl_format(uint32_t s, uint32_t alpha, uint32_t beta, uint32_t d,
  * first k frames programmed, k from 1 to F, whole or only begun, all of one
  * region and one virtual block below gamma, the rest erased; it becomes the
  * used block of that virtual block.  If two blocks name one virtual block, the
- * one that is full stays and the other is erased, its wear going up by one.
+ * one that is full stays and the other is erased, its wear going up by one; it
+ * becomes free, or reserved where that wears it out.
  * For each cluster CT names the segment of its whole frame with the largest
  * stamp, so that a released cluster with whole frames left comes back with the
  * latest.  FST names the last segment of the region's block that is not full,
  * or where all are full that of its lowest virtual block.  Each region's last
  * stamp is the largest on its pages, else 0, and the marks are worked out.
- * Replies 1, 2, 6, 7, 0.  7 is given exactly when a good block is neither
+ * Replies 1, 2, 7, 0.  7 is given exactly when a good block is neither
  * erased nor such a block; when three blocks name one virtual block, or two of
  * which not exactly one is full; when a region otherwise has two blocks that
  * are not full; or when two whole frames of one cluster, in blocks that stay,
@@ -317,9 +343,11 @@ uint64_t cnftl_read(uint32_t s, uint32_t alpha, uint32_t beta, uint32_t d,
 /*
  * Write count sectors from sector lba on, taken from data, under the same
  * rules for lba, count and data_len as a read.
- * Replies 1, 2, 3, 4, 5, 7, 9 (the region of the sectors has no stamp left), 0.
+ * Replies 1, 2, 3, 4, 5, 7, 9 (the region of the sectors has no stamp left), 10
+ * (it needs a free block and there is none), 0.
  * Counts: the pages programmed (at most P), and 1 erase if a block was
- * reclaimed, else 0.
+ * reclaimed, else 0.  The mark of a block that the erase wears out is not
+ * counted.
  */
 uint64_t cnftl_write(uint32_t s, uint32_t alpha, uint32_t beta, uint32_t d,
                      uint32_t mu, uint32_t gamma, uint32_t c, uint32_t n,
@@ -350,7 +378,7 @@ struct cnftl_request {
  * goes into the place of its request, and it is the one that a cnftl_write of
  * the request's count*s bytes of data, from its first on, would give at its
  * turn; chip and tables become what those writes would make of them.  A
- * request that is refused (3, 4, 5, 7 or 9) gets its answer too, changes
+ * request that is refused (3, 4, 5, 7, 9 or 10) gets its answer too, changes
  * nothing else, and the next goes on.  5 is for bytes that do not lie in data,
  * which may be longer than the requests need.  Answers past the last request
  * stay as they are.
@@ -410,9 +438,10 @@ uint64_t cnftl_release(uint32_t s, uint32_t alpha, uint32_t beta, uint32_t d,
  * call, looks at to find the frame that holds it: those of the programmed
  * frames of segment CNFTL_WHY_SEGMENT from the last one down to that frame, it
  * included.  Copies are not counted, and it is 0 where no frame is held.  Where
- * the region has no stamp left, a write of the cluster is refused with 9:
- * CNFTL_WHY_WRITE is then that number and the three entries after it are 0; the
- * others are as always.
+ * the region has no stamp left, a write of the cluster is refused with 9, and
+ * where it needs a free block and there is none, with 10: CNFTL_WHY_WRITE is
+ * then that number and the three entries after it are 0; the others are as
+ * always.
  * Replies 1, 2, 4, 7, 0.  Counts: 0 and 0.  Writes list only, and that only
  * with reply 0 and 7.
  */
@@ -435,16 +464,19 @@ uint64_t cnftl_why(uint32_t s, uint32_t alpha, uint32_t beta, uint32_t d,
  * power went while it works.  They are for tests of how a firmware, and a board
  * with it, comes back from a power loss; in service none of them is needed.
  *
- * A budget is a number of page programs and block erases.  Once past its
- * refusals, such a call stops as soon as it has made that many, each of them
- * whole: it is cut.  It is cut after its very last one too, so it finishes
- * exactly if it makes fewer than budget.  With budget 0 it stops before the
- * first, and so does then a call that would make none: a start with nothing to
- * erase, and a queue whose requests are all refused or whose board is not
- * orderly.  A write programs its copies first, frame by frame and page by page,
- * then erases the block that it reclaims, and then programs the pages of its
- * own frame; a queue does so request by request; a format and a start erase in
- * rising order of the blocks.
+ * A budget is a number of page programs and block erases, and the mark of a
+ * worn block is one such program.  Once past its refusals, such a call stops as
+ * soon as it has made that many, each of them whole: it is cut.  It is cut
+ * after its very last one too, so it finishes exactly if it makes fewer than
+ * budget.  With budget 0 it stops before the first, and so does then a call
+ * that would make none: a start with nothing to erase, and a queue whose
+ * requests are all refused or whose board is not orderly.  A write programs its
+ * copies first, frame by frame and page by page, then erases the block that it
+ * reclaims and marks it if it is worn, and then programs the pages of its own
+ * frame; a queue does so request by request; a format and a start erase in
+ * rising order of the blocks, each mark right after its erase.  A cut between
+ * an erase and its mark leaves the block erased, and the next start finds it
+ * free.
  *
  * A call that finishes is the plain call: same answer, same bytes.  A call that
  * is refused gives the plain call's refusal with every budget, and changes
@@ -462,8 +494,9 @@ uint64_t cnftl_why(uint32_t s, uint32_t alpha, uint32_t beta, uint32_t d,
  * To try every cut of a call, make it on copies of the board with budgets 0, 1,
  * 2 and so on, until it is not cut.
  *
- * What to call next: cnftl_start; after a cut format cnftl_format.  Until then
- * the board is not orderly.  Where only calls and cuts have changed it since
+ * What to call next: cnftl_start; after a cut format cnftl_format, which may be
+ * refused with 6 since the erases of the cut one count.  Until then the board
+ * is not orderly.  Where only calls and cuts have changed it since
  * its last finished format, that start is accepted and erases at most one
  * block.  Every accepted write then reads back, also each request that a cut
  * queue has answered with reply 0; the sectors of the write that was cut short
@@ -562,6 +595,7 @@ static inline const char *cnftl_reply_text(uint32_t reply)
     case CNFTL_NOT_ORDERLY:     return "the board is not orderly";
     case CNFTL_TOO_FEW_ANSWERS: return "fewer places for answers than requests";
     case CNFTL_NO_STAMP_LEFT:   return "the region has no stamp left";
+    case CNFTL_NO_BLOCK_LEFT:   return "no free block is left for the write";
     default:                    return "unknown reply";
     }
 }

@@ -60,6 +60,29 @@ ledger 1: 3 serials found, 3 entered, 6 now
 12 pages programmed, 0 blocks erased
 END
 
+# All blocks that are used are full, and the free ones, 6 to 9, are worn: no more goes in, and what is there still reads.
+worn_out() {
+    broken "$room/worn" $((bst + 6)) '\002\002\002\002' && cp "$room/worn" "$room/before" || return 1
+    run "$room/control" "$room/worn" >"$room/out" 2>"$room/err"
+    [ $? -eq 8 ] && [ ! -s "$room/err" ] && cmp "$room/before" "$room/worn" && diff - "$room/out" < <(
+        list 12
+        printf 'ledger %d: the board is worn out: no free block is left for the write (reply 10)\n' 0 1
+        printf 'ledger %d: 12 serials found, 0 entered, 12 now\n' 0 1
+        echo '0 pages programmed, 0 blocks erased'
+    )
+}
+# Blocks rated for two erases, of which each has had one: each reclaim wears its block out, and a run ends when all four free ones are taken.
+wears_out() {
+    broken "$room/rated" 44 '\002\000\000\000' || return 1
+    run "$room/control" "$room/rated" >"$room/out" || return 1
+    run "$room/control" "$room/rated" >"$room/out"
+    [ $? -eq 8 ] && grep -q -x -e 'ledger 1: the board is worn out: no free block is left for the write (reply 10)' "$room/out" &&
+        run "$room/cnftl-why" "$room/rated" 2 | grep -q -e '^A write is refused with reply 10'
+}
+check "cnftl-why builds" build cnftl-why
+check "half of the serials of each" fill 4
+check "no block is free" worn_out
+check "blocks wear out" wears_out
 check "all but two serials of each" fill 6
 check "they are 18 of each" grep -q -x -e 'ledger 1: 15 serials found, 3 entered, 18 now' "$room/out"
 check "the last two" fill 7
@@ -84,7 +107,7 @@ check "an image without its tables" bare "$room/bare"
 check "it takes the board's place" mv "$room/bare" "$room/board"
 check "the board is started from its chip" says < <(
     echo 'board: its tables are missing, so it was started from its chip'
-    echo '  6 blocks in use, 4 free, 0 bad; 0 left over and erased'
+    echo '  6 blocks in use, 4 free, 0 bad or worn; 0 left over and erased'
     echo '  20 of 20 clusters found'
     both
 )
@@ -95,7 +118,7 @@ check "cluster 19 loses its entry" broken "$room/lost" $((ct + 2 * 19)) '\377\37
 check "the board with it" mv "$room/lost" "$room/board"
 check "a start brings it back" says < <(
     echo 'board: its tables do not fit the chip, so it was started from its chip'
-    echo '  6 blocks in use, 4 free, 0 bad; 0 left over and erased'
+    echo '  6 blocks in use, 4 free, 0 bad or worn; 0 left over and erased'
     echo '  20 of 20 clusters found'
     echo '  1 of them had been released, or had lost their entry'
     both
@@ -105,7 +128,7 @@ left_over() { dd if="$room/board" of="$room/board" bs=1 skip="$chip" seek=$((chi
 check "a block is left over" left_over
 check "a start erases it" says < <(
     echo 'board: its tables do not fit the chip, so it was started from its chip'
-    echo '  6 blocks in use, 4 free, 0 bad; 1 left over and erased'
+    echo '  6 blocks in use, 4 free, 0 bad or worn; 1 left over and erased'
     echo '  20 of 20 clusters found'
     echo '  0 of them had been released, or had lost their entry'
     both | sed 's/, 0 blocks erased$/, 1 blocks erased/'

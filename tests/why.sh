@@ -210,6 +210,20 @@ A read of it looks at no spare area.
 A write is refused with reply 9: region 1 has no stamp left.
   It takes no more writes until the board is formatted.
 END
+check "all free blocks, 6 to 9, are worn" broken "$room/worn" $((bst + 6)) '\002\002\002\002'
+check "a sector that is held, and no block is left for the write" tells 0 "$room/worn" 22 <<'END'
+Sector 22 is at place 0 of cluster 11, in region 1.
+It reads from frame 3 of physical block 5,
+  which is virtual block 2 of region 1; segment 5 there:
+    segment     5  SV
+                    ^
+A read of it looks at 1 spare area: that of frame 3.
+A write is refused with reply 10: it needs a free block and there is none.
+  Of 10 blocks 6 are used and 4 bad or worn.  What is written still reads.
+V valid, S stale, B begun, E erased, one letter a frame; ^ the frame meant
+END
+check "its region has no stamp left either" put "$room/worn" $((stamps + 4)) '\377\377\377\377'
+check "9 comes before 10" grep -q '^A write is refused with reply 9' <(run "$room/cnftl-why" "$room/worn" 22)
 check "region 0 still has some" grep -q '^A write reclaims virtual block 0' <(run "$room/cnftl-why" "$room/stampless" 0)
 
 check "a sector past the end" complains 1 "sector 40 is refused with reply 4: the board ends with sector 39" cnftl-why "$room/board" 40

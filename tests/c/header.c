@@ -603,7 +603,8 @@ static void check_start(void)
     assert(memcmp(before, chip, sizeof chip) == 0 && bst[0] == 255
            && ct[0] == CNFTL_NONE && stamps[0] == UINT32_MAX);
     chip[21] = 0;
-    assert(is(cnftl_board_start(&board), CNFTL_TOO_FEW_BLOCKS, 0, 0));
+    assert(is(cnftl_board_start(&board), CNFTL_ACCEPTED, 0, 0)
+           && bst[0] == CNFTL_BLOCK_RESERVED);
     board.params.gamma = 17;
     assert(is(cnftl_board_start(&board), CNFTL_BAD_PARAMETER, 0, 0));
     board.params.gamma = 2;
@@ -758,21 +759,138 @@ static void check_cut_refused(void)
     assert(is_found());
 }
 
-/* The wear: a format counts it up, and it stays at its largest number. */
+/* Whether a block is erased but for the mark of a worn block, and reserved. */
+static int is_worn(int block)
+{
+    const uint8_t *bytes = chip + block * 128;
+
+    for (int i = 0; i < 128; i++)
+        if (bytes[i] != (i == 21 ? 0 : 255))
+            return 0;
+    return bst[block] == CNFTL_BLOCK_RESERVED;
+}
+
+/* The wear: a format counts it up, and it stays at its largest number.  What it
+   wears out by that counts among its erases and not among the blocks left. */
 static void check_wear(void)
 {
     new_board();
+    wear[0] = RATED - 1;
+    assert(is(cnftl_board_format(&board), CNFTL_TOO_FEW_BLOCKS, 0, 0));
+    assert(wear[0] == RATED - 1 && wear[1] == 0);
+    wear[0] = RATED - 2;
+    assert(is(cnftl_board_format(&board), CNFTL_ACCEPTED, 0, 5));
+    assert(wear[0] == RATED - 1 && bst[0] == CNFTL_BLOCK_FREE);
+    new_board();
+    board.params.e = 1;
+    assert(is(cnftl_board_format(&board), CNFTL_TOO_FEW_BLOCKS, 0, 0));
+
+    new_board();
+    board.params.mu = 1;
+    board.params.c = 3;
     wear[0] = 4294967294u;
     wear[1] = 4294967295u;
     assert(is(cnftl_board_format(&board), CNFTL_ACCEPTED, 0, 5));
     assert(wear[0] == 4294967295u && wear[1] == 4294967295u && wear[2] == 1);
+    assert(is_worn(0) && is_worn(1) && bst[2] == CNFTL_BLOCK_FREE);
+    board.params.mu = 2;
+}
+
+/* Writes sector 0 of Board T with blocks rated for two erases until a write is
+   refused: each of the three reclaims wears its block out. */
+static void wear_out(void)
+{
+    uint32_t erases = 0;
+    uint64_t a;
+
+    new_board();
+    board.params.e = 2;
+    assert(is(cnftl_board_format(&board), CNFTL_ACCEPTED, 0, 5));
+    while (cnftl_reply_of(a = cnftl_board_write(&board, 0, 1, data, 16))
+           == CNFTL_ACCEPTED) {
+        assert(cnftl_programs_of(a) == 2);
+        erases += cnftl_erases_of(a);
+    }
+    assert(is(a, CNFTL_NO_BLOCK_LEFT, 0, 0) && erases == 3);
+}
+
+/* Worn blocks: reply 10 for a write and an item of a queue that need a block,
+   after 9, and in the forecast of a why with nothing behind it; reads, releases
+   and starts go on, and a format would leave too few. */
+static void check_worn(void)
+{
+    static const struct cnftl_request item = { 2, 1, 0 };
+    uint32_t list[CNFTL_WHY_ENTRIES], last, worn = 0;
+    uint64_t answer;
+
+    wear_out();
+    for (int i = 0; i < 5; i++)
+        worn += is_worn(i) && wear[i] == 2;
+    assert(worn == 3);
+    assert(is(cnftl_board_queue(&board, &item, 1, data, 16, &answer),
+              CNFTL_ACCEPTED, 0, 0) && is(answer, CNFTL_NO_BLOCK_LEFT, 0, 0));
+    assert(is(cnftl_board_why(&board, 0, list), CNFTL_ACCEPTED, 0, 0));
+    assert(list[CNFTL_WHY_HELD] == 1
+           && list[CNFTL_WHY_WRITE] == CNFTL_NO_BLOCK_LEFT
+           && list[CNFTL_WHY_TARGET] == 0 && list[CNFTL_WHY_TAKES] == 0
+           && list[CNFTL_WHY_COPIES] == 0 && list[CNFTL_WHY_LOOKS] == 1);
+    last = stamps[0];
+    stamps[0] = UINT32_MAX;
+    assert(is(cnftl_board_write(&board, 0, 1, data, 16), CNFTL_NO_STAMP_LEFT,
+              0, 0));
+    stamps[0] = last;
+    assert(is(cnftl_board_format(&board), CNFTL_TOO_FEW_BLOCKS, 0, 0));
+    assert(is(cnftl_board_start(&board), CNFTL_ACCEPTED, 0, 0));
+    assert(is(cnftl_board_read(&board, 0, 1, data, 16), CNFTL_ACCEPTED, 0, 0));
+    assert(is(cnftl_board_release(&board, 0), CNFTL_ACCEPTED, 0, 0));
+    assert(is(cnftl_board_write_cut(&board, 0, 1, data, 16, 0),
+              CNFTL_NO_BLOCK_LEFT, 0, 0) && !cnftl_board_is_cut(&board));
+}
+
+/* Clusters 0, 2, 4 and 0 of a Board T with blocks rated for two erases: block 0
+   is full with one valid frame, and block 1 with two. */
+static void four_writes(void)
+{
+    new_board();
+    board.params.e = 2;
+    assert(is(cnftl_board_format(&board), CNFTL_ACCEPTED, 0, 5));
+    for (uint32_t i = 0; i < 4; i++)
+        assert(is(cnftl_board_write(&board, 4 * (i % 3), 2, data, 32),
+                  CNFTL_ACCEPTED, 2, 0));
+    assert(bt[0] == 0 && bt[1] == 1);
+}
+
+/* A reclaim that wears block 0 out, cut after its two copies, after the erase,
+   after the mark, and after each page of its frame.  The start wears the block
+   of the copies out in its place, finds block 0 free, or finds it worn. */
+static void check_cut_worn(void)
+{
+    static const uint8_t states[] = {
+        CNFTL_BLOCK_USED, CNFTL_BLOCK_FREE, CNFTL_BLOCK_RESERVED,
+        CNFTL_BLOCK_RESERVED, CNFTL_BLOCK_RESERVED
+    };
+
+    for (uint32_t i = 0; i < 5; i++) {
+        four_writes();
+        assert(is(cnftl_board_write_cut(&board, 0, 2, data, 32, 2 + i),
+                  CNFTL_ACCEPTED, 0, 0) && cnftl_board_is_cut(&board));
+        assert(wear[0] == 1 + (i > 0));
+        assert(is(cnftl_board_start(&board), CNFTL_ACCEPTED, 0, i == 0));
+        assert(bst[0] == states[i] && is_worn(0) == (i > 1)
+               && is_worn(2) == (i == 0));
+        assert(is(cnftl_board_read(&board, 0, 2, data, 32), CNFTL_ACCEPTED, 0,
+                  0));
+    }
+    four_writes();
+    assert(is(cnftl_board_write_cut(&board, 0, 2, data, 32, 7),
+              CNFTL_ACCEPTED, 4, 1) && is_worn(0));
 }
 
 /* The texts: one for each reply and each rule, and one for all numbers from the
    next on; no two alike. */
 static void check_texts(void)
 {
-    for (uint32_t i = 0; i <= CNFTL_NO_STAMP_LEFT + 1; i++)
+    for (uint32_t i = 0; i <= CNFTL_NO_BLOCK_LEFT + 1; i++)
         for (uint32_t j = 0; j <= i; j++)
             assert((strcmp(cnftl_reply_text(i), cnftl_reply_text(j)) == 0)
                    == (i == j));
@@ -783,7 +901,7 @@ static void check_texts(void)
     assert(strcmp(cnftl_reply_text(CNFTL_ACCEPTED), "accepted") == 0);
     assert(strcmp(cnftl_reply_text(CNFTL_NOT_ORDERLY),
                   "the board is not orderly") == 0);
-    assert(strcmp(cnftl_reply_text(10), "unknown reply") == 0);
+    assert(strcmp(cnftl_reply_text(11), "unknown reply") == 0);
     assert(strcmp(cnftl_reply_text(UINT32_MAX), "unknown reply") == 0);
     assert(strcmp(cnftl_rule_text(CNFTL_RULE_TWICE),
                   "BT names a block twice") == 0);
@@ -931,6 +1049,8 @@ int main(void)
     check_cut_start();
     check_cut_refused();
     check_wear();
+    check_worn();
+    check_cut_worn();
     check_replies();
     printf("header: Board T answers as printed\n");
     return 0;
