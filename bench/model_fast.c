@@ -1,6 +1,6 @@
 /*
- * model_fast.c - document 01 with 02's marks, stamps and start in plain C,
- * written for speed.
+ * model_fast.c - document 01 with 02's marks, stamps, start and worn blocks in
+ * plain C, written for speed.
  *
  * The orderly check passes once over the chip.  It reads only the spare bytes
  * of programmed pages, compares erased pages by words, and searches nothing:
@@ -18,7 +18,8 @@
  *
  * A write keeps the marks: it sets the new frame's and clears the old one's,
  * and after a reclaim the copies have the first marks of their block.  It takes
- * the next stamp of its region, if there is one left, for its pages.
+ * the next stamp of its region, if there is one left, for its pages.  That no
+ * block is free shows in the search for one, before anything is stored.
  *
  * A start checks all before it stores anything, on the chip alone: one pass
  * over the blocks; then, region by region, one over the heads of the blocks and
@@ -40,7 +41,7 @@
 enum { SPARE = 16, NONE = 65535, FREE = 0, USED = 1, RESERVED = 2, WORDS = 4 };
 enum {
     ACCEPTED, BAD_PARAMETER, WRONG_LENGTH, BAD_COUNT, BAD_ADDRESS, WRONG_DATA,
-    TOO_FEW_BLOCKS, NOT_ORDERLY, TOO_FEW_ANSWERS, NO_STAMP_LEFT
+    TOO_FEW_BLOCKS, NOT_ORDERLY, TOO_FEW_ANSWERS, NO_STAMP_LEFT, NO_BLOCK_LEFT
 };
 
 /* Parameters, sizes worked out from them, and the state as it is read. */
@@ -316,17 +317,16 @@ static bool check_region(const struct board *b, uint32_t region,
    free blocks are erased. */
 static bool check_blocks(const struct board *b, uint32_t named)
 {
-    uint32_t used = 0, kept = 0;
+    uint32_t used = 0;
 
     for (uint32_t i = 0; i < b->n; i++) {
         if (b->bst[i] > RESERVED)
             return false;
         used += b->bst[i] == USED;
-        kept += b->bst[i] != RESERVED;
         if (b->bst[i] == FREE && !all_ones(b->chip + i * b->block, b->block))
             return false;
     }
-    return used == named && kept > b->mu * b->gamma;
+    return used == named;
 }
 
 /* CT entries that are not none. */
@@ -471,15 +471,19 @@ static struct holder valid_frame(const struct board *b, uint32_t cluster)
     return h;
 }
 
-/* Erases a block and counts it. */
+/* Erases a block and counts it; marks and reserves it if that wears it out. */
 static void erase(const struct board *b, const struct lent *l, uint32_t block)
 {
     memset(l->chip + block * b->block, 255, b->block);
     l->wear[block] += l->wear[block] != UINT32_MAX;
     l->bst[block] = FREE;
+    if (l->wear[block] >= b->e) {
+        l->chip[block * b->block + b->s + 5] = 0;
+        l->bst[block] = RESERVED;
+    }
 }
 
-/* The free block of lowest wear, the lowest on a tie. */
+/* The free block of lowest wear, the lowest on a tie, or NONE. */
 static uint32_t free_block(const struct board *b)
 {
     uint32_t best = NONE;
@@ -571,7 +575,7 @@ static void reclaim(const struct board *b, const struct lent *l,
 }
 
 /* Finds the frame of a write: in the open block, in a new one, or after the
-   copies of a reclaim. */
+   copies of a reclaim; its block is NONE where none is free. */
 static struct target find_target(const struct board *b, const struct lent *l,
                                  uint32_t region, struct holder *old)
 {
@@ -581,6 +585,8 @@ static struct target find_target(const struct board *b, const struct lent *l,
     if (open_frame(b, region, &t))
         return t;
     t.block = free_block(b);
+    if (t.block == NONE)
+        return t;
     t.frame = t.virtual_block = 0;
     while (t.virtual_block < b->gamma && bt[t.virtual_block] != NONE)
         t.virtual_block++;
@@ -623,15 +629,19 @@ static void put_cluster(const struct board *b, uint8_t *to, const uint8_t *old,
     }
 }
 
-/* The steps of a write; the victim is erased last, when all copies stand. */
+/* The steps of a write, or its refusal where no block is left; the victim
+   is erased last, when all copies stand. */
 static uint64_t write_steps(const struct board *b, const struct lent *l,
                             uint32_t lba, uint32_t count, const uint8_t *data)
 {
     uint32_t cluster = lba / b->alpha, region = cluster % b->mu, segment;
     struct holder old = valid_frame(b, cluster);
     struct target t = find_target(b, l, region, &old);
-    uint8_t *to = l->chip + frame_at(b, t.block, t.frame);
+    uint8_t *to;
 
+    if (t.block == NONE)
+        return answer(NO_BLOCK_LEFT, 0, 0);
+    to = l->chip + frame_at(b, t.block, t.frame);
     put_cluster(b, to, old.at == SIZE_MAX ? NULL : b->chip + old.at,
                 make_spare(cluster, ++l->stamps[region], t.virtual_block),
                 lba % b->alpha, count, data);
@@ -655,7 +665,8 @@ static bool block_good(const struct board *b, uint32_t block)
         && (b->alpha * b->frames < 2 || mark[b->page] == 255);
 }
 
-/* Erases the good blocks, reserves the bad ones and clears the tables. */
+/* Erases the good blocks, reserves the bad and the worn ones and clears the
+   tables. */
 uint64_t fast_format(uint32_t s, uint32_t alpha, uint32_t beta, uint32_t d,
                      uint32_t mu, uint32_t gamma, uint32_t c, uint32_t n,
                      uint32_t e,
@@ -672,14 +683,18 @@ uint64_t fast_format(uint32_t s, uint32_t alpha, uint32_t beta, uint32_t d,
     struct lent l = { chip, ct, bt, fst, bst, wear, marks, stamps };
     uint32_t reply = refuse_board(&b, chip_len, ct_len, bt_len, fst_len,
                                   bst_len, wear_len, marks_len, stamps_len);
-    uint32_t good = 0;
+    uint32_t good = 0, left = 0;
 
     if (reply != ACCEPTED)
         return answer(reply, 0, 0);
     b.chip = chip;
-    for (uint32_t i = 0; i < n; i++)
-        good += block_good(&b, i);
-    if (good <= mu * gamma)
+    for (uint32_t i = 0; i < n; i++) {
+        bool here = block_good(&b, i);
+
+        good += here;
+        left += here && wear[i] < e - 1;
+    }
+    if (left <= mu * gamma)
         return answer(TOO_FEW_BLOCKS, 0, 0);
     for (uint32_t i = 0; i < n; i++)
         if (block_good(&b, i))
@@ -1115,15 +1130,10 @@ uint64_t fast_start(uint32_t s, uint32_t alpha, uint32_t beta, uint32_t d,
     struct lent l = { chip, ct, bt, fst, bst, wear, marks, stamps };
     uint32_t reply = refuse_board(&b, chip_len, ct_len, bt_len, fst_len,
                                   bst_len, wear_len, marks_len, stamps_len);
-    uint32_t good = 0;
 
     if (reply != ACCEPTED)
         return answer(reply, 0, 0);
     look_at(&b, chip, ct, bt, fst, bst, wear, marks, stamps);
-    for (uint32_t i = 0; i < n; i++)
-        good += block_good(&b, i);
-    if (good < mu * gamma + 1)
-        return answer(TOO_FEW_BLOCKS, 0, 0);
     if (!startable(&b))
         return answer(NOT_ORDERLY, 0, 0);
     return start_steps(&b, &l);

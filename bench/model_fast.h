@@ -1,6 +1,6 @@
 /*
- * model_fast.h - document 01's calls with 02's marks, stamps, queue and start in
- * plain C, written for speed.
+ * model_fast.h - document 01's calls with 02's marks, stamps, queue, start and
+ * worn blocks in plain C, written for speed.
  *
  * The five calls have the signatures of cnftl.h under the prefix fast_ and
  * the same outcome.  They are what the product's speed is measured against.
