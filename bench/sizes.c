@@ -1,13 +1,16 @@
 /*
  * sizes.c - what fewer clusters buy on the small board of the README: pages
- * programmed and blocks erased for each write, counted from the answers.
+ * programmed and blocks erased for each write, counted from the answers, and
+ * how many writes the board takes until one is refused with 10 for want of a
+ * block.
  *
  *   sizes [WRITES]
  *
  * For each C the board is formatted and filled; then single sectors are written
- * at random, every sector as likely as another, in queues of 1,000.  The counts
- * are of the layer and not of the machine, so they are the same under an
- * emulator.  The random numbers are always the same.
+ * at random, every sector as likely as another, in queues of 1,000.  For its
+ * life the same is done on a board whose blocks are rated for 1,000 erases.
+ * The counts are of the layer and not of the machine, so they are the same
+ * under an emulator.  The random numbers are always the same.
  */
 #include "image.h"
 
@@ -16,6 +19,7 @@
 #include <string.h>
 
 enum { BATCH = 1000, SECTOR = 512, MOST_WRITES = 10000000 };
+enum { RATED = 1000000, FEW = 1000 };
 
 static struct cnftl_request requests[BATCH];
 static uint64_t answers[BATCH];
@@ -29,12 +33,13 @@ static uint32_t below(uint32_t n)
     return (uint32_t)((state >> 33) % n);
 }
 
-/* The README's small board with c clusters, all ones and never erased. */
-static struct cnftl_board new_board(uint32_t c)
+/* The README's small board with c clusters and e rated erases, all ones and
+   never erased. */
+static struct cnftl_board new_board(uint32_t c, uint32_t e)
 {
     const struct cnftl_params p = { .s = SECTOR, .alpha = 4, .beta = 4, .d = 4,
                                     .mu = 4, .gamma = 4, .c = c, .n = 20,
-                                    .e = 1000000 };
+                                    .e = e };
     struct cnftl_board b;
     struct image_result made = image_new_board(&b, &p);
 
@@ -65,34 +70,62 @@ static void fill(const struct cnftl_board *b)
         accepted(cnftl_board_write(b, 4 * c, 4, data, sizeof data));
 }
 
-/* A batch of writes of one sector; adds up what they report. */
-static void write_batch(const struct cnftl_board *b, uint64_t *programs,
-                        uint64_t *erases)
+/* A batch of writes of one sector. */
+static void write_batch(const struct cnftl_board *b)
 {
     for (int i = 0; i < BATCH; i++)
         requests[i] = (struct cnftl_request){
             below(cnftl_sectors(&b->params)), 1, 0 };
     accepted(cnftl_board_queue(b, requests, BATCH, data, SECTOR, answers));
+}
+
+/* Adds up what the writes of a batch report. */
+static void add_up(uint64_t *programs, uint64_t *erases)
+{
     for (int i = 0; i < BATCH; i++) {
         *programs += cnftl_programs_of(accepted(answers[i]));
         *erases += cnftl_erases_of(answers[i]);
     }
 }
 
+/* How many writes are accepted before the first that is refused with 10.  The
+   random numbers of the table go on as if it had taken none. */
+static uint64_t life(uint32_t c)
+{
+    struct cnftl_board b = new_board(c, FEW);
+    uint64_t writes = 0, before = state;
+    int i;
+
+    accepted(cnftl_board_format(&b));
+    fill(&b);
+    do {
+        write_batch(&b);
+        for (i = 0; i < BATCH; i++, writes++)
+            if (cnftl_reply_of(answers[i]) == CNFTL_NO_BLOCK_LEFT)
+                break;
+    } while (i == BATCH);
+    image_free_board(&b);
+    state = before;
+    return writes;
+}
+
 /* One line of the table. */
 static void measure(uint32_t c, uint64_t writes)
 {
-    struct cnftl_board b = new_board(c);
+    struct cnftl_board b = new_board(c, RATED);
     uint64_t programs = 0, erases = 0;
 
     accepted(cnftl_board_format(&b));
     fill(&b);
-    for (uint64_t done = 0; done < writes; done += BATCH)
-        write_batch(&b, &programs, &erases);
-    printf("%5lu  %15lu  %12lu  %17.1f  %18.2f\n", (unsigned long)c,
+    for (uint64_t done = 0; done < writes; done += BATCH) {
+        write_batch(&b);
+        add_up(&programs, &erases);
+    }
+    printf("%5lu  %16lu  %12lu  %17.1f  %18.2f  %14lu\n", (unsigned long)c,
            (unsigned long)(cnftl_sectors(&b.params) * SECTOR),
            (unsigned long)cnftl_writes_per_erase(&b.params, 0),
-           (double)programs / (double)writes, (double)erases / (double)writes);
+           (double)programs / (double)writes, (double)erases / (double)writes,
+           (unsigned long)life(c));
     image_free_board(&b);
 }
 
@@ -106,7 +139,7 @@ int main(int argc, char **argv)
         return 2;
     }
     printf("    C  bytes of sectors  writes/erase  pages for a write  "
-           "erases for a write\n");
+           "erases for a write  life, E 1,000\n");
     for (size_t i = 0; i < sizeof clusters / sizeof clusters[0]; i++)
         measure(clusters[i], writes);
     return 0;
