@@ -64,8 +64,8 @@
  * fewer than mu*gamma+1 blocks.
  * How long a board lasts: let g blocks be not bad, and none of them erased
  * before the format.  Each then has e - 1 erases left, so at least
- * (g - mu*gamma)*(e - 1) reclaims come before the first reply 10, and those of
- * a region are at least cnftl_writes_per_erase accepted writes apart.
+ * (g - mu*gamma)*(e - 1) erases come before the first reply 10, and those of
+ * a region's writes are at least cnftl_writes_per_erase accepted writes apart.
  *
  * What the caller answers for:
  *   - Every pointer is non-null and aligned for its element type, even when

@@ -1,7 +1,8 @@
 #!/usr/bin/env bash
 # T-07: takes the power away after every operation of every format, write, queue and start of many runs on small boards, starts each board again, and
-# looks that every sector reads as it should, with all bytes compared with the model of tests/c. Then it shows that wrong layers are noticed by what
-# the host knows alone. CUTS and SEED may be set, for a long run by hand too. The run counts as one, its number of cuts as one, and each wrong layer.
+# looks that every sector reads as it should, with all bytes compared with the model of tests/c. On half of the boards blocks wear out (T-12). Then it
+# shows that wrong layers are noticed by what the host knows alone. CUTS and SEED may be set, for a long run by hand too. The run counts as one, its
+# number of cuts as one, and each wrong layer.
 set -u
 cd "$(dirname "$0")/.."
 here=1
