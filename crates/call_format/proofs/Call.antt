@@ -6,7 +6,6 @@ use Prim.Native.Nat.{ℕ, _*_, _≤_, _<_}
 use native.Mathlib.Omega.{arith}
 use lib.ListN.{length, replicate}
 use Rattle.rules.specs.declared.Params.{Params}
-use Rattle.rules.specs.declared.Reply.{Reply}
 use Rattle.rules.specs.declared.Reply.the-variants.{Accepted}
 use Rattle.rules.specs.Tables.{Board, boardOf, none}
 use Rattle.rules.specs.Marks.{marksOf}
@@ -38,11 +37,11 @@ module _ (p : Params) (b : Board) (e : replyOf p b format ≡ Accepted) where
   few k h = omega (arith, h, (sizes p (given .fine)) .blocks)
 
   -- every block formatted, every entry cleared, every mark gone and every last stamp 0
-  pub format-done : (r : Reply) → r ≡ replyOf p b format → (chip ct bt fst bst wear marks stamps : List ℕ) (k : ℕ) → ct ≡ replicate (length (b .ct)) none → bt ≡ replicate (length (b .bt)) none
+  pub format-done : (chip ct bt fst bst wear marks stamps : List ℕ) (k : ℕ) → ct ≡ replicate (length (b .ct)) none → bt ≡ replicate (length (b .bt)) none
       → fst ≡ replicate (length (b .fst)) none → marks ≡ replicate (length (b .marks)) 0 → stamps ≡ replicate (length (b .stamps)) 0 → BlocksDone p (b .chip) (b .wear) chip bst wear k
-      → outcome (record { reply = r; programs = 0; erases = k; looks = 0 }) [] [] (boardOf chip ct bt fst bst wear marks stamps) ≡ outcomeOf p b format
+      → outcome (record { reply = Accepted; programs = 0; erases = k; looks = 0 }) [] [] (boardOf chip ct bt fst bst wear marks stamps) ≡ outcomeOf p b format
   unfolding answerOf formatted
-  format-done r er chip ct bt fst bst wear marks stamps k ce be fe me se d =
+  format-done chip ct bt fst bst wear marks stamps k ce be fe me se d =
       let ct-is : ct ≡ replicate (p .C) none = ce ∙ rw (lens .ctLength) in
       let bt-is : bt ≡ replicate (p .mu * p .gamma) none = be ∙ rw (lens .btLength) in
       let fst-is : fst ≡ replicate (p .mu) none = fe ∙ rw (lens .fstLength) in
@@ -50,7 +49,7 @@ module _ (p : Params) (b : Board) (e : replyOf p b format ≡ Accepted) where
       let stamps-is : stamps ≡ replicate (p .mu) 0 = se ∙ rw (lens .stampsLength) in
       (λ i.
       record {
-        answer = record { reply = (er ∙ e) i; programs = sym (format-programs p (b .chip)) i; erases = d .count i; looks = 0 };
+        answer = record { reply = Accepted; programs = sym (format-programs p (b .chip) (b .wear)) i; erases = d .count i; looks = 0 };
         bytes = [];
         answers = [];
         board = record { chip = d .chipIs i; ct = ct-is i; bt = bt-is i; fst = fst-is i; bst = d .bstIs i; wear = d .wearIs i; marks = marks-is i; stamps = stamps-is i };

@@ -1,10 +1,9 @@
--- `call_format::format`: refused by the reply's number, or every block formatted, every entry cleared, every mark gone and every last stamp 0.
+-- `call_format::format`: refused by the reply's number, or the work of a format.
 -- Assumes nothing.
 use borrow.Author.Needs.{needs}
 use Rattle.rules.specs.Tables.{Board, boardOf}
 use Rattle.rules.specs.Requests.{format, lent, lentAnswers}
 use Rattle.outcomes.proofs.Ends.{refused-by, reply-zero}
-use Rattle.call_format.proofs.Call.{asked, few, format-done}
 use Rattle.call_format.proofs.format.Statement.{statement}
 use Rattle.call_format.proofs.format.Tie as tie
 
@@ -51,41 +50,13 @@ returns c =
     let a = at-format-reply .before .before .before .before .before .before .before .before .before .before .before .before .before .before .before .before .before in
     refused-by _ (board a) format _ (at-format-reply .format-reply .ensures) _ (c .before .before .number .ensures) (c .before .if1 .taken) _ (c .idle .ensures)
 
-clear-requires : tie.Need-clear-requires
-clear-requires c κs = search needs
-
-clear-requires-2 : tie.Need-clear-requires-2
-clear-requires-2 c κs = search needs
-
-clear-requires-3 : tie.Need-clear-requires-3
-clear-requires-3 c κs = search needs
-
-clear-all-requires : tie.Need-clear-all-requires
-clear-all-requires c κs = search needs
-
-clear-stamps-requires : tie.Need-clear-stamps-requires
-clear-stamps-requires c κs = search needs
-
-format-blocks-requires : tie.Need-format-blocks-requires
-format-blocks-requires c κs =
-    let at-if1 = c .before .before .before .before .before .before .before .before .before .before .before .before .before .before .before .before .before .before .before .before .before .before .before in
+format-all-requires : tie.Need-format-all-requires
+format-all-requires c κs =
+    let at-if1 = c .before .before .before .before .before .before .before .before in
     let at-number = at-if1 .before in
     let at-format-reply = at-number .before in
     let a = at-format-reply .before .before .before .before .before .before .before .before .before .before .before .before .before .before .before .before .before in
-    asked _ (board a)
-    (reply-zero _ (board a) format _ (at-format-reply .format-reply .ensures) _ (at-number .number .ensures) (at-if1 .if1 .left))
-
-cast-t28 : tie.Need-cast-t28
-cast-t28 c =
-    let at-format-blocks = c .before .before .before .before .before .before in
-    let at-if1 = at-format-blocks .before .before .before .before .before .before .before .before .before .before .before .before .before .before .before .before .before .before .before .before .before .before .before .before in
-    let at-number = at-if1 .before in
-    let at-format-reply = at-number .before in
-    let a = at-format-reply .before .before .before .before .before .before .before .before .before .before .before .before .before .before .before .before .before in
-    record {
-      fits = few _ (board a) (reply-zero _ (board a) format _ (at-format-reply .format-reply .ensures) _ (at-number .number .ensures) (at-if1 .if1 .left)) _
-          (at-format-blocks .format-blocks .ensures .few);
-    }
+    reply-zero _ (board a) format _ (at-format-reply .format-reply .ensures) _ (at-number .number .ensures) (at-if1 .if1 .left)
 
 same-length-9 : tie.Need-same-length-9
 same-length-9 c = search needs
@@ -112,25 +83,9 @@ same-length-16 : tie.Need-same-length-16
 same-length-16 c = search needs
 
 returns-2 : tie.Need-returns-2
-returns-2 c =
-    let at-format-blocks = c .before .before .before .before .before .before in
-    let at-clear-all = at-format-blocks .before .before .before .before .before .before .before .before .before .before in
-    let at-clear3 = at-clear-all .before .before .before .before in
-    let at-clear2 = at-clear3 .before .before .before .before in
-    let at-clear = at-clear2 .before .before .before .before in
-    let at-if1 = at-clear .before .before in
-    let at-number = at-if1 .before in
-    let at-format-reply = at-number .before in
-    let a = at-format-reply .before .before .before .before .before .before .before .before .before .before .before .before .before .before .before .before .before in
-    format-done _ (board a)
-    (reply-zero _ (board a) format _ (at-format-reply .format-reply .ensures) _ (at-number .number .ensures) (at-if1 .if1 .left))
-    _ (at-format-reply .format-reply .ensures) _ _ _ _ _ _ _ _ _
-    (at-clear .clear .ensures)
-    (at-clear2 .clear2 .ensures)
-    (at-clear3 .clear3 .ensures)
-    (at-clear-all .clear-all .ensures)
-    (at-format-blocks .before .before .before .before .before .before .clear-stamps .ensures)
-    (at-format-blocks .format-blocks .ensures)
+returns-2 c = c .before .before .before .before .before .before .before .before .before .before .before .before .before .before .before .before .format-all .ensures
 
 pub format-spec : {M : Type 1} → statement M
-format-spec = tie.close (tie.spec format-reply-requires number-requires idle-requires same-length same-length-2 same-length-3 same-length-4 same-length-5 same-length-6 same-length-7 same-length-8 returns clear-requires clear-requires-2 clear-requires-3 clear-all-requires clear-stamps-requires format-blocks-requires cast-t28 same-length-9 same-length-10 same-length-11 same-length-12 same-length-13 same-length-14 same-length-15 same-length-16 returns-2)
+format-spec =
+    tie.close
+    (tie.spec format-reply-requires number-requires idle-requires same-length same-length-2 same-length-3 same-length-4 same-length-5 same-length-6 same-length-7 same-length-8 returns format-all-requires same-length-9 same-length-10 same-length-11 same-length-12 same-length-13 same-length-14 same-length-15 same-length-16 returns-2)
