@@ -14,8 +14,8 @@ use Rattle.lists.proofs.Tests.{never}
 use Rattle.rules.specs.declared.Params.{Params}
 use Rattle.rules.specs.Tables.{Board, none, btAt, btEntry, ctAt}
 use Rattle.rules.specs.Regions.{view}
-use Rattle.rules.specs.Traces.{erasesIn, framesOps, isErase, replayChip}
-use Rattle.rules.specs.Write.{Plan, continues, opens, reclaims, copies, eraseOps, followCt, planBlock, planVBlock, roomOps}
+use Rattle.rules.specs.Traces.{framesOps, replayChip}
+use Rattle.rules.specs.Write.{Plan, continues, opens, reclaims, copies, followCt, planBlock, planErases, planVBlock, roomOps, victimOps}
 use Rattle.rules.specs.Words.{PlanListed}
 use Rattle.rules.proofs.Isolation.{index-low}
 use Rattle.rules.proofs.Sizes.{Sizes}
@@ -23,37 +23,37 @@ use Rattle.rules.proofs.TableFacts.{Tables}
 use Rattle.rules.proofs.Views.{no-block}
 use Rattle.read_work.specs.Lookup.{blockFor, frameFor, lastFor, Stands, Within}
 
-module _ (p : Params) (b : Board) (r : ℕ) (pl : Plan) (still : erasesIn (eraseOps p b r pl) ≡ 0) where
+module _ (p : Params) (b : Board) (r : ℕ) (pl : Plan) (still : planErases pl ≡ 0) where
   pub chip-same : replayChip p (b .chip) (roomOps p b r pl) ≡ b .chip
-  unfolding replayChip roomOps framesOps copies eraseOps erasesIn isErase
+  unfolding replayChip roomOps framesOps copies victimOps planErases
   chip-same = go pl still
     where
-      go : (l : Plan) → erasesIn (eraseOps p b r l) ≡ 0 → replayChip p (b .chip) (roomOps p b r l) ≡ b .chip
+      go : (l : Plan) → planErases l ≡ 0 → replayChip p (b .chip) (roomOps p b r l) ≡ b .chip
       go (continues v f) e = refl
       go (opens v) e = refl
       go (reclaims v) e = absurd (omega (arith, e))
 
   pub ct-same : followCt p (planVBlock pl) 0 (copies p (view p b r) pl) (b .ct) ≡ b .ct
-  unfolding followCt copies eraseOps erasesIn isErase
+  unfolding followCt copies planErases
   ct-same = go pl still
     where
-      go : (l : Plan) → erasesIn (eraseOps p b r l) ≡ 0 → followCt p (planVBlock l) 0 (copies p (view p b r) l) (b .ct) ≡ b .ct
+      go : (l : Plan) → planErases l ≡ 0 → followCt p (planVBlock l) 0 (copies p (view p b r) l) (b .ct) ≡ b .ct
       go (continues v f) e = refl
       go (opens v) e = refl
       go (reclaims v) e = absurd (omega (arith, e))
 
 -- the block that BT names for a virtual block that has one
-module _ (p : Params) (z : Sizes p) (b : Board) (t : Tables p b) (r : ℕ) (region : r < p .mu) (pl : Plan) (still : erasesIn (eraseOps p b r pl) ≡ 0)
+module _ (p : Params) (z : Sizes p) (b : Board) (t : Tables p b) (r : ℕ) (region : r < p .mu) (pl : Plan) (still : planErases pl ≡ 0)
     (listed : PlanListed p (view p b r) pl) (mine : planVBlock pl < p .gamma) where
   abbrev bt′ : List ℕ
   bt′ = set (b .bt) (r * p .gamma + planVBlock pl) (planBlock p b r pl)
 
   -- the plan's own entry: it is as it was, or had none
   own : (btAt p (b .bt) r (planVBlock pl) ≡ none → ⊥) → planBlock p b r pl ≡ btAt p (b .bt) r (planVBlock pl)
-  unfolding planBlock planVBlock eraseOps erasesIn isErase
+  unfolding planBlock planVBlock planErases
   own = go pl still listed mine
     where
-      go : (l : Plan) → erasesIn (eraseOps p b r l) ≡ 0 → PlanListed p (view p b r) l → planVBlock l < p .gamma → (btAt p (b .bt) r (planVBlock l) ≡ none → ⊥)
+      go : (l : Plan) → planErases l ≡ 0 → PlanListed p (view p b r) l → planVBlock l < p .gamma → (btAt p (b .bt) r (planVBlock l) ≡ none → ⊥)
           → planBlock p b r l ≡ btAt p (b .bt) r (planVBlock l)
       go (continues v f) e k low ne = refl
       go (opens v) e k low ne = absurd (ne (no-block p z b t r v region low (z .some) (k .bare)))

@@ -20,7 +20,7 @@ use Rattle.rules.specs.Tables.{Board, boardOf, none, btAt, ctAt, marksLength, s
 use Rattle.rules.specs.Pages.{block, frame}
 use Rattle.rules.specs.Regions.{View, view, viewOf, assigned, looksAt}
 use Rattle.rules.specs.Traces.{erasesIn, frameOps, programsIn, replayChip}
-use Rattle.rules.specs.Write.{Plan, continues, opens, reclaims, hasRoom, lowestUnassigned, planOf, newFrame, nextStamp, planBlock, planVBlock, planFrame, eraseOps, freeBlock, planOps, roomOps, takesBlock, writeOps, written, writtenBy}
+use Rattle.rules.specs.Write.{Plan, continues, opens, reclaims, hasRoom, lowestUnassigned, planOf, newFrame, nextStamp, planBlock, planVBlock, planFrame, planErases, freeBlock, planOps, roomOps, takesBlock, writeOps, written, writtenBy}
 use Rattle.rules.specs.Replies.{replyOf}
 use Rattle.rules.specs.Calls.{Outcome, answerOf, outcomeOf}
 use Rattle.rules.proofs.Sizes.{Sizes}
@@ -198,8 +198,8 @@ module _ (p : Params) (b : Board) (q : Request) (e : replyOf p b (write q) ≡ A
 
     -- where nothing is erased, it stands where it was found at entry
     module _ (c : ℕ) (ec : c ≡ requestCluster p q) (still : erases ≡ 0) (kept : Bool) where
-      none-erased : erasesIn (eraseOps p b r pl) ≡ 0
-      none-erased = sym (m-r .erases) ∙ still
+      none-erased : planErases pl ≡ 0
+      none-erased = sym ((erase-counts p b r pl) .1) ∙ sym (m-r .erases) ∙ still
 
       same-block : (ctAt (b .ct) c ≡ none → ⊥) → blockFor p (b .ct) bt₁ c ≡ blockFor p (b .ct) (b .bt) c
       unfolding blockFor
