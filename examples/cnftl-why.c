@@ -159,8 +159,8 @@ static void draw_block(const struct cnftl_board *b, uint32_t virtual_block,
 
 /* ==== The answer ======================================================= */
 
-/* Tells which rule a board breaks that is not orderly, or that it has no
-   tables. */
+/* Tells which rule a board breaks that is not orderly, by its number, of which
+   5 is never told, or that it has no tables. */
 static void tell_rule(const uint32_t *list, int bare)
 {
     if (bare) {

@@ -287,7 +287,8 @@ uint64_t cnftl_format(uint32_t s, uint32_t alpha, uint32_t beta, uint32_t d,
 
 /*
  * Start a board from its chip alone, where its tables are gone.  Any wear of
- * the right length serves; what the other tables hold makes no difference.
+ * the right length serves, and it tells only whether a block that is erased is
+ * worn by that; what the other tables hold makes no difference.
  * Bad blocks, told as a format tells them, become reserved, erased ones free.
  * Any other block must be one that a board of these parameters can have: the
  * first k frames programmed, k from 1 to F, whole or only begun, all of one

@@ -556,9 +556,8 @@ static bool is_worn(const struct state *b, uint32_t block)
         && all_ones(first + par.s + 6, pages * page - par.s - 6);
 }
 
-/* Looks at the blocks that a call has erased, between these boards: exactly
-   those whose wear came to E or more are marked, and else erased, and reserved.
-   A cut call has no BST, and its last erase may have no mark yet. */
+/* Looks that of the blocks erased between two boards exactly those are worn
+   whose wear came to E; a cut call's last erase may have no mark yet. */
 static void worn_right(const struct state *before, const struct state *after,
                        const struct call *k, bool is_cut)
 {

@@ -699,9 +699,8 @@ static uint32_t blocks_not_bad(bool after_erase)
     return all;
 }
 
-/* Whether a right call on a board that was changed by calls alone since its
-   format may be refused so: a write where blocks are worn out and none is free,
-   or a format that would leave too few. */
+/* Whether a right call on a sound board may be refused so: a write where blocks
+   are worn and none is free, or a format that would leave too few. */
 static bool may_be_refused(const struct call *k, uint32_t reply)
 {
     if (k->kind == 'W' && reply == CNFTL_NO_BLOCK_LEFT) {
@@ -1177,9 +1176,8 @@ static uint32_t wear_near_rated(void)
     return values[below(sizeof values / sizeof *values)];
 }
 
-/* Wear of one of several kinds: new, near together, near its limit, any, near
-   the rated erases, or so for a few blocks and little for the others.  The
-   first kinds and the last leave most blocks to a format. */
+/* Wear of one of several kinds; with little, one that leaves most blocks to a
+   format. */
 static void random_wear(bool little)
 {
     static const uint32_t few[] = { 0, 0, 1, 5, 5, 5 };
@@ -1188,7 +1186,7 @@ static void random_wear(bool little)
     for (uint32_t b = 0; b < par.n; b++) {
         const uint32_t values[6] = {
             0, below(3), UINT32_MAX - below(3), (uint32_t)rnd(),
-            wear_near_rated(),
+            wear_near_rated(), /* and for a few blocks alone: */
             once_in(6) ? wear_near_rated() : par.e < 3 ? 0 : below(par.e - 2)
         };
 
@@ -2297,10 +2295,10 @@ static void limited_request(void)
 }
 
 /* A right read, write, release, why, queue or start.  It is accepted if the
-   board was changed by calls alone since a format, but for a write where no
-   block is left, and a start then erases nothing.  A board that is cut is
-   started soon, one that is not orderly is formatted soon, one with no stamp
-   left in a region later, and one with no block left gets not many calls. */
+   board was changed by calls alone since a format, and a start then erases
+   nothing; but a write may find no block left, and then the board ends soon.
+   One that is cut is started soon, one that is not orderly is formatted soon,
+   and one with no stamp left in a region later. */
 static void right_request(void)
 {
     struct call k = right_call(once_in(64) ? 'S'

@@ -814,9 +814,8 @@ static void wear_out(void)
     assert(is(a, CNFTL_NO_BLOCK_LEFT, 0, 0) && erases == 3);
 }
 
-/* Worn blocks: reply 10 for a write and an item of a queue that need a block,
-   after 9, and in the forecast of a why with nothing behind it; reads, releases
-   and starts go on, and a format would leave too few. */
+/* Worn blocks: reply 10, after 9, for a write, an item and in the forecast of a
+   why; reads, releases and starts go on, and a format would leave too few. */
 static void check_worn(void)
 {
     static const struct cnftl_request item = { 2, 1, 0 };
@@ -860,9 +859,8 @@ static void four_writes(void)
     assert(bt[0] == 0 && bt[1] == 1);
 }
 
-/* A reclaim that wears block 0 out, cut after its two copies, after the erase,
-   after the mark, and after each page of its frame.  The start wears the block
-   of the copies out in its place, finds block 0 free, or finds it worn. */
+/* A reclaim that wears block 0 out, cut from the end of its copies on; a start
+   wears their block out in its place, finds block 0 free, or finds it worn. */
 static void check_cut_worn(void)
 {
     static const uint8_t states[] = {
