@@ -8,7 +8,7 @@ use mathlib.Core.List.{List, [], _++_, _∷_}
 use Prim.Native.Nat.{_*_, _+_, _/_, _≤_, _<_, ℕ, suc, zero}
 use native.Mathlib.Nat.{mod-lt}
 use native.Mathlib.Omega.{arith}
-use lib.Dec.{eqb, leb}
+use lib.Dec.{eqb}
 use lib.ListN.{getD, length, length-map}
 use Rattle.rules.specs.declared.Params.{Params}
 use Rattle.rules.specs.declared.Reply.{Reply}
@@ -20,6 +20,7 @@ use Rattle.rules.specs.Regions.{View, looksAt, validFrames, view, viewOf}
 use Rattle.rules.specs.Replies.{accessRows, badAddress, badCount, badParameter, blockRow, earlyRows, firstRow, lentRows, noBlockLeft, noStampLeft, notOrderly, numberOf, OrderlyBoard, orderRow, replyOf, rowsOf, stampRow, whyReply, whyRows, wrongData, wrongLength}
 use Rattle.rules.specs.Requests.{Request, requestCluster, requestRegion, write}
 use Rattle.rules.specs.Tables.{Board, bstAt, btAt, ctAt, none, stampAt}
+use Rattle.rules.specs.Traces.{worn}
 use Rattle.rules.specs.Words.{PlanListed}
 use Rattle.rules.specs.Write.{Plan, continues, copies, newFrame, opens, planBlock, planBst, planErases, planFrame, planOf, planVBlock, reclaims, written, writtenBy, nextStamp, takesBlock}
 use Rattle.rules.specs.Machine.{viewAfter, withFrame, withRoom}
@@ -34,11 +35,11 @@ use Rattle.rules.proofs.Sizes.{Sizes}
 use Rattle.rules.proofs.TableFacts.{Tables, tables-in}
 use Rattle.rules.proofs.Views.{block-low, free-unnamed, has-block, no-block}
 use Rattle.rules.proofs.Words.{plan-exactly}
-use Rattle.rules.proofs.Writes.{own-sheet}
+use Rattle.rules.proofs.Writes.{own-sheet, write-reserved-bad}
 use Rattle.rules.proofs.WritePromise.{Promise, makes, write-promise}
 use Rattle.call_why.specs.Why.{forecastIn, forecastOf, holderOf, planNumbers, whyOf}
 use Rattle.call_why.proofs.Holder.{body-is}
-use Rattle.why_claims.specs.Truths.{ForecastTrue, toldAt}
+use Rattle.why_claims.specs.Truths.{Emptied, ForecastTrue, toldAt}
 use Rattle.why_claims.proofs.Told.{told-held}
 
 -- ---- the numbers of a plan
@@ -172,15 +173,18 @@ module _ (p : Params) (z : Sizes p) (b : Board) (t : Tables p b) (r : ℕ) (regi
   plan-opens (opens v) w e = no-block p z b t r v region (w .low) (frames-pos p z) (w .bare)
   plan-opens (reclaims v) w e = absurd (omega (arith, e))
 
-  -- a plan that reclaims frees the virtual block's physical block
+  -- a plan that reclaims takes the virtual block's physical block out of use: it was used, and becomes free, or reserved where its erase wears it out
   plan-frees : (pl : Plan) → PlanListed p (view p b r) pl → Makes p b r pl → planAt p (view p b r) pl 0 ≡ 3
-      → (btAt p (b .bt) r (planAt p (view p b r) pl 1) < p .N) × (bstAt (planBst p b r pl) (btAt p (b .bt) r (planAt p (view p b r) pl 1)) ≡ 0)
+      → (btAt p (b .bt) r (planAt p (view p b r) pl 1) < p .N)
+      × (bstAt (b .bst) (btAt p (b .bt) r (planAt p (view p b r) pl 1)) ≡ 1)
+      × (bstAt (planBst p b r pl) (btAt p (b .bt) r (planAt p (view p b r) pl 1)) ≡ cond (worn p (b .wear) (btAt p (b .bt) r (planAt p (view p b r) pl 1))) 2 0)
   unfolding planAt planNumbers
   plan-frees (continues v f) w m e = absurd (omega (arith, e))
   plan-frees (opens v) w m e = absurd (omega (arith, e))
   plan-frees (reclaims v) w m e =
       let some = has-block p z b t r v region (w .low) (w .every v (w .low)) in (
         block-low p z b t r v region (w .low) some,
+        t .usedBack (r * p .gamma + v) (index-low p r v region (w .low)) _ (block-low p z b t r v region (w .low) some) (unfold btAt in refl),
         unfold bstAt planVBlock planBlock btAt in m .kindOld (free-unnamed p z b t (m .found (unfold takesBlock in refl)) (r * p .gamma + v) (index-low p r v region (w .low))) some,
       )
 
@@ -249,12 +253,20 @@ module _ (p : Params) (b : Board) (q : Request) (e : replyOf p b (write q) ≡ A
       rw (vblock-after, place-after, own)
       (last-new p (adm .sized) (withRoom p vw pl) (planVBlock pl) (planFrame p vw pl) (requestCluster p q) x (made .base .ready) sheet)
 
-  -- the block that was reclaimed is free, and so erased
-  erased-after : planAt p vw pl 0 ≡ 3 → (btAt p (b .bt) (requestRegion p q) (planAt p vw pl 1) < p .N)
-      × (erased (block p ((written p b q) .chip) (btAt p (b .bt) (requestRegion p q) (planAt p vw pl 1))) ≡ true)
-  erased-after k =
+  -- a block that was used and that the plan takes out of use is free, and so erased; or it is worn out, reserved and bad
+  out-of-use : (n : ℕ) (t : Bool) → worn p (b .wear) n ≡ t → n < p .N → bstAt (b .bst) n ≡ 1 → bstAt (planBst p b (requestRegion p q) pl) n ≡ cond t 2 0
+      → Emptied p (b .wear) n (written p b q)
+  unfolding written writtenBy
+  out-of-use n false o low was kind = inl (o, (tables-in p (written p b q) (promise .lengths) (promise .orderlyLeft)) .free n low kind)
+  out-of-use n true o low was kind =
+      inr (o, kind, write-reserved-bad p b q adm (requestRegion p q) refl pl made (stamp-left p b q e) n low (λ x. absurd (omega (arith, was, x))) kind)
+
+  -- such is the block that was reclaimed
+  emptied : planAt p vw pl 0 ≡ 3
+      → (btAt p (b .bt) (requestRegion p q) (planAt p vw pl 1) < p .N) × Emptied p (b .wear) (btAt p (b .bt) (requestRegion p q) (planAt p vw pl 1)) (written p b q)
+  emptied k =
       let w = plan-frees p (adm .sized) b (adm .tables) (requestRegion p q) region pl listed made k in
-      (w .0, (tables-in p (written p b q) (promise .lengths) (promise .orderlyLeft)) .free (btAt p (b .bt) (requestRegion p q) (planAt p vw pl 1)) (w .0) (unfold written writtenBy in w .1))
+      (w .0, out-of-use (btAt p (b .bt) (requestRegion p q) (planAt p vw pl 1)) _ refl (w .0) (w .1) (w .2))
 
   -- ---- what is told of a sector of the cluster, before and after
 
@@ -282,7 +294,7 @@ module _ (p : Params) (b : Board) (q : Request) (e : replyOf p b (write q) ≡ A
           kind = rw (h .kind) (plan-kind p vw pl);
           continued = λ k. rw (← is, h .vblock) (unfold viewOf in plan-open p vw pl listed (sym (h .kind) ∙ k));
           opened = λ k. rw (← is, h .vblock) (plan-opens p (adm .sized) b (adm .tables) (requestRegion p q) region pl listed (sym (h .kind) ∙ k));
-          reclaimed = λ k. rw (← is, h .vblock) (erased-after (sym (h .kind) ∙ k));
+          reclaimed = λ k. rw (← is, h .vblock) (emptied (sym (h .kind) ∙ k));
           copied = λ k. rw (← is, h .vblock, h .count) (plan-valid p vw pl (sym (h .kind) ∙ k));
           programs = rw (h .count) (promise .programs ∙ rw (plan-copies p vw pl));
           erases = rw (h .kind) (promise .erases ∙ plan-erases p vw pl);

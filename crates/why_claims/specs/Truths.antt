@@ -4,7 +4,8 @@
 -- Assumes nothing.
 use mathlib.Core.Path.{_≡_}
 use mathlib.Core.Logic.{_⊎_}
-use mathlib.Core.Bool.{cond, true}
+use mathlib.Core.Bool.{cond, false, true}
+use mathlib.Core.List.{List}
 use Prim.Native.Nat.{_*_, _+_, _-_, _<_, ℕ}
 use lib.Dec.{eqb}
 use lib.ListN.{getD, length, replicate, take}
@@ -18,7 +19,9 @@ use Rattle.rules.specs.Parameters.{frames}
 use Rattle.rules.specs.Regions.{sector, valid, validFrames, view}
 use Rattle.rules.specs.Replies.{numberOf, replyOf, whyReply}
 use Rattle.rules.specs.Requests.{Request, read, requestCluster, write}
-use Rattle.rules.specs.Tables.{Board, btAt, ctAt, fstAt, none}
+use Rattle.rules.specs.Tables.{Board, bstAt, btAt, ctAt, fstAt, none}
+use Rattle.rules.specs.Traces.{worn}
+use Rattle.rules.specs.Format.{bad}
 use Rattle.check_broken.specs.Broken.{FirstFails, testOf}
 use Rattle.call_why.specs.Why.{whyOf}
 
@@ -44,6 +47,11 @@ pub record NotHeldTrue (p : Params) (b : Board) (c j : ℕ) : Type 0 where
   pub noFrame : (v f : ℕ) → v < p .gamma → f < frames p → valid p (view p b (regionOf p c)) v f ≡ true → held p (frame p ((view p b (regionOf p c)) .body v) f) ≡ c → ⊥
   pub reads : sector p b c j ≡ replicate (p .s) 255
 
+-- block n is erased on board b; or, T-12, its erase has worn it out, and it is reserved and bad
+abbrev pub Emptied : Params → List ℕ → ℕ → Board → Type 0
+Emptied p wear n b =
+    ((worn p wear n ≡ false) × (erased (block p (b .chip) n) ≡ true)) ⊎ ((worn p wear n ≡ true) × (bstAt (b .bst) n ≡ 2) × (bad p (b .chip) n ≡ true))
+
 -- "whether the frame lies in the open block, opens a named virtual block, or reclaims a named one with how many valid frames", n 8 to n 11, and "what a write
 -- then does": o is what a write of the cluster leaves
 pub record ForecastTrue (p : Params) (b : Board) (lba : ℕ) (n : ℕ → ℕ) (o : Outcome) : Type 0 where
@@ -59,7 +67,8 @@ pub record ForecastTrue (p : Params) (b : Board) (lba : ℕ) (n : ℕ → ℕ) (
   -- 2: it had no physical block
   pub opened : n 8 ≡ 2 → btAt p (b .bt) (regionOf p (clusterOf p lba)) (n 9) ≡ none
   -- 3: the physical block that it had, one of the chip, is erased then; the frames that are copied are its valid ones
-  pub reclaimed : n 8 ≡ 3 → (btAt p (b .bt) (regionOf p (clusterOf p lba)) (n 9) < p .N) × (erased (block p (o .board .chip) (btAt p (b .bt) (regionOf p (clusterOf p lba)) (n 9))) ≡ true)
+  pub reclaimed : n 8 ≡ 3
+      → (btAt p (b .bt) (regionOf p (clusterOf p lba)) (n 9) < p .N) × Emptied p (b .wear) (btAt p (b .bt) (regionOf p (clusterOf p lba)) (n 9)) (o .board)
   pub copied : n 8 ≡ 3 → n 11 ≡ length (validFrames p (view p b (regionOf p (clusterOf p lba))) (n 9))
   -- "α × (frames copied + 1) pages programmed, and 1 erase if it reclaimed, else 0"
   pub programs : o .answer .programs ≡ p .alpha * (n 11 + 1)
