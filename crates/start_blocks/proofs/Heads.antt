@@ -4,17 +4,16 @@ use mathlib.Core.Path.{_≡_, sym, _∙_}
 use mathlib.Core.Logic.{_⊎_, inl, inr}
 use mathlib.Core.Bool.{true, false, not, _&&_, cond}
 use mathlib.Core.List.{List}
-use Prim.Native.Nat.{ℕ, _+_, _*_, _<_, min}
+use Prim.Native.Nat.{ℕ, _+_, _*_, _<_}
 use native.Mathlib.Omega.{arith}
 use lib.Dec.{eqb}
-use lib.ListN.{replicate, set}
+use lib.ListN.{set}
 use borrow.Author.Tests.{eq-eqb, ne-eqb}
-use Rattle.lists.specs.Parts.{putPart}
 use Rattle.lists.proofs.Tests.{so}
 use Rattle.rules.specs.declared.Params.{Params}
-use Rattle.rules.specs.Parameters.{blockBytes}
-use Rattle.rules.specs.Tables.{btAt, btEntry, none, wearAt}
+use Rattle.rules.specs.Tables.{btAt, btEntry, none}
 use Rattle.rules.specs.Pages.{block, isFull}
+use Rattle.rules.specs.Traces.{erase, eraseOps, onWear, replayChip}
 use Rattle.rules.specs.Start.{inUse}
 use Rattle.rules.proofs.Sizes.{sizes}
 use Rattle.chip_heads.specs.declared.Head.{Head}
@@ -72,8 +71,8 @@ module _ (p : Params) (chip bt : List ℕ) (n : ℕ) (a : BlockAsked p chip bt n
             let q = eq-eqb m none e in
             record { chipIs = rw (used, not-full, entry, q); btIs = rw (used, not-full, entry, q) (b ∙ rw (index-is u)); wearIs = rw (used, not-full, entry, q); count = rw (used, not-full, entry, q) }
 
-        pub open-erased : (m ≡ none → ⊥) → (chip′ wear′ : List ℕ) → chip′ ≡ putPart (blockBytes p) n (replicate (blockBytes p) 255) chip
-            → wear′ ≡ set wear n (min (wearAt wear n + 1) 4294967295) → OpenDone p chip bt wear n chip′ bt wear′ 1
+        pub open-erased : (m ≡ none → ⊥) → (chip′ wear′ : List ℕ) → chip′ ≡ replayChip p chip (eraseOps p wear n)
+            → wear′ ≡ onWear wear (erase n) → OpenDone p chip bt wear n chip′ bt wear′ 1
         unfolding tooMany onlyOne
         open-erased ne chip′ wear′ x y =
             let q = ne-eqb m none ne in

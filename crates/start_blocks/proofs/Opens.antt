@@ -67,13 +67,13 @@ module _ (p : Params) (chip bt wear : List ℕ) (a : StartAsked p chip bt) where
   -- every length is what it was
   module _ (k : ℕ) (low : k ≤ p .N) (chip₁ bt₁ wear₁ : List ℕ) (e : ℕ) (so-far : So k chip₁ bt₁ wear₁ e) where
     pub chip-same : length chip₁ ≡ length chip
-    chip-same = rw (so-far .erased .chipIs) ((erases-ran p (leftOver p chip) chip fits k low) .size)
+    chip-same = rw (so-far .erased .chipIs) ((erases-ran p z wear (leftOver p chip) chip fits k low) .size)
 
     pub bt-same : length bt₁ ≡ length bt
     bt-same = ap length (so-far .btIs ∙ opens-are k) ∙ entries-length (p .mu * p .gamma) (p .gamma) (z .vblocks) kept (namesOpen p chip) k ∙ sym (a .btLength)
 
     pub wear-same : length wear₁ ≡ length wear
-    wear-same = rw (so-far .erased .wearIs) (wear-length wear (erasesBelow (leftOver p chip) k))
+    wear-same = rw (so-far .erased .wearIs) (wear-length wear (erasesBelow p wear (leftOver p chip) k))
 
   module _ (k : ℕ) (low : k < p .N) (chip₁ bt₁ wear₁ : List ℕ) (e : ℕ) (so-far : So k chip₁ bt₁ wear₁ e) where
     abbrev blk : List ℕ
@@ -81,7 +81,7 @@ module _ (p : Params) (chip bt wear : List ℕ) (a : StartAsked p chip bt) where
 
     -- the block is as it was
     block-same : block p chip₁ k ≡ blk
-    block-same = rw (so-far .erased .chipIs) ((erases-ran p (leftOver p chip) chip fits k (omega arith)) .ahead k (omega arith))
+    block-same = rw (so-far .erased .chipIs) ((erases-ran p z wear (leftOver p chip) chip fits k (omega arith)) .ahead k (omega arith))
 
     used-same : inUse p chip₁ k ≡ inUse p chip k
     unfolding inUse bad badMark
@@ -211,9 +211,9 @@ module _ (p : Params) (chip bt wear : List ℕ) (a : StartAsked p chip bt) where
   unfolding startOps
   opens-done k chip₁ bt₁ wear₁ e q so-far =
       record {
-        chipIs = so-far .erased .chipIs ∙ rw (q, where-below p (leftOver p chip));
+        chipIs = so-far .erased .chipIs ∙ rw (q, where-below p wear (leftOver p chip));
         btIs = so-far .btIs ∙ rw q (unfold opensTo foundBt keptBlock in refl);
-        wearIs = so-far .erased .wearIs ∙ rw (q, where-below p (leftOver p chip));
-        count = so-far .erased .count ∙ rw (q, where-below p (leftOver p chip));
+        wearIs = so-far .erased .wearIs ∙ rw (q, where-below p wear (leftOver p chip));
+        count = so-far .erased .count ∙ rw (q, where-below p wear (leftOver p chip));
         few = rw (← q) (so-far .erased .few);
       }

@@ -3,19 +3,18 @@
 use mathlib.Core.Path.{_≡_}
 use mathlib.Core.Bool.{Bool, true, not, _&&_, cond}
 use mathlib.Core.List.{List}
-use Prim.Native.Nat.{ℕ, _+_, _*_, _/_, _%_, _≤_, _<_, min}
+use Prim.Native.Nat.{ℕ, _+_, _*_, _/_, _%_, _≤_, _<_}
 use lib.Dec.{eqb}
-use lib.ListN.{length, set, replicate}
+use lib.ListN.{length, set}
 use Rattle.lists.specs.Below.{allBelow, firstBelow, listBelow}
-use Rattle.lists.specs.Parts.{putPart}
 use Rattle.rules.specs.declared.Params.{Params}
-use Rattle.rules.specs.Parameters.{allowed, blockBytes, chipBytes}
-use Rattle.rules.specs.Tables.{btEntry, none, wearAt}
+use Rattle.rules.specs.Parameters.{allowed, chipBytes}
+use Rattle.rules.specs.Tables.{btEntry, none}
 use Rattle.rules.specs.Pages.{block, isFull}
 use Rattle.rules.specs.Orderly.{named}
-use Rattle.rules.specs.Traces.{erasesIn, replayChip, replayWear}
+use Rattle.rules.specs.Traces.{erase, eraseOps, erasedState, erasesIn, onWear, replayChip, replayWear}
 use Rattle.rules.specs.Format.{bad}
-use Rattle.rules.specs.Start.{foundBt, fullBlock, inUse, namesFull, namesOpen, regionNamed, sound, startOps, startable, vblockNamed}
+use Rattle.rules.specs.Start.{foundBt, fullBlock, inUse, leftOver, namesFull, namesOpen, regionNamed, sound, startOps, startable, vblockNamed}
 
 -- the entry of BT that a block names
 unfoldable pub indexNamed : Params → List ℕ → ℕ
@@ -48,11 +47,11 @@ tooMany p chip bt n = inUse p chip n && (not (isFull p (block p chip n)) && not 
 unfoldable pub onlyOne : Params → List ℕ → List ℕ → ℕ → Bool
 onlyOne p chip bt n = inUse p chip n && (not (isFull p (block p chip n)) && eqb (btEntry bt (indexNamed p (block p chip n))) none)
 
--- what becomes of it: the one goes into BT, the other is erased
+-- what becomes of it: the one goes into BT, the other is erased, and marked where that wears it out
 pub record OpenDone (p : Params) (chip bt wear : List ℕ) (n : ℕ) (chip′ bt′ wear′ : List ℕ) (k : ℕ) : Type 0 where
-  pub chipIs : chip′ ≡ cond (tooMany p chip bt n) (putPart (blockBytes p) n (replicate (blockBytes p) 255) chip) chip
+  pub chipIs : chip′ ≡ cond (tooMany p chip bt n) (replayChip p chip (eraseOps p wear n)) chip
   pub btIs : bt′ ≡ cond (onlyOne p chip bt n) (set bt (indexNamed p (block p chip n)) n) bt
-  pub wearIs : wear′ ≡ cond (tooMany p chip bt n) (set wear n (min (wearAt wear n + 1) 4294967295)) wear
+  pub wearIs : wear′ ≡ cond (tooMany p chip bt n) (onWear wear (erase n)) wear
   pub count : k ≡ cond (tooMany p chip bt n) 1 0
 
 -- a chip that can be started, and BT
@@ -64,16 +63,16 @@ pub record StartAsked (p : Params) (chip bt : List ℕ) : Type 0 where
 
 -- what is left over is erased, and BT names what is kept
 pub record Kept (p : Params) (chip wear chip′ bt′ wear′ : List ℕ) (k : ℕ) : Type 0 where
-  pub chipIs : chip′ ≡ replayChip p chip (startOps p chip)
+  pub chipIs : chip′ ≡ replayChip p chip (startOps p chip wear)
   pub btIs : bt′ ≡ foundBt p chip
-  pub wearIs : wear′ ≡ replayWear wear (startOps p chip)
-  pub count : k ≡ erasesIn (startOps p chip)
+  pub wearIs : wear′ ≡ replayWear wear (startOps p chip wear)
+  pub count : k ≡ erasesIn (startOps p chip wear)
   pub few : k ≤ p .N
 
 -- one of the first i entries of BT names block n
 unfoldable pub namedBy : List ℕ → ℕ → ℕ → Bool
 namedBy bt i n = not (allBelow i (λ j. not (eqb (btEntry bt j) n)))
 
--- and BST tells which blocks are bad, named and free
-abbrev pub kinds : Params → List ℕ → List ℕ → List ℕ
-kinds p chip bt = listBelow (p .N) (λ n. cond (bad p chip n) 2 (cond (named p bt n) 1 0))
+-- and BST tells which blocks are bad, named, worn out and free
+abbrev pub kinds : Params → List ℕ → List ℕ → List ℕ → List ℕ
+kinds p chip wear bt = listBelow (p .N) (λ n. cond (bad p chip n) 2 (cond (named p bt n) 1 (cond (leftOver p chip n) (erasedState p wear n) 0)))

@@ -38,7 +38,7 @@ fn name_fulls(p: Params, chip: &[u8], bt: &mut [u16])
     }
 }
 
-// Block n, if it is in use and not full, goes into BT where the entry that it names is none, and else is erased. How many erases that took.
+// Block n, if it is in use and not full, goes into BT where the entry that it names is none, and else is erased, and marked where that wears it out. How many erases that took.
 fn name_open(p: Params, chip: &mut [u8], bt: &mut [u16], wear: &mut [u32], n: PBlock) -> usize
     requires { ⌜ BlockAsked p (now chip) (now bt) (n .0) ⌝ }
     requires { ⌜ length (now wear) ≡ p .N ⌝ }
@@ -55,7 +55,7 @@ fn name_open(p: Params, chip: &mut [u8], bt: &mut [u16], wear: &mut [u32], n: PB
         chip_tables::set_bt(p, bt, h.region, h.vblock, n);
         return 0;
     }
-    format_work::erase_block(p, chip, wear, n);
+    chip_worn::erase_block(p, chip, wear, n);
     1
 }
 
@@ -102,7 +102,7 @@ fn use_named(bt: &[u16], bst: &mut [u8])
     }
 }
 
-// BT names the blocks that are kept, what is left over is erased, and BST tells bad, used and free blocks. How many were erased.
+// BT names the blocks that are kept, what is left over is erased, and BST tells bad, used and free blocks: those that are worn out by then are bad. How many were erased.
 pub fn find_blocks(
     p: Params,
     chip: &mut [u8],
@@ -114,12 +114,12 @@ pub fn find_blocks(
     requires { ⌜ length (now bst) ≡ p .N ⌝ }
     requires { ⌜ length (now wear) ≡ p .N ⌝ }
     ensures { λ k. ⌜ Kept p (now (chip .entry)) (now (wear .entry)) (now (chip .exit)) (now (bt .exit)) (now (wear .exit)) k ⌝ }
-    ensures { λ _. ⌜ now (bst .exit) ≡ kinds p (now (chip .entry)) (foundBt p (now (chip .entry))) ⌝ }
+    ensures { λ _. ⌜ now (bst .exit) ≡ kinds p (now (chip .entry)) (now (wear .entry)) (foundBt p (now (chip .entry))) ⌝ }
 {
-    format_work::reserve_bad(p, chip, bst);
     format_work::clear(bt);
     name_fulls(p, chip, bt);
     let k = name_opens(p, chip, bt, wear);
+    format_work::reserve_bad(p, chip, bst);
     use_named(bt, bst);
     k
 }

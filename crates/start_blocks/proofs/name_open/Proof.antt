@@ -80,7 +80,7 @@ returns-4 c =
     let at-if1 = at-if2 .before in
     let at-head-of = at-if1 .before .before in
     let start = at-head-of .before .before .before .before .before in
-    open-erased _ _ _ _ (start .pre .0) _ (at-head-of .head-of .ensures) _ (not-false _ (at-if1 .if1 .left)) (at-if2 .if2 .left) _ (at-bt-at .bt-at .ensures .0) (at-if3 .if3 .left) _ _ (at-erase-block .erase-block .ensures .0) (at-erase-block .erase-block .ensures .1)
+    open-erased _ _ _ _ (start .pre .0) _ (at-head-of .head-of .ensures) _ (not-false _ (at-if1 .if1 .left)) (at-if2 .if2 .left) _ (at-bt-at .bt-at .ensures .0) (at-if3 .if3 .left) _ _ (at-erase-block .erase-block .ensures .0) (at-erase-block .erase-block .ensures .1 .0)
 
 pub name-open-spec : {M : Type 1} → statement M
 name-open-spec =
