@@ -40,7 +40,7 @@ module _ (p : Params) (b : Board) (acc : StartAdmitted p b) where
   start-asked = record { fine = acc .fine; chipLength = chip-long; btLength = long .btLength; starts = acc .starts }
 
   abbrev left : List ℕ
-  left = replayChip p (b .chip) (startOps p (b .chip))
+  left = replayChip p (b .chip) (startOps p (b .chip) (b .wear))
 
   abbrev bt : List ℕ
   bt = foundBt p (b .chip)
@@ -85,7 +85,7 @@ module _ (p : Params) (b : Board) (acc : StartAdmitted p b) where
     tables-asked =
         record { found = rw (kept .chipIs, kept .btIs) left-found; ctLength = long .ctLength; fstLength = long .fstLength; marksLength = long .marksLength; stampsLength = long .stampsLength }
 
-    pub board-is : (ct′ fst′ bst′ marks′ stamps′ : List ℕ) → bst′ ≡ kinds p (b .chip) bt → Rebuilt p chip′ bt′ ct′ fst′ marks′ stamps′ → boardOf chip′ ct′ bt′ fst′ bst′ wear′ marks′ stamps′ ≡ started p b
+    pub board-is : (ct′ fst′ bst′ marks′ stamps′ : List ℕ) → bst′ ≡ kinds p (b .chip) (b .wear) bt → Rebuilt p chip′ bt′ ct′ fst′ marks′ stamps′ → boardOf chip′ ct′ bt′ fst′ bst′ wear′ marks′ stamps′ ≡ started p b
     unfolding started
     board-is ct′ fst′ bst′ marks′ stamps′ e t =
         rw (t .marksAre, t .ctIs, t .fstIs, t .stampsIs, e, kept .chipIs, kept .btIs, kept .wearIs, segments, lasts, largests)

@@ -27,7 +27,7 @@ fn fill_tables(
     start_marks::fill_marks(p, chip, ct, bt, marks);
 }
 
-// All tables but the wear are rebuilt from the chip, what is left over is erased, and the wear counts that. How many blocks were erased.
+// All tables but the wear are rebuilt from the chip, what is left over is erased, and marked where that wears it out, and the wear counts the erases. How many blocks were erased.
 pub fn start_all(
     p: Params,
     chip: &mut [u8],
@@ -41,7 +41,7 @@ pub fn start_all(
 ) -> usize
     requires { ⌜ StartAdmitted p (boardOf (now chip) (now ct) (now bt) (now fst) (now bst) (now wear) (now marks) (now stamps)) ⌝ }
     ensures { λ _. ⌜ boardOf (now (chip .exit)) (now (ct .exit)) (now (bt .exit)) (now (fst .exit)) (now (bst .exit)) (now (wear .exit)) (now (marks .exit)) (now (stamps .exit)) ≡ started p (boardOf (now (chip .entry)) (now (ct .entry)) (now (bt .entry)) (now (fst .entry)) (now (bst .entry)) (now (wear .entry)) (now (marks .entry)) (now (stamps .entry))) ⌝ }
-    ensures { λ k. ⌜ k ≡ erasesIn (startOps p (now (chip .entry))) ⌝ }
+    ensures { λ k. ⌜ k ≡ erasesIn (startOps p (now (chip .entry)) (now (wear .entry))) ⌝ }
     ensures { λ k. ⌜ k ≤ p .N ⌝ }
 {
     let k = start_blocks::find_blocks(p, chip, bt, bst, wear);
