@@ -1,11 +1,11 @@
--- A start with a budget: its erases are those of the blocks that are left over, which BST lists. Nothing that it does depends on what BT and BST hold.
+-- A start with a budget: its erases and marks are those of the blocks that are left over, which BST lists. Nothing that it does depends on what BT and BST hold.
 -- Assumes nothing.
 use mathlib.Core.Path.{_≡_, refl, sym, ap, _∙_}
 use mathlib.Core.Bool.{true, cond}
 use mathlib.Core.List.{List, []}
 use Prim.Native.Nat.{ℕ, _≤_, _<_}
 use lib.ListN.{length, take}
-use Rattle.lists.specs.Below.{countBelow, listBelow}
+use Rattle.lists.specs.Below.{listBelow}
 use Rattle.lists.proofs.Lists.{list-length}
 use Rattle.rules.specs.declared.Params.{Params}
 use Rattle.rules.specs.declared.Reply.{Reply}
@@ -16,7 +16,7 @@ use Rattle.rules.specs.Tables.{Board}
 use Rattle.rules.specs.Traces.{eraseWhere}
 use Rattle.rules.specs.Start.{leftOver, startOps, started}
 use Rattle.rules.specs.Requests.{start}
-use Rattle.rules.specs.Replies.{lengthsFit, lentRows, notStartable, replyOf, rowsOf, tooFewBlocks, wrongLength}
+use Rattle.rules.specs.Replies.{lengthsFit, lentRows, notStartable, replyOf, rowsOf, wrongLength}
 use Rattle.rules.specs.Calls.{Outcome, answerOf, outcomeOf, single, workOf}
 use Rattle.rules.specs.Cuts.{cutBoard, hasBudget, limited, stepOutcome}
 use Rattle.rules.proofs.Outcomes.{start-accepted}
@@ -33,9 +33,12 @@ module _ (p : Params) (b : Board) (e : replyOf p b start ≡ Accepted) where
   given : StartAdmitted p b
   given = start-admitted p b e
 
-  work : workOf p b start ≡ single start (answerOf Accepted (eraseWhere p (leftOver p (b .chip))) 0) [] (eraseWhere p (leftOver p (b .chip))) (started p b)
+  work : workOf p b start ≡ single start (answerOf Accepted (eraseWhere p (b .wear) (leftOver p (b .chip))) 0) [] (eraseWhere p (b .wear) (leftOver p (b .chip))) (started p b)
   unfolding startOps
   work = start-work p b e
+
+  pub count-asked : (bst : List ℕ) → bst ≡ listBelow (p .N) (λ n. cond (leftOver p (b .chip) n) 0 2) → (allowed p ≡ true) × ((length bst ≡ p .N) × (length (b .wear) ≡ p .N))
+  count-asked bst is = (given .fine, (ap length is ∙ list-length (p .N) _, (long p b given) .wearLength))
 
   -- BT and BST once what is left over is listed
   module _ (bt bst : List ℕ) (same : length bt ≡ length (b .bt)) (is : bst ≡ listBelow (p .N) (λ n. cond (leftOver p (b .chip) n) 0 2)) where
@@ -47,7 +50,7 @@ module _ (p : Params) (b : Board) (e : replyOf p b start ≡ Accepted) where
 
     -- the reply is the same
     pub still-accepted : replyOf p (over b bt bst) start ≡ Accepted
-    unfolding replyOf rowsOf lentRows wrongLength tooFewBlocks notStartable
+    unfolding replyOf rowsOf lentRows wrongLength notStartable
     still-accepted = rw fits e
 
     -- and so is the outcome
@@ -55,14 +58,14 @@ module _ (p : Params) (b : Board) (e : replyOf p b start ≡ Accepted) where
     unfolding started
     still-leaves = start-accepted p (over b bt bst) still-accepted ∙ sym (start-accepted p b e)
 
-    module _ (k n : ℕ) (counted : n ≡ countBelow (length bst) (listed bst)) where
-      count : n ≡ countBelow (p .N) (leftOver p (b .chip))
-      count = count-is p (leftOver p (b .chip)) bst is n counted
+    module _ (k n : ℕ) (counted : n ≡ length (eraseWhere p (b .wear) (listed bst))) where
+      count : n ≡ length (eraseWhere p (b .wear) (leftOver p (b .chip)))
+      count = count-is p (leftOver p (b .chip)) bst is (b .wear) n counted
 
       pub start-whole : n < k → (o : Outcome) → o ≡ outcomeOf p (over b bt bst) start → o ≡ stepOutcome p b (limited k start)
       start-whole h o q = whole p b start (leftOver p (b .chip)) _ work k n count h o (q ∙ still-leaves)
 
       pub start-ends : k ≤ n → (r : Reply) → r ≡ replyOf p b start → (a : Answer) → a ≡ answerOf r [] 0 → (b′ : Board)
-          → b′ ≡ cutBoard p (over b bt bst) (take k (eraseWhere p (listed bst))) → outcome a [] [] b′ ≡ stepOutcome p b (limited k start)
+          → b′ ≡ cutBoard p (over b bt bst) (take k (eraseWhere p (b .wear) (listed bst))) → outcome a [] [] b′ ≡ stepOutcome p b (limited k start)
       unfolding hasBudget
       start-ends h r er a ea b′ q = ends p b start (leftOver p (b .chip)) _ work k n count bt bst is refl h e r er a ea b′ q

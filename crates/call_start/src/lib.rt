@@ -13,7 +13,7 @@ use rules::Answer;
 use rules::Params;
 use rules::Reply;
 
-// The reply to a start: a format's, 1, 2 or 6; then 7 where the chip is none to start from.
+// The reply to a start: 1 or 2; then 7 where the chip is none to start from.
 fn start_reply(
     p: Params,
     chip: &[u8],
@@ -27,7 +27,7 @@ fn start_reply(
 ) -> Reply
     ensures { λ r. ⌜ r ≡ replyOf p (entryBoard chip ct bt fst bst wear marks stamps) start ⌝ }
 {
-    let reply = replies::format_reply(p, chip, ct, bt, fst, bst, wear, marks, stamps);
+    let reply = replies::board_reply(p, chip, ct, bt, fst, bst, wear, marks, stamps);
     if rules::number(reply) != 0 {
         return reply;
     }
@@ -37,7 +37,7 @@ fn start_reply(
     Reply::Accepted
 }
 
-// What an accepted start does: the blocks that are left over are erased, and every table but the wear is rebuilt from the chip. The answer counts the erases.
+// What an accepted start does: the blocks that are left over are erased, and marked where that wears them out, and every table but the wear is rebuilt from the chip. The answer counts the erases.
 fn rebuild(
     p: Params,
     chip: &mut [u8],
@@ -82,7 +82,7 @@ pub fn start(
     rebuild(p, chip, ct, bt, fst, bst, wear, marks, stamps)
 }
 
-// The same with a budget of erases. Where a start makes that many or more, so many blocks are erased, the tables are lost, and the answer counts nothing.
+// The same with a budget of erases and marks. Where a start makes that many or more, so many are made, the tables are lost, and the answer counts nothing.
 pub fn start_cut(
     p: Params,
     chip: &mut [u8],
@@ -102,7 +102,7 @@ pub fn start_cut(
         return reply_rows::idle(reply);
     }
     start_blocks::list_left(p, chip, bt, bst);
-    if budget > cut_erases::count_listed(bst) as u64 {
+    if budget > cut_erases::count_listed(p, bst, wear) as u64 {
         return rebuild(p, chip, ct, bt, fst, bst, wear, marks, stamps);
     }
     cut_erases::cut_after(

@@ -1,4 +1,4 @@
--- `call_start::start_cut`: refused by the reply's number; with budget left over, the start itself; or cut after so many erases.
+-- `call_start::start_cut`: refused by the reply's number; with budget left over, the start itself; or cut after so many operations.
 -- Assumes nothing.
 use native.Mathlib.Omega.{arith}
 use borrow.Author.Needs.{needs}
@@ -7,7 +7,7 @@ use Rattle.rules.specs.Requests.{lent, lentAnswers, start}
 use Rattle.starts.proofs.Accepted.{start-admitted}
 use Rattle.start_work.proofs.Left.{long, start-asked}
 use Rattle.outcomes.proofs.Ends.{refused-with, reply-zero}
-use Rattle.call_start.proofs.Cut.{cut-asked, start-ends, start-whole, still-accepted}
+use Rattle.call_start.proofs.Cut.{count-asked, cut-asked, start-ends, start-whole, still-accepted}
 use Rattle.call_start.proofs.start_cut.Statement.{statement}
 use Rattle.call_start.proofs.start_cut.Tie as tie
 
@@ -64,16 +64,22 @@ list-left-requires c κs =
     (start-asked _ _ w, (long _ _ w) .bstLength)
 
 count-listed-requires : tie.Need-count-listed-requires
-count-listed-requires c κs = search needs
-
-rebuild-requires : tie.Need-rebuild-requires
-rebuild-requires c κs =
-    let at-list-left = c .before .before .before .before .before .before .before .before .before .before .before .before .before .before .before in
+count-listed-requires c κs =
+    let at-list-left = c .before .before .before .before .before .before in
     let at-if1 = at-list-left .before .before .before .before in
     let at-number = at-if1 .before in
     let at-start-reply = at-number .before in
     let a = at-start-reply .before .before .before .before .before .before .before .before .before .before .before .before .before .before .before .before .before in
-    still-accepted _ (board a) (reply-zero _ (board a) start _ (at-start-reply .start-reply .ensures) _ (at-number .number .ensures) (at-if1 .if1 .left)) _ _ (c .before .before .before .before .before .before .before .before .before .before .before .before .before .before .bt .given)
+    count-asked _ (board a) (reply-zero _ (board a) start _ (at-start-reply .start-reply .ensures) _ (at-number .number .ensures) (at-if1 .if1 .left)) _ (at-list-left .list-left .ensures)
+
+rebuild-requires : tie.Need-rebuild-requires
+rebuild-requires c κs =
+    let at-list-left = c .before .before .before .before .before .before .before .before .before .before .before .before .before .before .before .before in
+    let at-if1 = at-list-left .before .before .before .before in
+    let at-number = at-if1 .before in
+    let at-start-reply = at-number .before in
+    let a = at-start-reply .before .before .before .before .before .before .before .before .before .before .before .before .before .before .before .before .before in
+    still-accepted _ (board a) (reply-zero _ (board a) start _ (at-start-reply .start-reply .ensures) _ (at-number .number .ensures) (at-if1 .if1 .left)) _ _ (c .before .before .before .before .before .before .before .before .before .before .before .before .before .before .before .bt .given)
     (at-list-left .list-left .ensures)
 
 same-length-9 : tie.Need-same-length-9
@@ -105,22 +111,22 @@ returns-2 c =
     let at-rebuild = c .before .before .before .before .before .before .before .before .before .before .before .before .before .before .before .before in
     let at-if2 = at-rebuild .before .before .before .before .before .before .before .before .before in
     let at-count-listed = at-if2 .before in
-    let at-list-left = at-count-listed .before .before .before .before .before .before in
+    let at-list-left = at-count-listed .before .before .before .before .before .before .before in
     let at-if1 = at-list-left .before .before .before .before in
     let at-number = at-if1 .before in
     let at-start-reply = at-number .before in
     let a = at-start-reply .before .before .before .before .before .before .before .before .before .before .before .before .before .before .before .before .before in
     let e = reply-zero _ (board a) start _ (at-start-reply .start-reply .ensures) _ (at-number .number .ensures) (at-if1 .if1 .left) in
-    start-whole _ (board a) e _ _ (at-count-listed .before .before .before .before .before .bt .given) (at-list-left .list-left .ensures) _ _ (at-count-listed .count-listed .ensures) (omega (arith, at-if2 .if2 .taken)) _ (at-rebuild .rebuild .ensures)
+    start-whole _ (board a) e _ _ (at-count-listed .before .before .before .before .before .before .bt .given) (at-list-left .list-left .ensures) _ _ (at-count-listed .count-listed .ensures) (omega (arith, at-if2 .if2 .taken)) _ (at-rebuild .rebuild .ensures)
 
 cut-after-requires : tie.Need-cut-after-requires
 cut-after-requires c κs =
-    let at-list-left = c .before .before .before .before .before .before .before .before .before .before .before .before .before .before .before in
+    let at-list-left = c .before .before .before .before .before .before .before .before .before .before .before .before .before .before .before .before in
     let at-if1 = at-list-left .before .before .before .before in
     let at-number = at-if1 .before in
     let at-start-reply = at-number .before in
     let a = at-start-reply .before .before .before .before .before .before .before .before .before .before .before .before .before .before .before .before .before in
-    cut-asked _ (board a) (reply-zero _ (board a) start _ (at-start-reply .start-reply .ensures) _ (at-number .number .ensures) (at-if1 .if1 .left)) _ _ (c .before .before .before .before .before .before .before .before .before .before .before .before .before .before .bt .given)
+    cut-asked _ (board a) (reply-zero _ (board a) start _ (at-start-reply .start-reply .ensures) _ (at-number .number .ensures) (at-if1 .if1 .left)) _ _ (c .before .before .before .before .before .before .before .before .before .before .before .before .before .before .before .bt .given)
     (at-list-left .list-left .ensures)
 
 idle-requires-2 : tie.Need-idle-requires-2
@@ -155,13 +161,13 @@ returns-3 c =
     let at-cut-after = c .before .before .before .before .before .before .before .before .before .before .before .before .before .before .before .before .before in
     let at-if2 = at-cut-after .before .before .before .before .before .before .before .before .before in
     let at-count-listed = at-if2 .before in
-    let at-list-left = at-count-listed .before .before .before .before .before .before in
+    let at-list-left = at-count-listed .before .before .before .before .before .before .before in
     let at-if1 = at-list-left .before .before .before .before in
     let at-number = at-if1 .before in
     let at-start-reply = at-number .before in
     let a = at-start-reply .before .before .before .before .before .before .before .before .before .before .before .before .before .before .before .before .before in
     let e = reply-zero _ (board a) start _ (at-start-reply .start-reply .ensures) _ (at-number .number .ensures) (at-if1 .if1 .left) in
-    start-ends _ (board a) e _ _ (at-count-listed .before .before .before .before .before .bt .given) (at-list-left .list-left .ensures) _ _ (at-count-listed .count-listed .ensures) (omega (arith, at-if2 .if2 .left)) _
+    start-ends _ (board a) e _ _ (at-count-listed .before .before .before .before .before .before .bt .given) (at-list-left .list-left .ensures) _ _ (at-count-listed .count-listed .ensures) (omega (arith, at-if2 .if2 .left)) _
     (at-start-reply .start-reply .ensures) _ (c .idle2 .ensures) _ (at-cut-after .cut-after .ensures)
 
 pub start-cut-spec : {M : Type 1} → statement M
