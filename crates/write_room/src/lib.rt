@@ -1,11 +1,9 @@
 // Document 01, "Write", on a state that is known to be orderly: the room that its plan makes.
 ghost use mathlib.Core.Path.{_≡_};
 ghost use mathlib.Core.List.{List};
-ghost use Prim.Native.Nat.{ℕ, _<_};
-ghost use lib.ListN.{length};
+ghost use Prim.Native.Nat.{ℕ};
 ghost use Rattle.rules.specs.Tables.{boardOf, btAt};
 ghost use Rattle.rules.specs.Pages.{block};
-ghost use Rattle.rules.specs.Traces.{erasedState};
 ghost use Rattle.rules.specs.Write.{planBlock};
 ghost use Rattle.rules.specs.Marks.{Marks, marksOf, tableOf};
 ghost use Rattle.write_reclaim.specs.Moves.{markedFrames};
@@ -46,17 +44,6 @@ fn open_block(p: Params, bt: &mut [u16], bst: &mut [u8], r: usize, v: VBlock, n:
     chip_tables::set_bst(bst, n, rules::USED);
 }
 
-// What BST has of block n once it is erased: it "becomes reserved" where that wears it out, and else it is free.
-fn erased_state(p: Params, wear: &[u32], n: PBlock) -> u8
-    requires { ⌜ n .0 < length (now wear) ⌝ }
-    ensures { λ s. ⌜ s ≡ erasedState p (now (wear .entry)) (n .0) ⌝ }
-{
-    if chip_worn::wears_out(p, wear, n) {
-        return rules::RESERVED;
-    }
-    rules::FREE
-}
-
 // Block n is taken; the frames of virtual block v that have a mark go to it;
 // v's old block is erased and becomes free, or reserved where it is worn. How many were copied.
 fn reclaim_block(
@@ -78,7 +65,7 @@ fn reclaim_block(
         (now (bst .exit)) (now (wear .exit)) k) ⌝ }
 {
     let o = chip_tables::bt_at(p, bt, r, v);
-    let left = erased_state(p, wear, o);
+    let left = chip_worn::state_after(chip_worn::wears_out(p, wear, o));
     let k = write_reclaim::reclaim(p, chip, ct, wear, marks, o, n, r, v);
     chip_tables::set_bt(p, bt, r, v, n);
     chip_tables::set_bst(bst, n, rules::USED);
