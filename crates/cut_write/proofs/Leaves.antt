@@ -21,8 +21,8 @@ use Rattle.write_room.specs.Rooms.{RoomAsked, RoomMade}
 use Rattle.write_cluster.specs.Clusters.{PagesAsked, PagesPut}
 use Rattle.write_cluster.proofs.Put.{pages-are, pages-asked}
 use Rattle.write_work.proofs.Writes as write
-use Rattle.cut_write.specs.Cut.{CopiesAsked, CutAsked}
-use Rattle.cut_write.proofs.Firsts.{ops-pages, ops-room, pages-worn, room-worn}
+use Rattle.cut_write.specs.Cut.{CopiesAsked, CutAsked, FirstMade}
+use Rattle.cut_write.proofs.Firsts.{ops-pages, ops-room, pages-worn}
 
 module _ (p : Params) (b : Board) (q : Request) (r : ℕ) (pl : Plan) (n room k : ℕ) (a : CutAsked p b q r pl n room k) where
   abbrev region : ℕ
@@ -49,17 +49,18 @@ module _ (p : Params) (b : Board) (q : Request) (r : ℕ) (pl : Plan) (n room k 
     lost = lost-board p b (take k (writeOps p b q)) chip wear ct bt fst bst marks stamps ct′ bt′ fst′ bst′ marks′ stamps′ lengths x
 
     -- cut within the room
-    pub lost-room : k < room → wear ≡ b .wear
-        → ((ct fst bst wear stamps : List ℕ) → b .marks ≡ marksOf p (boardOf (b .chip) ct (b .bt) fst bst wear (b .marks) stamps)
-        → n ≡ planBlock p (boardOf (b .chip) ct (b .bt) fst bst wear (b .marks) stamps) r pl
-        → k < length (roomOps p (boardOf (b .chip) ct (b .bt) fst bst wear (b .marks) stamps) r pl)
-        → chip ≡ replayChip p (b .chip) (take k (roomOps p (boardOf (b .chip) ct (b .bt) fst bst wear (b .marks) stamps) r pl)))
+    pub lost-room : k < room
+        → ((ct fst bst stamps : List ℕ) → b .marks ≡ marksOf p (boardOf (b .chip) ct (b .bt) fst bst (b .wear) (b .marks) stamps)
+        → n ≡ planBlock p (boardOf (b .chip) ct (b .bt) fst bst (b .wear) (b .marks) stamps) r pl
+        → room ≡ length (roomOps p (boardOf (b .chip) ct (b .bt) fst bst (b .wear) (b .marks) stamps) r pl)
+        → FirstMade p (b .chip) (b .wear) (roomOps p (boardOf (b .chip) ct (b .bt) fst bst (b .wear) (b .marks) stamps) r pl) k chip wear)
         → boardOf chip ct′ bt′ fst′ bst′ wear marks′ stamps′ ≡ cutBoard p b (take k (writeOps p b q))
-    lost-room h ew is =
+    lost-room h is =
         let few : k < length (roomOps p b region pl) = omega (arith, a .ops) in
-        let made = rw (a .made .region) at (is (b .ct) (b .fst) (b .bst) (b .wear) (b .stamps) (write.marks-are p b q (a .made .accepted))) in
+        let made = rw (a .made .region) at (is (b .ct) (b .fst) (b .bst) (b .stamps) (write.marks-are p b q (a .made .accepted))) in
         let e = ops-room p b q pl (a .made .plan) k few in
-        lost (made (a .made .block) few ∙ rw e) (ew ∙ rw (e, room-worn p b region pl (b .wear) k few))
+        let first = made (a .made .block) (a .ops) in
+        lost (first .chipIs ∙ rw e) (first .wearIs ∙ rw e)
 
     -- cut behind it
     pub lost-pages : room ≤ k → (v f copied erases : ℕ) (chip₁ ct₁ bt₁ bst₁ stamps₁ : List ℕ)
@@ -83,13 +84,13 @@ module _ (p : Params) (b : Board) (q : Request) (r : ℕ) (pl : Plan) (n room k 
   pub room-asked : RoomAsked p (b .chip) (b .ct) (b .bt) (b .bst) (b .wear) (b .marks) r pl n
   room-asked = write.room-asked p b q (a .made .accepted) r (a .made .region) pl (a .made .plan) n (a .made .block)
 
-  pub copies-asked : CopiesAsked p (b .chip) (b .bt) (b .marks) r pl n
+  pub copies-asked : CopiesAsked p (b .chip) (b .bt) (b .wear) (b .marks) r pl n
   copies-asked = go pl room-asked
     where
-      go : (l : Plan) → RoomAsked p (b .chip) (b .ct) (b .bt) (b .bst) (b .wear) (b .marks) r l n → CopiesAsked p (b .chip) (b .bt) (b .marks) r l n
+      go : (l : Plan) → RoomAsked p (b .chip) (b .ct) (b .bt) (b .bst) (b .wear) (b .marks) r l n → CopiesAsked p (b .chip) (b .bt) (b .wear) (b .marks) r l n
       go (continues v f) w = tt
       go (opens v) w = tt
-      go (reclaims v) w = record { btLength = w .1 .taking .btLength; words = w .1 .words; between = w .1 .blocks .between }
+      go (reclaims v) w = record { btLength = w .1 .taking .btLength; wearLength = w .1 .wearLength; words = w .1 .words; between = w .1 .blocks .between }
 
   module _ (v f copied erases : ℕ) (chip₁ ct₁ bt₁ bst₁ wear₁ : List ℕ)
       (m : (fst stamps : List ℕ) → b .marks ≡ marksOf p (boardOf (b .chip) (b .ct) (b .bt) fst (b .bst) (b .wear) (b .marks) stamps)

@@ -2,14 +2,14 @@
 -- Assumes nothing.
 use mathlib.Core.Path.{_≡_, refl, sym, ap, ap₂, _∙_}
 use mathlib.Core.Bool.{true, false}
-use mathlib.Core.List.{[], append-nil}
+use mathlib.Core.List.{List, [], append-nil}
 use Prim.Native.Nat.{ℕ, _+_, _-_, _≤_, _<_}
 use native.Mathlib.Omega.{arith}
 use lib.ListN.{length, take}
 use Rattle.rules.specs.declared.Params.{Params}
 use Rattle.rules.specs.declared.Answer.{Answer}
 use Rattle.rules.specs.declared.Reply.the-variants.{Accepted, NoBlockLeft}
-use Rattle.rules.specs.Tables.{Board}
+use Rattle.rules.specs.Tables.{Board, boardOf}
 use Rattle.rules.specs.Regions.{looksAt}
 use Rattle.rules.specs.Marks.{marksOf}
 use Rattle.rules.specs.Write.{Plan, continues, opens, reclaims, roomOps, writeOps, written}
@@ -55,20 +55,21 @@ module _ (p : Params) (b : Board) (q : Request) (e : firstRow Accepted (earlyRow
 -- ---- accepted, with its plan made
 
 module _ (p : Params) (b : Board) (q : Request) (r : ℕ) (pl : Plan) (n : ℕ) (made : PlanMade p b q r pl n) where
-  pub count-asked : CountAsked p (b .marks) r pl
+  pub count-asked : CountAsked p (b .bt) (b .wear) (b .marks) r pl
   count-asked = go pl (writes.room-asked p b q (made .accepted) r (made .region) pl (made .plan) n (made .block))
     where
-      go : (l : Plan) → RoomAsked p (b .chip) (b .ct) (b .bt) (b .bst) (b .wear) (b .marks) r l n → CountAsked p (b .marks) r l
+      go : (l : Plan) → RoomAsked p (b .chip) (b .ct) (b .bt) (b .bst) (b .wear) (b .marks) r l n → CountAsked p (b .bt) (b .wear) (b .marks) r l
       go (continues v f) w = tt
       go (opens v) w = tt
-      go (reclaims v) w = w .1 .words
+      go (reclaims v) w = record { btLength = w .1 .taking .btLength; words = w .1 .words; block = rw (w .1 .wearLength) (w .1 .blocks .between .from) }
 
   pub parts-left : (budget left : ℕ) → left ≡ budget - length (writeOps p b q) → left ≡ budget - length (opsOf ((workOf p b (write q)) .parts))
   parts-left budget left x = x ∙ rw (work-ops p b q (made .accepted))
 
-  module _ (room : ℕ) (counted : (b′ : Board) → b .marks ≡ marksOf p b′ → room ≡ length (roomOps p b′ r pl)) where
+  module _ (room : ℕ) (counted : (chip ct fst bst stamps : List ℕ) → b .marks ≡ marksOf p (boardOf chip ct (b .bt) fst bst (b .wear) (b .marks) stamps)
+      → room ≡ length (roomOps p (boardOf chip ct (b .bt) fst bst (b .wear) (b .marks) stamps) r pl)) where
     room-is : room ≡ length (roomOps p b (requestRegion p q) pl)
-    room-is = rw (made .region) at (counted b (writes.marks-are p b q (made .accepted)))
+    room-is = rw (made .region) at (counted (b .chip) (b .ct) (b .fst) (b .bst) (b .stamps) (writes.marks-are p b q (made .accepted)))
 
     pub cut-asked : (k : ℕ) → k ≤ room + p .alpha → CutAsked p b q r pl n room k
     cut-asked k few = record { made = made; ops = room-is; few = few }

@@ -10,7 +10,7 @@ use Rattle.cut_write.proofs.cut.Statement.{statement}
 use Rattle.cut_write.proofs.cut.Tie as tie
 
 cut-room-requires : tie.Need-cut-room-requires
-cut-room-requires c κs = copies-asked _ _ _ _ _ _ _ _ (c .before .before .before .before .before .before .before .before .before .before .before .before .before .pre)
+cut-room-requires c κs = (copies-asked _ _ _ _ _ _ _ _ (c .before .before .before .before .before .before .before .before .before .before .before .before .before .before .pre), c .before .before .before .before .if1 .taken)
 
 lose-requires : tie.Need-lose-requires
 lose-requires c κs = search needs
@@ -39,13 +39,16 @@ same-length-6 c = search needs
 same-length-7 : tie.Need-same-length-7
 same-length-7 c = search needs
 
+same-length-8 : tie.Need-same-length-8
+same-length-8 c = search needs
+
 returns : tie.Need-returns
 returns c =
     let at-lose = c .before .before .before .before .before .before .before .before .before .before .before .before .before in
-    let at-cut-room = at-lose .before .before .before .before .before .before .before .before .before in
-    let at-if1 = at-cut-room .before .before .before .before in
+    let at-cut-room = at-lose .before .before .before .before .before .before .before .before .before .before .before in
+    let at-if1 = at-cut-room .before .before .before .before .before in
     let start = at-if1 .before .before .before .before .before .before .before .before .before .before in
-    (c .spent .ensures .0, (c .spent .ensures .1, lost-room _ _ _ _ _ _ _ _ (start .pre) _ _ _ _ _ _ _ _ _ _ _ _ _ _ (at-lose .lose .ensures) refl refl refl refl refl refl (at-if1 .if1 .taken) refl (at-cut-room .cut-room .ensures)))
+    (c .spent .ensures .0, (c .spent .ensures .1, lost-room _ _ _ _ _ _ _ _ (start .pre) _ _ _ _ _ _ _ _ _ _ _ _ _ _ (at-lose .lose .ensures) refl refl refl refl refl refl (at-if1 .if1 .taken) (at-cut-room .cut-room .ensures)))
 
 make-room-requires : tie.Need-make-room-requires
 make-room-requires c κs = room-asked _ _ _ _ _ _ _ _ (c .before .before .before .before .before .before .before .before .before .before .before .before .before .before .before .before .pre)
@@ -78,29 +81,29 @@ lose-requires-2 c κs = search needs
 spent-requires-2 : tie.Need-spent-requires-2
 spent-requires-2 c κs = search needs
 
-same-length-8 : tie.Need-same-length-8
-same-length-8 c = c .before .before .before .before .before .before .before .before .before .before .before .before .before .before .before .before .before .before .before .before .before .before .before .chip3 .given ∙ c .before .before .before .before .before .before .before .before .before .before .before .before .before .before .before .before .before .before .before .before .before .before .before .before .before .before .before .before .before .before .before .before .before .before .before .before .before .before .before .before .before .before .before .chip2 .given
-
 same-length-9 : tie.Need-same-length-9
-same-length-9 c = c .before .before .before .before .before .before .before .before .before .before .before .before .ct3 .given ∙ c .before .before .before .before .before .before .before .before .before .before .before .before .before .before .before .before .before .before .before .before .before .before .before .before .before .before .before .before .before .before .before .before .before .before .before .before .before .before .before .before .before .ct2 .given
+same-length-9 c = c .before .before .before .before .before .before .before .before .before .before .before .before .before .before .before .before .before .before .before .before .before .before .before .chip3 .given ∙ c .before .before .before .before .before .before .before .before .before .before .before .before .before .before .before .before .before .before .before .before .before .before .before .before .before .before .before .before .before .before .before .before .before .before .before .before .before .before .before .before .before .before .before .chip2 .given
 
 same-length-10 : tie.Need-same-length-10
-same-length-10 c = c .before .before .before .before .before .before .before .before .before .before .bt3 .given ∙ c .before .before .before .before .before .before .before .before .before .before .before .before .before .before .before .before .before .before .before .before .before .before .before .before .before .before .before .before .before .before .before .before .before .before .before .before .before .before .before .bt2 .given
+same-length-10 c = c .before .before .before .before .before .before .before .before .before .before .before .before .ct3 .given ∙ c .before .before .before .before .before .before .before .before .before .before .before .before .before .before .before .before .before .before .before .before .before .before .before .before .before .before .before .before .before .before .before .before .before .before .before .before .before .before .before .before .before .ct2 .given
 
 same-length-11 : tie.Need-same-length-11
-same-length-11 c = search needs
+same-length-11 c = c .before .before .before .before .before .before .before .before .before .before .bt3 .given ∙ c .before .before .before .before .before .before .before .before .before .before .before .before .before .before .before .before .before .before .before .before .before .before .before .before .before .before .before .before .before .before .before .before .before .before .before .before .before .before .before .bt2 .given
 
 same-length-12 : tie.Need-same-length-12
-same-length-12 c = c .before .before .before .before .before .before .bst3 .given ∙ c .before .before .before .before .before .before .before .before .before .before .before .before .before .before .before .before .before .before .before .before .before .before .before .before .before .before .before .before .before .before .before .before .before .before .before .before .before .bst2 .given
+same-length-12 c = search needs
 
 same-length-13 : tie.Need-same-length-13
-same-length-13 c = c .before .before .before .before .before .before .before .before .before .before .before .before .before .before .before .before .before .before .before .before .before .before .before .before .before .before .before .before .before .before .before .before .before .before .before .wear .given
+same-length-13 c = c .before .before .before .before .before .before .bst3 .given ∙ c .before .before .before .before .before .before .before .before .before .before .before .before .before .before .before .before .before .before .before .before .before .before .before .before .before .before .before .before .before .before .before .before .before .before .before .before .before .bst2 .given
 
 same-length-14 : tie.Need-same-length-14
-same-length-14 c = search needs
+same-length-14 c = c .before .before .before .before .before .before .before .before .before .before .before .before .before .before .before .before .before .before .before .before .before .before .before .before .before .before .before .before .before .before .before .before .before .before .before .wear2 .given
 
 same-length-15 : tie.Need-same-length-15
 same-length-15 c = search needs
+
+same-length-16 : tie.Need-same-length-16
+same-length-16 c = search needs
 
 returns-2 : tie.Need-returns-2
 returns-2 c =
@@ -134,6 +137,7 @@ cut-spec =
     same-length-5
     same-length-6
     same-length-7
+    same-length-8
     returns
     make-room-requires
     cluster-of-requires
@@ -141,7 +145,6 @@ cut-spec =
     put-pages-requires
     lose-requires-2
     spent-requires-2
-    same-length-8
     same-length-9
     same-length-10
     same-length-11
@@ -149,4 +152,5 @@ cut-spec =
     same-length-13
     same-length-14
     same-length-15
+    same-length-16
     returns-2)

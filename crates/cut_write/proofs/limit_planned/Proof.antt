@@ -20,14 +20,14 @@ request a = requestOf (a .args .lba) (a .args .count) (a .args .bytes .now)
 
 room-ops-requires : tie.Need-room-ops-requires
 room-ops-requires c κs =
-    let start = c .before .before .before .before .before .before .before .before .before .before in
+    let start = c .before .before .before .before .before .before .before .before .before .before .before .before in
     ((write-checks _ (board start) (request start) (start .pre .accepted)) .fine, count-asked _ (board start) (request start) _ _ _ (start .pre))
 
 add-ops : tie.Need-add-ops
-add-ops c = omega (arith, c .before .room-ops .ensures .1, alpha-few _ _ _ (c .before .before .before .before .before .before .before .before .before .before .before .before .pre .accepted))
+add-ops c = omega (arith, c .before .room-ops .ensures .1, alpha-few _ _ _ (c .before .before .before .before .before .before .before .before .before .before .before .before .before .before .pre .accepted))
 
 write-planned-requires : tie.Need-write-planned-requires
-write-planned-requires c κs = c .before .before .before .before .before .before .before .before .before .before .before .before .before .before .before .before .before .before .before .before .before .pre
+write-planned-requires c κs = c .before .before .before .before .before .before .before .before .before .before .before .before .before .before .before .before .before .before .before .before .before .before .before .pre
 
 sub-left : tie.Need-sub-left
 sub-left c = search needs
@@ -61,7 +61,7 @@ returns c =
     let at-write-planned = c .before .before .before .before .before .before .before .before .before .before .before .before .before .before .before .before in
     let at-if1 = at-write-planned .before .before .before .before .before .before .before .before .before in
     let at-room-ops = at-if1 .before .before in
-    let start = at-room-ops .before .before .before .before .before .before .before .before .before .before .before in (
+    let start = at-room-ops .before .before .before .before .before .before .before .before .before .before .before .before .before in (
       whole _ (board start) (request start) _ _ _ (start .pre) _ (at-room-ops .room-ops .ensures .0) _ _ refl (at-if1 .if1 .taken) _ (at-write-planned .write-planned .ensures),
       parts-left _ (board start) (request start) _ _ _ (start .pre) _ _ (left-is _ (board start) (request start) _ _ _ (start .pre) _ (at-room-ops .room-ops .ensures .0) _ _ refl),
     )
@@ -70,7 +70,7 @@ cut-requires : tie.Need-cut-requires
 cut-requires c κs =
     let at-if1 = c .before .before .before .before .before .before .before .before in
     let at-room-ops = at-if1 .before .before in
-    let start = at-room-ops .before .before .before .before .before .before .before .before .before .before .before in
+    let start = at-room-ops .before .before .before .before .before .before .before .before .before .before .before .before .before in
     cut-asked _ (board start) (request start) _ _ _ (start .pre) _ (at-room-ops .room-ops .ensures .0) _ (omega (arith, at-if1 .if1 .left))
 
 same-length-9 : tie.Need-same-length-9
@@ -102,7 +102,7 @@ returns-2 c =
     let at-cut = c .before .before .before .before .before .before .before .before .before .before .before .before .before .before .before .before in
     let at-if1 = at-cut .before .before .before .before .before .before .before .before .before in
     let at-room-ops = at-if1 .before .before in
-    let start = at-room-ops .before .before .before .before .before .before .before .before .before .before .before in (
+    let start = at-room-ops .before .before .before .before .before .before .before .before .before .before .before .before .before in (
       cut-is _ (board start) (request start) _ _ _ (start .pre) _ (at-room-ops .room-ops .ensures .0) _ _ refl (omega (arith, at-if1 .if1 .left)) _ (at-cut .cut .ensures .0) _ (at-cut .cut .ensures .1 .1),
       parts-left _ (board start) (request start) _ _ _ (start .pre) _ _ (at-cut .cut .ensures .1 .0 ∙ none-left _ (board start) (request start) _ _ _ (start .pre) _ (at-room-ops .room-ops .ensures .0) _ _ refl (omega (arith, at-if1 .if1 .left))),
     )
