@@ -23,11 +23,11 @@ use Rattle.rules.proofs.WritePromise.{write-promise}
 
 accepted-few : (p : Params) (b : Board) (c : Call) → replyOf p b c ≡ Accepted → (outcomeOf p b c) .answer .programs < 65536
 unfolding answerOf programsIn
-accepted-few p b format e = rw (format-accepted p b e, format-programs p (b .chip)) (omega arith)
+accepted-few p b format e = rw (format-accepted p b e, format-programs p (b .chip) (b .wear)) (omega arith)
 accepted-few p b (read q) e = rw (read-accepted p b q e) (omega arith)
 accepted-few p b (release c) e = rw (release-accepted p b c e) (omega arith)
 accepted-few p b (write q) e = rw (write-accepted p b q e) (omega (arith, (write-promise p b q e) .bounded .0, (sizes p ((write-checks p b q e) .fine)) .pagesHigh))
-accepted-few p b start e = rw (start-accepted p b e, (start-counts p (b .chip)) .0) (omega arith)
+accepted-few p b start e = rw (start-accepted p b e, (start-counts p (b .chip) (b .wear)) .0) (omega arith)
 accepted-few p b (queue l) e =
     let own : (outcomeOf p b (queue l)) .answer ≡ answerOf Accepted [] 0 =
     unfold outcomeOf in (ap (λ (w : Work). w .answer) (queue-accepted p b l e) ∙ all-answer p b (itemRequests p (l .bytes) (l .items)) l) in
