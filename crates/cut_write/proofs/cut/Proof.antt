@@ -10,7 +10,10 @@ use Rattle.cut_write.proofs.cut.Statement.{statement}
 use Rattle.cut_write.proofs.cut.Tie as tie
 
 cut-room-requires : tie.Need-cut-room-requires
-cut-room-requires c κs = (copies-asked _ _ _ _ _ _ _ _ (c .before .before .before .before .before .before .before .before .before .before .before .before .before .before .pre), c .before .before .before .before .if1 .taken)
+cut-room-requires c κs =
+    let at-if1 = c .before .before .before .before in
+    let start = at-if1 .before .before .before .before .before .before .before .before .before .before in
+    (copies-asked _ _ _ _ _ _ _ _ (start .pre), at-if1 .if1 .taken)
 
 lose-requires : tie.Need-lose-requires
 lose-requires c κs = search needs
@@ -48,7 +51,8 @@ returns c =
     let at-cut-room = at-lose .before .before .before .before .before .before .before .before .before .before .before in
     let at-if1 = at-cut-room .before .before .before .before .before in
     let start = at-if1 .before .before .before .before .before .before .before .before .before .before in
-    (c .spent .ensures .0, (c .spent .ensures .1, lost-room _ _ _ _ _ _ _ _ (start .pre) _ _ _ _ _ _ _ _ _ _ _ _ _ _ (at-lose .lose .ensures) refl refl refl refl refl refl (at-if1 .if1 .taken) (at-cut-room .cut-room .ensures)))
+    let left = lost-room _ _ _ _ _ _ _ _ (start .pre) _ _ _ _ _ _ _ _ _ _ _ _ _ _ (at-lose .lose .ensures) refl refl refl refl refl refl (at-if1 .if1 .taken) (at-cut-room .cut-room .ensures) in
+    (c .spent .ensures .0, (c .spent .ensures .1, left))
 
 make-room-requires : tie.Need-make-room-requires
 make-room-requires c κs = room-asked _ _ _ _ _ _ _ _ (c .before .before .before .before .before .before .before .before .before .before .before .before .before .before .before .before .pre)

@@ -24,10 +24,15 @@ room-ops-requires c κs =
     ((write-checks _ (board start) (request start) (start .pre .accepted)) .fine, count-asked _ (board start) (request start) _ _ _ (start .pre))
 
 add-ops : tie.Need-add-ops
-add-ops c = omega (arith, c .before .room-ops .ensures .1, alpha-few _ _ _ (c .before .before .before .before .before .before .before .before .before .before .before .before .before .before .pre .accepted))
+add-ops c =
+    let start = c .before .before .before .before .before .before .before .before .before .before .before .before .before .before in
+    omega (arith, c .before .room-ops .ensures .1, alpha-few _ _ _ (start .pre .accepted))
 
 write-planned-requires : tie.Need-write-planned-requires
-write-planned-requires c κs = c .before .before .before .before .before .before .before .before .before .before .before .before .before .before .before .before .before .before .before .before .before .before .before .pre
+write-planned-requires c κs =
+    let at-if1 = c .before .before .before .before .before .before .before .before in
+    let start = at-if1 .before .before .before .before .before .before .before .before .before .before .before .before .before .before .before in
+    start .pre
 
 sub-left : tie.Need-sub-left
 sub-left c = search needs
