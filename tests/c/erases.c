@@ -10,7 +10,8 @@
  * e erases is then at least (e - 1)*G + 1 writes long, so k writes bring at
  * most k/G erases, rounded up.  Half of the boards have few rated erases: their
  * blocks wear out until writes find none that is free, and soon after that the
- * board gets no more calls.
+ * board gets no more calls.  A write may find none only once the board's life
+ * is over (cnftl.h, "How long a board lasts").
  *
  *   erases CALLS SEED [MORE]    with G + MORE in place of G
  *
@@ -62,6 +63,7 @@ static enum traffic traffic;
 static bool releasing;         /* whether this board gets releases */
 static uint32_t hot_from, hot; /* the hot clusters */
 static uint64_t counted_wear;  /* what the wear should be in all */
+static uint64_t good;          /* the blocks that the format found good */
 static int left;               /* the calls that this board still gets */
 static bool reached;           /* whether a figure of 2 or more was reached:
                                   two erases exactly that far apart */
@@ -163,7 +165,7 @@ static void open_board(void)
     a = cnftl_board_format(&board);
     if (cnftl_reply_of(a) != CNFTL_ACCEPTED)
         fail("a format is refused");
-    counted_wear = cnftl_erases_of(a);
+    good = counted_wear = cnftl_erases_of(a);
     for (uint32_t region = 0; region < p->mu; region++) {
         open_region(region);
         two_or_more |= regions[region].figure >= 2 && region < p->c;
@@ -233,11 +235,20 @@ static void hold_erase(struct region *r)
     r->erased_at = r->writes;
 }
 
+/* Whether as many erases were made since the format, which found no wear, as a
+   board lasts at least. */
+static bool life_is_over(void)
+{
+    return counted_wear - good >= (good - p->mu * p->gamma) * (p->e - 1);
+}
+
 /* Counts a write by its answer; a reclaim copies at most L/gamma frames. */
 static void count_write(uint32_t lba, uint64_t a)
 {
     struct region *r = &regions[lba / p->alpha % p->mu];
 
+    if (cnftl_reply_of(a) == CNFTL_NO_BLOCK_LEFT && !life_is_over())
+        fail("no block is left before the board's life is over");
     if (cnftl_reply_of(a) == CNFTL_NO_BLOCK_LEFT && left > LAST_CALLS)
         left = LAST_CALLS;
     if (cnftl_reply_of(a) != CNFTL_ACCEPTED) {
