@@ -11,7 +11,7 @@ use lib.Dec.{eqb, ltb}
 use lib.ListN.{length, getD, replicate, length-replicate, getD-replicate, List·getD-eq-default}
 use Rattle.lists.specs.Below.{countBelow}
 use Rattle.lists.proofs.Joins.{tab-at, tab-length}
-use borrow.Author.Tests.{le-leb}
+use borrow.Author.Tests.{le-leb, leb-false, lt-leb, lt-ltb, ltb-true}
 use Rattle.lists.proofs.Tests.{count-cong, never}
 use Rattle.rules.specs.declared.Params.{Params}
 use Rattle.rules.specs.declared.Reply.the-variants.{Accepted}
@@ -25,7 +25,8 @@ use Rattle.rules.specs.Requests.{format}
 use Rattle.rules.specs.Orderly.{enough, orderly, stampRule}
 use Rattle.rules.specs.Traces.{eraseWhere, erasedState, worn}
 use Rattle.rules.specs.Format.{bad, formatOps, formatted, goodBlocks}
-use Rattle.rules.specs.Replies.{lengthsFit, replyOf}
+use Rattle.rules.specs.Replies.{lengthsFit, replyOf, tooFewBlocks}
+use Rattle.rules.specs.Words.{SixExactly}
 use Rattle.rules.proofs.Admitted.{FormatAdmitted, format-admitted, orderly-all}
 use Rattle.rules.proofs.Erases.{Cleared, erases-ran, erasesBelow}
 use Rattle.rules.proofs.RegionFacts.{neat-none, regionOrderly}
@@ -34,6 +35,34 @@ use Rattle.rules.proofs.Stamps.{programmed-has, stamps-out}
 use Rattle.rules.proofs.TableFacts.{Lengths, Tables, lengths-in, lengths-out}
 use Rattle.rules.proofs.WornBlocks.{leftBlock, state-free}
 use Rattle.rules.proofs.Writes.{wear-length}
+
+-- ---- which blocks it reserves
+
+-- a bad or a worn block is reserved, every other is free
+two : (t w : Bool) → (cond {A = ℕ} t 2 (cond w 2 0) ≤ 2) × (cond {A = ℕ} t 2 (cond w 2 0) ≡ 1 → ⊥) × (cond {A = ℕ} t 2 (cond w 2 0) ≡ 0 → (t ≡ false) × (w ≡ false))
+    × (not (eqb (cond t 2 (cond w 2 0)) 2) ≡ not t && not w)
+two true w = (omega arith, λ x. omega arith, λ x. absurd (omega arith), refl)
+two false true = (omega arith, λ x. omega arith, λ x. absurd (omega arith), refl)
+two false false = (omega arith, λ x. omega arith, λ x. (refl, refl), refl)
+
+pub kind : (p : Params) (b : Board) (m : ℕ) → m < p .N → bstAt ((formatted p b) .bst) m ≡ cond (bad p (b .chip) m) 2 (cond (worn p (b .wear) m) 2 0)
+unfolding bstAt formatted erasedState
+kind p b m h = tab-at (p .N) (λ n. cond (bad p (b .chip) n) 2 (cond (worn p (b .wear) n) 2 0)) m 0 h
+
+-- the blocks that are not are those that its reply counts
+left-good : (p : Params) (b : Board) → countBelow (p .N) (λ m. not (eqb (bstAt ((formatted p b) .bst) m) 2)) ≡ goodBlocks p (b .chip) (b .wear)
+unfolding goodBlocks
+left-good p b =
+    count-cong (p .N) (λ m. not (eqb (bstAt ((formatted p b) .bst) m) 2)) (λ m. not (bad p (b .chip) m) && not (worn p (b .wear) m))
+    (λ m h. rw (kind p b m h) ((two (bad p (b .chip) m) (worn p (b .wear) m)) .3))
+
+pub six-exactly : SixExactly
+unfolding tooFewBlocks enough
+six-exactly p b =
+    let left = countBelow (p .N) (λ m. not (eqb (bstAt ((formatted p b) .bst) m) 2)) in (
+      λ few. lt-leb (p .mu * p .gamma + 1) left (rw (left-good p b) (ltb-true _ _ few)),
+      λ short. lt-ltb (goodBlocks p (b .chip) (b .wear)) (p .mu * p .gamma + 1) (rw (left-good p b) at (leb-false (p .mu * p .gamma + 1) left short)),
+    )
 
 -- ---- the state that is left
 
@@ -57,10 +86,6 @@ module _ (p : Params) (b : Board) (e : replyOf p b format ≡ Accepted) where
   unfolding formatted formatOps eraseWhere erasesBelow
   cleared = erases-ran p z (b .wear) good (b .chip) chip-fits (p .N) (omega arith)
 
-  pub kind : (m : ℕ) → m < p .N → bstAt ((formatted p b) .bst) m ≡ cond (bad p (b .chip) m) 2 (cond (worn p (b .wear) m) 2 0)
-  unfolding bstAt formatted erasedState
-  kind m h = tab-at (p .N) (λ n. cond (bad p (b .chip) n) 2 (cond (worn p (b .wear) n) 2 0)) m 0 h
-
   getD-none : (n i : ℕ) → getD (replicate n none) i none ≡ none
   getD-none n i = go (decLt i n)
     where
@@ -71,17 +96,6 @@ module _ (p : Params) (b : Board) (e : replyOf p b format ≡ Accepted) where
   entry : (i : ℕ) → btEntry ((formatted p b) .bt) i ≡ none
   unfolding btEntry formatted
   entry i = getD-none (p .mu * p .gamma) i
-
-  -- a bad or a worn block is reserved, every other is free
-  two : (t w : Bool) → (cond {A = ℕ} t 2 (cond w 2 0) ≤ 2) × (cond {A = ℕ} t 2 (cond w 2 0) ≡ 1 → ⊥) × (cond {A = ℕ} t 2 (cond w 2 0) ≡ 0 → (t ≡ false) × (w ≡ false))
-      × (not (eqb (cond t 2 (cond w 2 0)) 2) ≡ not t && not w)
-  two true w = (omega arith, λ x. omega arith, λ x. absurd (omega arith), refl)
-  two false true = (omega arith, λ x. omega arith, λ x. absurd (omega arith), refl)
-  two false false = (omega arith, λ x. omega arith, λ x. (refl, refl), refl)
-
-  good-enough : p .mu * p .gamma + 1 ≤ countBelow (p .N) (λ m. not (bad p (b .chip) m) && not (worn p (b .wear) m))
-  unfolding goodBlocks
-  good-enough = checks .enough
 
   tables : Tables p (formatted p b)
   unfolding formatted
@@ -94,24 +108,20 @@ module _ (p : Params) (b : Board) (e : replyOf p b format ≡ Accepted) where
         bstLength = tab-length (p .N) _;
         wearLength = wear-length (b .wear) (formatOps p (b .chip) (b .wear)) ∙ lengths .wearLength;
         stampsLength = length-replicate (p .mu) 0;
-        kinds = λ m h. rw (kind m h) ((two (bad p (b .chip) m) (worn p (b .wear) m)) .0);
+        kinds = λ m h. rw (kind p b m h) ((two (bad p (b .chip) m) (worn p (b .wear) m)) .0);
         names = λ i h. inl (entry i);
         once = λ i j hi hj x ne. absurd (ne (entry i));
-        used = λ m h x. absurd ((two (bad p (b .chip) m) (worn p (b .wear) m)) .1 (sym (kind m h) ∙ x));
+        used = λ m h x. absurd ((two (bad p (b .chip) m) (worn p (b .wear) m)) .1 (sym (kind p b m h) ∙ x));
         usedBack = λ i h m k x. absurd (omega (arith, entry i, x, z .blocks));
         free = λ m h x.
-            let w = (two (bad p (b .chip) m) (worn p (b .wear) m)) .2 (sym (kind m h) ∙ x) in
+            let w = (two (bad p (b .chip) m) (worn p (b .wear) m)) .2 (sym (kind p b m h) ∙ x) in
             rw (cleared .done m h (ap not (w .0)), w .1) (state-free p false refl);
       }
 
   -- at least μγ+1 blocks are not reserved
   pub format-enough : enough p (formatted p b) ≡ true
   unfolding enough
-  format-enough =
-      le-leb (p .mu * p .gamma + 1) (countBelow (p .N) (λ m. not (eqb (bstAt ((formatted p b) .bst) m) 2)))
-      (rw (count-cong (p .N) (λ m. not (eqb (bstAt ((formatted p b) .bst) m) 2)) (λ m. not (bad p (b .chip) m) && not (worn p (b .wear) m))
-      (λ m h. rw (kind m h) ((two (bad p (b .chip) m) (worn p (b .wear) m)) .3)))
-      good-enough)
+  format-enough = le-leb (p .mu * p .gamma + 1) (countBelow (p .N) (λ m. not (eqb (bstAt ((formatted p b) .bst) m) 2))) (rw (left-good p b) (checks .enough))
 
   pub lacks : (r v : ℕ) → assigned (view p (formatted p b) r) v ≡ false
   unfolding assigned viewOf bodyAt btAt btEntry

@@ -17,12 +17,12 @@ use Rattle.rules.specs.Tables.{Board, btAt, btEntry, bstAt, ctAt, stampA
 use Rattle.rules.specs.Pages.{block, erased, frame, held, lastIn, le32, page, programmed, spareBytes}
 use Rattle.rules.specs.Regions.{View, assigned, looksAt, valid, validFrames, view}
 use Rattle.rules.specs.Marks.{marksOf}
-use Rattle.rules.specs.Orderly.{orderly}
+use Rattle.rules.specs.Orderly.{enough, orderly}
 use Rattle.rules.specs.Traces.{Op, erase, eraseOps, erasesIn, mark, onChip, program, programsIn, replayChip, replayWear, worn}
-use Rattle.rules.specs.Format.{bad}
+use Rattle.rules.specs.Format.{bad, formatted}
 use Rattle.rules.specs.Write.{Plan, continues, opens, reclaims, freeBlock, planOf, writeOps}
 use Rattle.rules.specs.Requests.{Request, write, requestRegion}
-use Rattle.rules.specs.Replies.{OrderlyBoard, lengthsFit, replyOf}
+use Rattle.rules.specs.Replies.{OrderlyBoard, lengthsFit, replyOf, tooFewBlocks}
 
 -- ---- "Parameters"
 
@@ -166,7 +166,11 @@ BadListed p chip n =
 abbrev pub BadExactly : Type 0
 BadExactly = (p : Params) (chip : List ℕ) (n : ℕ) → allowed p ≡ true → (bad p chip n ≡ true) ↔ BadListed p chip n
 
--- ---- T-12: marks
+-- ---- T-12: format's 6, and marks
+
+-- "Format's 6 counts blocks still good after its erases": it is given exactly where the board that the format would leave has fewer than μγ+1 blocks that are not reserved
+abbrev pub SixExactly : Type 0
+SixExactly = (p : Params) (b : Board) → (tooFewBlocks p b ≡ true) ↔ (enough p (formatted p b) ≡ false)
 
 -- "its first page gets a zero in spare byte 5", by where this byte stands on the chip: of a page that is erased no other byte changes
 abbrev pub MarkExactly : Type 0

@@ -49,7 +49,7 @@ module _ (p : Params) (b : Board) (e : replyOf p b format ≡ Accepted) where
         lengths = format-lengths p b e;
         order = format-orderly p b e;
         timely = λ r h. formatted-timely r;
-        marked = λ n h x. format-bad-is p b e n h ∙ two (bad p (b .chip) n) (worn p (b .wear) n) (sym (kind p b e n h) ∙ x);
+        marked = λ n h x. format-bad-is p b e n h ∙ two (bad p (b .chip) n) (worn p (b .wear) n) (sym (kind p b n h) ∙ x);
       }
 
   pub formatted-clear : (d : ℕ) → Clear p (formatted p b) d
