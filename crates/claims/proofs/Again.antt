@@ -58,17 +58,17 @@ programs-append : (xs ys : List Op) → Programs xs → Programs ys → Programs
 programs-append [] ys h k = k
 programs-append (program n q x ∷ xs) ys h k = programs-append xs ys h k
 
-frame-programs : (p : Params) (n f : ℕ) (x : List ℕ) (k : ℕ) → Programs (frameOps p n f x k)
+pub frame-programs : (p : Params) (n f : ℕ) (x : List ℕ) (k : ℕ) → Programs (frameOps p n f x k)
 unfolding frameOps joinBelow
 frame-programs p n f x zero = tt
 frame-programs p n f x (suc k) = programs-append (frameOps p n f x k) _ (frame-programs p n f x k) tt
 
-frames-programs : (p : Params) (n to : ℕ) (xs : List (List ℕ)) → Programs (framesOps p n to xs)
+pub frames-programs : (p : Params) (n to : ℕ) (xs : List (List ℕ)) → Programs (framesOps p n to xs)
 unfolding framesOps
 frames-programs p n to [] = tt
 frames-programs p n to (x ∷ xs) = programs-append (frameOps p n to x (p .alpha)) _ (frame-programs p n to x (p .alpha)) (frames-programs p n (suc to) xs)
 
-programs-spare : (n : ℕ) (os : List Op) → Programs os → erasesBlock n os ≡ false
+pub programs-spare : (n : ℕ) (os : List Op) → Programs os → erasesBlock n os ≡ false
 unfolding erasesBlock
 programs-spare n [] h = refl
 programs-spare n (program m q x ∷ os) h = programs-spare n os h
@@ -82,7 +82,7 @@ unfolding replayWear onWear
 programs-wear wear [] h = refl
 programs-wear wear (program m q x ∷ os) h = programs-wear wear os h
 
-erases-append : (n : ℕ) (xs ys : List Op) → erasesBlock n xs ≡ false → erasesBlock n ys ≡ false → erasesBlock n (xs ++ ys) ≡ false
+pub erases-append : (n : ℕ) (xs ys : List Op) → erasesBlock n xs ≡ false → erasesBlock n ys ≡ false → erasesBlock n (xs ++ ys) ≡ false
 unfolding erasesBlock
 erases-append n [] ys h k = k
 erases-append n (program m q x ∷ xs) ys h k = erases-append n xs ys h k
@@ -99,7 +99,7 @@ erases-take n (suc k) (erase m ∷ os) h = let w = or-neither (eqb m n) h in rw 
 
 -- ---- an erase with its mark
 
-one-spare : (p : Params) (wear : List ℕ) (n m : ℕ) → (m ≡ n → ⊥) → erasesBlock n (eraseOps p wear m) ≡ false
+pub one-spare : (p : Params) (wear : List ℕ) (n m : ℕ) → (m ≡ n → ⊥) → erasesBlock n (eraseOps p wear m) ≡ false
 unfolding eraseOps erasesBlock
 one-spare p wear n m ne = rw (ne-eqb m n ne) (go (worn p wear m))
   where

@@ -21,6 +21,7 @@ pub mod CutCalls
 pub mod Condition2
 pub mod Roomy
 pub mod Life
+pub mod Rated
 pub mod RegionMachine
 pub mod Condition3
 pub mod Unique

@@ -57,7 +57,7 @@ erases-each n (mark m ∷ os) = omega (arith, erases-each n os)
 erases-each n (erase m ∷ os) = omega (arith, sum-add n (λ i. cond (eqb m i) 1 0) (λ i. erasesOf i os), sum-most n m, erases-each n os)
 
 -- an erase adds one at most to one block's wear
-wear-most : (n : ℕ) (os : List Op) (wear : List ℕ) → n < length wear → wearAt (replayWear wear os) n ≤ wearAt wear n + erasesOf n os
+pub wear-most : (n : ℕ) (os : List Op) (wear : List ℕ) → n < length wear → wearAt (replayWear wear os) n ≤ wearAt wear n + erasesOf n os
 unfolding erasesOf replayWear onWear
 wear-most n [] wear h = omega arith
 wear-most n (program m q x ∷ os) wear h = wear-most n os wear h
@@ -102,7 +102,7 @@ below-once p wear f n (suc k) =
     turned (yes e) = rw (eq-eqb n k e, eq-eqb k n (sym e))
     turned (no e) = rw (ne-eqb n k e, ne-eqb k n (λ y. e (sym y)))
 
-format-once : (p : Params) (chip wear : List ℕ) (n : ℕ) → erasesOf n (formatOps p chip wear) ≤ 1
+pub format-once : (p : Params) (chip wear : List ℕ) (n : ℕ) → erasesOf n (formatOps p chip wear) ≤ 1
 unfolding formatOps
 format-once p chip wear n = rw (where-below p wear (λ m. not (bad p chip m))) (omega (arith, below-once p wear (λ m. not (bad p chip m)) n (p .N), sum-most (p .N) n))
 
