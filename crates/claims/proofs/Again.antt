@@ -1,5 +1,5 @@
--- No call erases a block that is bad, and each marks a block only once its wear is E. So over any run, through any cuts, a bad block stays bad, and one that becomes bad is worn out; and a format after
--- it is refused for want of good blocks alone.
+-- No call erases a block that is bad, and each marks a block only once its wear is E. So over any run, through any cuts, a bad block stays bad, and one that becomes bad is
+-- worn out; and a format after it is refused for want of good blocks alone.
 -- Assumes nothing.
 use mathlib.Core.Path.{_≡_, refl, sym, ap, _∙_}
 use mathlib.Core.Logic.{_⊎_, inl, inr}

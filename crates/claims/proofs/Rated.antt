@@ -201,7 +201,10 @@ module _ (p : Params) (b : Board) (e : replyOf p b format ≡ Accepted) (cs : Li
   never-past = after-rated p n low (plainLeaves p b format) (knownBy p b format blank) cs first (rw (format-leaves p b e) (format-rated p b n low e))
 
 pub worn-over-runs : WornOverRuns
-worn-over-runs p b e ss u n low = (λ two. run-new p (st .fine) n low b (plain format ∷ ss) ((format-admitted p b e) .lengths) (st .marked n low two), λ w. go w (ℕ-discrete (bstAt ((boardAfter p b (plain format ∷ ss)) .bst) n) 2))
+worn-over-runs p b e ss u n low = (
+  λ two. run-new p (st .fine) n low b (plain format ∷ ss) ((format-admitted p b e) .lengths) (st .marked n low two),
+  λ w. go w (ℕ-discrete (bstAt ((boardAfter p b (plain format ∷ ss)) .bst) n) 2),
+)
   where
     st : Stands p (boardAfter p b (plain format ∷ ss))
     st = rw (format-board p b ss u) (run-stands p b e (map callOf ss) n low)

@@ -85,9 +85,10 @@ pub record Reads (p : Params) (b : Board) (q : Request) (o : Outcome) : Type 0 w
   pub erases : o .answer .erases ≡ 0
   pub looks : o .answer .looks ≡ looksAt p b (requestCluster p q)
 
--- a write of this request by its plan for region r: a block that it takes is there and free, and the frame that it writes is one of the block's, also after the copies of a reclaim; it does store: each LBA of the request then reads as given, and every other of the
--- board as before; "A write reports α × (frames copied + 1) pages programmed, and 1 erase if it reclaimed, else 0. So it programs at most P pages".
--- T-08: it reports the search for its own cluster, "in the state at entry". T-07: it "takes the next" stamp of its region, and none of another
+-- a write of this request by its plan for region r: a block that it takes is there and free, and the frame that it writes is one of the block's, also after the copies of a
+-- reclaim; it does store: each LBA of the request then reads as given, and every other of the board as before; "A write reports α × (frames copied + 1) pages programmed,
+-- and 1 erase if it reclaimed, else 0. So it programs at most P pages". T-08: it reports the search for its own cluster, "in the state at entry". T-07: it "takes the next"
+-- stamp of its region, and none of another
 pub record Writes (p : Params) (b : Board) (q : Request) (r : ℕ) (pl : Plan) (o : Outcome) : Type 0 where
   pub block : takesBlock pl ≡ true → (planBlock p b r pl < p .N) × (bstAt (b .bst) (planBlock p b r pl) ≡ 0)
   pub frame : planFrame p (view p b r) pl < frames p
@@ -210,9 +211,10 @@ among p (q ∷ qs) c = eqb (requestCluster p q) c || among p qs c
 abbrev pub ReadsAs : Params → Board → ℕ → Memory → Type 0
 ReadsAs p b c m = (a : ℕ) → a < p .C * p .alpha → clusterOf p a ≡ c → sectorAt p b a ≡ m a
 
--- T-07, a board b whose tables a cut took: it is not orderly, so that by the table every read, write and release is refused. A start is accepted, erases one block at most and
--- leaves order. "Every accepted write then reads back, as does each item that a cut queue had finished unrefused; the write cut short reads wholly old or wholly new": new is what it
--- gave, over what the host last knew of its cluster, which is all ones if that was released. A start that is cut, and made again, leaves the same, unless it is cut between the erase of a block that it wears out and its mark: that block is then free
+-- T-07, a board b whose tables a cut took: it is not orderly, so that by the table every read, write and release is refused. A start is accepted, erases one block at most
+-- and leaves order. "Every accepted write then reads back, as does each item that a cut queue had finished unrefused; the write cut short reads wholly old or wholly new":
+-- new is what it gave, over what the host last knew of its cluster, which is all ones if that was released. A start that is cut, and made again, leaves the same, unless it
+-- is cut between the erase of a block that it wears out and its mark: that block is then free
 pub record Recovered (p : Params) (b : Board) (k : Known) (short : List Request) (o : Outcome) : Type 0 where
   pub gone : orderly p b ≡ false
   pub accepted : o .answer .reply ≡ Accepted
@@ -276,9 +278,8 @@ pub record Undisturbed (p : Params) (b : Board) (ss : List Step) : Type 0 where
   pub calls : undisturbed p (leaves p b (plain format)) ss ≡ true
   pub room : roomy p (leaves p b (plain format)) ss ≡ true
 
--- for "two boards": "If the
--- requests to one region are the same and in the same order", up to what the bytes lent to a read hold; T-01: "over the items of calls that answer 0; an item is its LBA, its
--- count and its bytes, or that they do not lie there"
+-- for "two boards": "If the requests to one region are the same and in the same order", up to what the bytes lent to a read hold; T-01: "over the items of calls that answer
+-- 0; an item is its LBA, its count and its bytes, or that they do not lie there"
 abbrev pub Condition3 : Type 0
 Condition3 =
     (p : Params) (b b′ : Board) (ss ss′ : List Step) → Undisturbed p b ss → Undisturbed p b′ ss′ → (r : ℕ) → r < p .mu

@@ -1,5 +1,5 @@
--- T-12: how long a board lasts, and which blocks are given up. From an accepted format on, a write is refused with 10 only once so many erases were made that all but μγ of the blocks that were not bad are worn out.
--- proofs/Life.antt and proofs/Rated.antt have the theorems.
+-- T-12: how long a board lasts, and which blocks are given up. From an accepted format on, a write is refused with 10 only once so many erases were made that all but μγ of
+-- the blocks that were not bad are worn out. proofs/Life.antt and proofs/Rated.antt have the theorems.
 -- Assumes nothing.
 use Prim.Native.Nat.{ℕ, _+_, _-_, _*_, _≤_, _<_}
 use mathlib.Core.Path.{_≡_}

@@ -135,8 +135,8 @@ pub record RegionListed (p : Params) (r : ℕ) (vw : View) : Type 0 where
   pub fst : (((v : ℕ) → v < p .gamma → assigned vw v ≡ false) × (vw .lastSeg ≡ 65535)) ⊎ OpenListed p vw
   pub ct : (c : ℕ) → c < p .C → c % p .mu ≡ r → (vw .segOf c ≡ 65535) ⊎ EntryListed p vw c
 
--- the five bullets, in their order, without "At least μγ+1 blocks are not reserved", which T-12 takes out; T-06's "each mark equals the validity rule", and T-07's "no page of an orderly region has a larger" stamp than the region's
--- last: a frame's pages have the one that its first page has
+-- the five bullets, in their order, without "At least μγ+1 blocks are not reserved", which T-12 takes out; T-06's "each mark equals the validity rule", and T-07's "no page
+-- of an orderly region has a larger" stamp than the region's last: a frame's pages have the one that its first page has
 pub record OrderlyListed (p : Params) (b : Board) : Type 0 where
   pub kinds : (n : ℕ) → n < p .N → (bstAt (b .bst) n ≡ 0) ⊎ ((bstAt (b .bst) n ≡ 1) ⊎ (bstAt (b .bst) n ≡ 2))
   pub names : (i : ℕ) → i < p .mu * p .gamma → (btEntry (b .bt) i ≡ 65535) ⊎ (btEntry (b .bt) i < p .N)
