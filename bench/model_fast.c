@@ -1,6 +1,6 @@
 /*
- * model_fast.c - document 01 with 02's marks, stamps, start, worn blocks,
- * salvage and ledger in plain C, written for speed.
+ * model_fast.c - document 01 with 02's marks, stamps, start and worn blocks in
+ * plain C, written for speed.
  *
  * The orderly check passes once over the chip.  It reads only the spare bytes
  * of programmed pages, compares erased pages by words, and searches nothing:
@@ -26,21 +26,6 @@
  * one over the region's frames, in which a bit for each stamp mod 16,384 tells
  * most stamps apart at once.  Then it builds the tables in passes over heads
  * and frames; CT holds frame numbers on the way.
- *
- * A salvage decides in one pass over the used and the free blocks, and keeps a
- * bit for each virtual block whose block is broken.  The pages of sound blocks
- * name their virtual block, so that a block which is named twice is broken for
- * one of the two: only for broken ones BT is searched.  Then it works: the
- * broken blocks are erased, and in one pass over the frames that are left the
- * marks are worked out and the largest stamps found.  Each CT entry that names
- * a whole frame of its cluster gives one mark, so CT is searched only where
- * there are fewer marks than entries.
- *
- * The calls of the ledger check the state once and then look at the sectors
- * where they stand on the chip, cluster by cluster, one search for a valid
- * frame to a cluster.  An entry finds the end of the filled part from the
- * region's end down, where CT has none at once, and then tells from the first
- * 18 bytes and the rest of each sector of it what the reply is.
  */
 #include "model_fast.h"
 
@@ -56,9 +41,7 @@
 enum { SPARE = 16, NONE = 65535, FREE = 0, USED = 1, RESERVED = 2, WORDS = 4 };
 enum {
     ACCEPTED, BAD_PARAMETER, WRONG_LENGTH, BAD_COUNT, BAD_ADDRESS, WRONG_DATA,
-    TOO_FEW_BLOCKS, NOT_ORDERLY, TOO_FEW_ANSWERS, NO_STAMP_LEFT, NO_BLOCK_LEFT,
-    SECTOR_TOO_SMALL = 20, NO_SUCH_REGION, NO_RECORD, SERIAL_PRESENT,
-    ADDRESS_PRESENT, REGION_FULL
+    TOO_FEW_BLOCKS, NOT_ORDERLY, TOO_FEW_ANSWERS, NO_STAMP_LEFT, NO_BLOCK_LEFT
 };
 
 /* Parameters, sizes worked out from them, and the state as it is read. */
@@ -852,29 +835,20 @@ struct heads {
     uint32_t full[MOST_VIRTUAL], open[MOST_VIRTUAL];
 };
 
-/* The programmed frames of a block as one of this virtual block, or 0 if its
-   pages break the rule of used blocks.  Its stamps may be any. */
-static uint32_t sound_frames(const struct board *b, uint32_t region,
-                             uint32_t virtual_block, uint32_t block)
-{
-    uint32_t k = 0;
-
-    for (; k < b->frames && spare_at(b, block, k)[6] == 0; k++)
-        if (check_frame(b, region, virtual_block, UINT32_MAX,
-                        spare_at(b, block, k)) == WRONG)
-            return 0;
-    return all_ones(b->chip + frame_at(b, block, k),
-                    (b->frames - k) * b->frame) ? k : 0;
-}
-
 /* Whether a block with its first frame programmed is orderly by itself. */
 static bool check_alone(const struct board *b, uint32_t block)
 {
     const uint8_t *spare = spare_at(b, block, 0);
-    uint32_t cluster = cluster_in(spare);
+    uint32_t cluster = cluster_in(spare), region = cluster % b->mu, k;
 
-    return cluster < b->c && spare[11] < b->gamma
-        && sound_frames(b, cluster % b->mu, spare[11], block) > 0;
+    if (cluster >= b->c || spare[11] >= b->gamma)
+        return false;
+    for (k = 0; k < b->frames && spare_at(b, block, k)[6] == 0; k++)
+        if (check_frame(b, region, spare[11], UINT32_MAX,
+                        spare_at(b, block, k)) == WRONG)
+            return false;
+    return all_ones(b->chip + frame_at(b, block, k),
+                    (b->frames - k) * b->frame);
 }
 
 /* Whether every good block is erased or orderly by itself. */
@@ -1096,27 +1070,8 @@ static void start_region(const struct board *b, const struct lent *l,
         : (uint16_t)(open * b->d + (frames_in(b, bt[open]) - 1) / b->beta);
 }
 
-/* Whether a frame of a virtual block is valid: it is whole, the CT entry of its
-   cluster names its segment, and no later one there has the cluster. */
-static bool is_valid(const struct board *b, const struct lent *l,
-                     uint32_t virtual_block, uint32_t block, uint32_t f)
-{
-    uint32_t segment = virtual_block * b->d + f / b->beta;
-    uint32_t end = (f / b->beta + 1) * b->beta, cluster, later;
-
-    if (!is_whole(b, block, f))
-        return false;
-    cluster = cluster_in(spare_at(b, block, f));
-    if (l->ct[cluster] != segment)
-        return false;
-    for (later = f + 1; later < end; later++)
-        if (is_whole(b, block, later)
-            && cluster_in(spare_at(b, block, later)) == cluster)
-            break;
-    return later == end;
-}
-
-/* The marks of a virtual block: those of its valid frames. */
+/* The marks of a virtual block: in each segment the last whole frame of each
+   cluster whose CT entry names it. */
 static void start_marks(const struct board *b, const struct lent *l,
                         uint32_t entry)
 {
@@ -1124,9 +1079,22 @@ static void start_marks(const struct board *b, const struct lent *l,
     uint32_t block = l->bt[entry];
 
     memset(words, 0, WORDS * sizeof *words);
-    for (uint32_t f = 0; block != NONE && f < b->frames; f++)
-        if (is_valid(b, l, entry % b->gamma, block, f))
+    for (uint32_t f = 0; block != NONE && f < b->frames; f++) {
+        uint32_t segment = entry % b->gamma * b->d + f / b->beta;
+        uint32_t end = (f / b->beta + 1) * b->beta, cluster, later;
+
+        if (!is_whole(b, block, f))
+            continue;
+        cluster = cluster_in(spare_at(b, block, f));
+        if (l->ct[cluster] != segment)
+            continue;
+        for (later = f + 1; later < end; later++)
+            if (is_whole(b, block, later)
+                && cluster_in(spare_at(b, block, later)) == cluster)
+                break;
+        if (later == end)
             words[f / 64] |= UINT64_C(1) << f % 64;
+    }
 }
 
 /* All tables, from the chip alone. */
@@ -1169,385 +1137,4 @@ uint64_t fast_start(uint32_t s, uint32_t alpha, uint32_t beta, uint32_t d,
     if (!startable(&b))
         return answer(NOT_ORDERLY, 0, 0);
     return start_steps(&b, &l);
-}
-
-/* ==== The salvage ====================================================== */
-
-enum { MOST_ENTRIES = 1024 * MOST_VIRTUAL };
-
-/* A bit for each BT entry: whether its block is broken.  Only the words that
-   the board needs are set. */
-struct broken {
-    uint32_t words;
-    uint64_t bits[MOST_ENTRIES / 64];
-};
-
-/* Whether another BT entry names the block of this one. */
-static bool named_again(const struct board *b, uint32_t entry)
-{
-    for (uint32_t i = 0; i < b->mu * b->gamma; i++)
-        if (i != entry && b->bt[i] == b->bt[entry])
-            return true;
-    return false;
-}
-
-/* Whether a region can be salvaged: its BT entries name used blocks, none of
-   them twice, and one sound block at most is not full.  Finds the broken ones
-   and adds its blocks to *named. */
-static bool check_salvage_region(const struct board *b, uint32_t region,
-                                 struct broken *broken, uint32_t *named)
-{
-    uint32_t open = 0;
-
-    for (uint32_t v = 0; v < b->gamma; v++) {
-        uint32_t entry = region * b->gamma + v, block = b->bt[entry], k;
-
-        if (block == NONE)
-            continue;
-        if (block >= b->n || b->bst[block] != USED)
-            return false;
-        ++*named;
-        k = sound_frames(b, region, v, block);
-        open += k > 0 && k < b->frames;
-        if (k > 0)
-            continue;
-        if (named_again(b, entry))
-            return false;
-        broken->bits[entry / 64] |= UINT64_C(1) << entry % 64;
-    }
-    return open <= 1;
-}
-
-/* Whether the board can be salvaged. */
-static bool salvageable(const struct board *b, struct broken *broken)
-{
-    uint32_t named = 0;
-
-    broken->words = (b->mu * b->gamma + 63) / 64;
-    memset(broken->bits, 0, broken->words * sizeof *broken->bits);
-    for (uint32_t r = 0; r < b->mu; r++)
-        if (!check_salvage_region(b, r, broken, &named))
-            return false;
-    return check_blocks(b, named);
-}
-
-/* Takes the broken blocks out; how many they were. */
-static uint32_t take_out(const struct board *b, const struct lent *l,
-                         const struct broken *broken)
-{
-    uint32_t count = 0;
-
-    for (uint32_t w = 0; w < broken->words; w++)
-        for (uint64_t bits = broken->bits[w]; bits != 0; bits &= bits - 1) {
-            uint32_t entry = 64 * w + (uint32_t)__builtin_ctzll(bits);
-            uint32_t block = l->bt[entry];
-
-            memset(l->chip + block * b->block, 255, b->block);
-            l->chip[block * b->block + b->s + 5] = 0;
-            l->wear[block] += l->wear[block] != UINT32_MAX;
-            l->bst[block] = RESERVED;
-            l->bt[entry] = NONE;
-            count++;
-        }
-    return count;
-}
-
-/* The marks of a virtual block that has a block, and the largest stamp so far;
-   how many frames are programmed. */
-static uint32_t salvage_block(const struct board *b, const struct lent *l,
-                              uint32_t entry, uint32_t *most)
-{
-    uint64_t *words = l->marks + WORDS * (size_t)entry;
-    uint32_t block = l->bt[entry], f = 0;
-
-    for (; f < b->frames && spare_at(b, block, f)[6] == 0; f++) {
-        uint32_t stamp = stamp_of(b, block, f);
-
-        *most = stamp > *most ? stamp : *most;
-        if (is_valid(b, l, entry % b->gamma, block, f))
-            words[f / 64] |= UINT64_C(1) << f % 64;
-    }
-    return f;
-}
-
-/* The FST entry of a region, where this virtual block, if any, has the block
-   that is not full, or else the lowest one, with k frames: where all are full,
-   one that names the last segment of any of them stays. */
-static uint16_t salvage_fst(const struct board *b, const struct lent *l,
-                            uint32_t region, uint32_t open, uint32_t k)
-{
-    uint32_t segment = l->fst[region], v = segment / b->d;
-
-    if (open == NONE)
-        return NONE;
-    if (k == b->frames && v < b->gamma && segment % b->d == b->d - 1
-        && l->bt[region * b->gamma + v] != NONE)
-        return (uint16_t)segment;
-    return (uint16_t)(open * b->d + (k - 1) / b->beta);
-}
-
-/* A region's marks, stamp and FST entry; how many marks. */
-static uint32_t salvage_region(const struct board *b, const struct lent *l,
-                               uint32_t region)
-{
-    uint32_t most = 0, open = NONE, held = 0, marked = 0;
-
-    memset(l->marks + words_at(b, region, 0), 0,
-           b->gamma * WORDS * sizeof *l->marks);
-    for (uint32_t v = 0; v < b->gamma; v++) {
-        uint32_t entry = region * b->gamma + v, k;
-
-        if (l->bt[entry] == NONE)
-            continue;
-        k = salvage_block(b, l, entry, &most);
-        marked += ones(l->marks + WORDS * (size_t)entry);
-        if (open == NONE || k < b->frames) {
-            open = v;
-            held = k;
-        }
-    }
-    if (l->stamps[region] < most)
-        l->stamps[region] = most;
-    l->fst[region] = salvage_fst(b, l, region, open, held);
-    return marked;
-}
-
-/* Whether the segment in a cluster's CT entry holds a whole frame of it. */
-static bool is_held(const struct board *b, uint32_t cluster)
-{
-    uint32_t segment = b->ct[cluster], v = segment / b->d, block, f;
-
-    if (v >= b->gamma)
-        return false;
-    block = b->bt[(size_t)(cluster % b->mu) * b->gamma + v];
-    f = segment % b->d * b->beta;
-    for (uint32_t end = f + b->beta; block != NONE && f < end; f++)
-        if (is_whole(b, block, f)
-            && cluster_in(spare_at(b, block, f)) == cluster)
-            return true;
-    return false;
-}
-
-/* Takes the broken blocks out and mends the tables. */
-static uint64_t salvage_steps(const struct board *b, const struct lent *l,
-                              const struct broken *broken)
-{
-    uint32_t out = take_out(b, l, broken), marked = 0;
-
-    for (uint32_t r = 0; r < b->mu; r++)
-        marked += salvage_region(b, l, r);
-    if (marked != ct_entries(b))
-        for (uint32_t x = 0; x < b->c; x++)
-            if (l->ct[x] != NONE && !is_held(b, x))
-                l->ct[x] = NONE;
-    return answer(ACCEPTED, out, out);
-}
-
-/* Refuses or makes the steps of a salvage. */
-uint64_t fast_salvage(uint32_t s, uint32_t alpha, uint32_t beta, uint32_t d,
-                      uint32_t mu, uint32_t gamma, uint32_t c, uint32_t n,
-                      uint32_t e,
-                      uint8_t *chip, size_t chip_len,
-                      uint16_t *ct, size_t ct_len,
-                      uint16_t *bt, size_t bt_len,
-                      uint16_t *fst, size_t fst_len,
-                      uint8_t *bst, size_t bst_len,
-                      uint32_t *wear, size_t wear_len,
-                      uint64_t *marks, size_t marks_len,
-                      uint32_t *stamps, size_t stamps_len)
-{
-    struct board b = make_board(s, alpha, beta, d, mu, gamma, c, n, e);
-    struct lent l = { chip, ct, bt, fst, bst, wear, marks, stamps };
-    uint32_t reply = refuse_board(&b, chip_len, ct_len, bt_len, fst_len,
-                                  bst_len, wear_len, marks_len, stamps_len);
-    struct broken broken;
-
-    if (reply != ACCEPTED)
-        return answer(reply, 0, 0);
-    look_at(&b, chip, ct, bt, fst, bst, wear, marks, stamps);
-    if (!salvageable(&b, &broken))
-        return answer(NOT_ORDERLY, 0, 0);
-    return salvage_steps(&b, &l, &broken);
-}
-
-/* ==== The ledger ======================================================= */
-
-enum { ADDRESS = 6, RECORD = 18, LEAST_SECTOR = 32 };
-
-/* A box, with its serial as it stands in a record, since both processors have
-   the low byte first. */
-struct box {
-    uint64_t serial;
-    const uint8_t *address;
-};
-
-/* The clusters of a region. */
-static uint32_t clusters_of(const struct board *b, uint32_t region)
-{
-    return b->c / b->mu + (region < b->c % b->mu);
-}
-
-/* The first sector of a region's i-th cluster, whose others follow a page
-   apart, or NULL if CT has none. */
-static const uint8_t *sectors_of(const struct board *b, uint32_t region,
-                                 uint32_t i)
-{
-    size_t at = valid_frame(b, region + i * b->mu).at;
-
-    return at == SIZE_MAX ? NULL : b->chip + at;
-}
-
-/* Whether a sector is a record. */
-static bool is_record(const struct board *b, const uint8_t *sector)
-{
-    return memcmp(sector, "BOXR", 4) == 0
-        && all_ones(sector + RECORD, b->s - RECORD);
-}
-
-/* The sectors of a region up to the last that is not all ones. */
-static uint32_t filled_part(const struct board *b, uint32_t region)
-{
-    for (uint32_t i = clusters_of(b, region); i-- > 0;) {
-        const uint8_t *sector = sectors_of(b, region, i);
-
-        for (uint32_t place = b->alpha; sector != NULL && place-- > 0;)
-            if (!all_ones(sector + place * b->page, b->s))
-                return i * b->alpha + place + 1;
-    }
-    return 0;
-}
-
-/* The reply to a box by what stands in the filled part. */
-static uint32_t refuse_box(const struct board *b, uint32_t region,
-                           uint32_t filled, const struct box *box)
-{
-    bool serial = false, address = false;
-
-    for (uint32_t k = 0; k < filled;) {
-        const uint8_t *sector = sectors_of(b, region, k / b->alpha);
-
-        if (sector == NULL)
-            return NO_RECORD;
-        for (uint32_t place = 0; place < b->alpha && k < filled; place++, k++) {
-            const uint8_t *at = sector + place * b->page;
-
-            if (!is_record(b, at))
-                return NO_RECORD;
-            serial |= word_at(at + 4) == box->serial;
-            address |= memcmp(at + 12, box->address, ADDRESS) == 0;
-        }
-    }
-    return serial ? SERIAL_PRESENT : address ? ADDRESS_PRESENT
-         : filled == clusters_of(b, region) * b->alpha ? REGION_FULL : ACCEPTED;
-}
-
-/* The reply to a call of the ledger on a board of right lengths. */
-static uint32_t refuse_ledger(const struct board *b, uint32_t region,
-                              size_t address_len)
-{
-    if (address_len != ADDRESS)
-        return WRONG_LENGTH;
-    if (!orderly(b))
-        return NOT_ORDERLY;
-    if (b->s < LEAST_SECTOR)
-        return SECTOR_TOO_SMALL;
-    return region < b->mu ? ACCEPTED : NO_SUCH_REGION;
-}
-
-/* Writes a box behind the filled part, or refuses it. */
-static uint64_t enter_box(const struct board *b, const struct lent *l,
-                          uint32_t region, const struct box *box)
-{
-    uint32_t k = filled_part(b, region);
-    uint32_t reply = refuse_box(b, region, k, box);
-    uint32_t lba = (region + k / b->alpha * b->mu) * b->alpha + k % b->alpha;
-    uint8_t record[512];
-
-    if (reply == ACCEPTED)
-        reply = refuse_stampless(b, lba);
-    if (reply != ACCEPTED)
-        return answer(reply, 0, 0);
-    memcpy(record, "BOXR", 4);
-    memcpy(record + 4, &box->serial, 8);
-    memcpy(record + 12, box->address, ADDRESS);
-    memset(record + RECORD, 255, b->s - RECORD);
-    return write_steps(b, l, lba, 1, record);
-}
-
-/* Enters a box in the ledger of a region. */
-uint64_t fast_enter(uint32_t s, uint32_t alpha, uint32_t beta, uint32_t d,
-                    uint32_t mu, uint32_t gamma, uint32_t c, uint32_t n,
-                    uint32_t e,
-                    uint8_t *chip, size_t chip_len,
-                    uint16_t *ct, size_t ct_len,
-                    uint16_t *bt, size_t bt_len,
-                    uint16_t *fst, size_t fst_len,
-                    uint8_t *bst, size_t bst_len,
-                    uint32_t *wear, size_t wear_len,
-                    uint64_t *marks, size_t marks_len,
-                    uint32_t *stamps, size_t stamps_len,
-                    uint32_t region, uint64_t serial,
-                    const uint8_t *address, size_t address_len)
-{
-    struct board b = make_board(s, alpha, beta, d, mu, gamma, c, n, e);
-    struct lent l = { chip, ct, bt, fst, bst, wear, marks, stamps };
-    struct box box = { serial, address };
-    uint32_t reply = refuse_board(&b, chip_len, ct_len, bt_len, fst_len,
-                                  bst_len, wear_len, marks_len, stamps_len);
-
-    look_at(&b, chip, ct, bt, fst, bst, wear, marks, stamps);
-    if (reply == ACCEPTED)
-        reply = refuse_ledger(&b, region, address_len);
-    if (reply != ACCEPTED)
-        return answer(reply, 0, 0);
-    return enter_box(&b, &l, region, &box);
-}
-
-/* The first record of a region that has a serial, or NULL. */
-static const uint8_t *record_with(const struct board *b, uint32_t region,
-                                  uint64_t serial)
-{
-    uint32_t clusters = clusters_of(b, region);
-
-    for (uint32_t i = 0; i < clusters; i++) {
-        const uint8_t *sector = sectors_of(b, region, i);
-
-        if (sector == NULL)
-            continue;
-        for (uint32_t place = 0; place < b->alpha; place++, sector += b->page)
-            if (word_at(sector + 4) == serial && is_record(b, sector))
-                return sector;
-    }
-    return NULL;
-}
-
-/* Looks a box up in the ledger of a region. */
-uint64_t fast_lookup(uint32_t s, uint32_t alpha, uint32_t beta, uint32_t d,
-                     uint32_t mu, uint32_t gamma, uint32_t c, uint32_t n,
-                     uint32_t e,
-                     const uint8_t *chip, size_t chip_len,
-                     const uint16_t *ct, size_t ct_len,
-                     const uint16_t *bt, size_t bt_len,
-                     const uint16_t *fst, size_t fst_len,
-                     const uint8_t *bst, size_t bst_len,
-                     const uint32_t *wear, size_t wear_len,
-                     const uint64_t *marks, size_t marks_len,
-                     const uint32_t *stamps, size_t stamps_len,
-                     uint32_t region, uint64_t serial,
-                     uint8_t *address, size_t address_len)
-{
-    struct board b = make_board(s, alpha, beta, d, mu, gamma, c, n, e);
-    uint32_t reply = refuse_board(&b, chip_len, ct_len, bt_len, fst_len,
-                                  bst_len, wear_len, marks_len, stamps_len);
-    const uint8_t *record;
-
-    look_at(&b, chip, ct, bt, fst, bst, wear, marks, stamps);
-    if (reply == ACCEPTED)
-        reply = refuse_ledger(&b, region, address_len);
-    if (reply != ACCEPTED)
-        return answer(reply, 0, 0);
-    record = record_with(&b, region, serial);
-    if (record != NULL)
-        memcpy(address, record + 12, ADDRESS);
-    return answer(ACCEPTED, record != NULL, 0);
 }

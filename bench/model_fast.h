@@ -1,8 +1,8 @@
 /*
- * model_fast.h - document 01's calls with 02's marks, stamps, queue, start,
- * worn blocks, salvage and ledger in plain C, written for speed.
+ * model_fast.h - document 01's calls with 02's marks, stamps, queue, start and
+ * worn blocks in plain C, written for speed.
  *
- * The eight calls have the signatures of cnftl.h under the prefix fast_ and
+ * The five calls have the signatures of cnftl.h under the prefix fast_ and
  * the same outcome.  They are what the product's speed is measured against.
  */
 #ifndef MODEL_FAST_H
@@ -15,8 +15,5 @@ extern __typeof__(cnftl_read) fast_read;
 extern __typeof__(cnftl_write) fast_write;
 extern __typeof__(cnftl_queue) fast_queue;
 extern __typeof__(cnftl_start) fast_start;
-extern __typeof__(cnftl_salvage) fast_salvage;
-extern __typeof__(cnftl_enter) fast_enter;
-extern __typeof__(cnftl_lookup) fast_lookup;
 
 #endif

@@ -9,10 +9,7 @@
  *
  * Two rows are of a batch of 1,000 writes: as one queue, for which both sides
  * check the state once, and as single writes, of which there is one batch only.
- * Two are of a start: on a full board, and with a block left over besides.  Two
- * are of a salvage: of a full board that is orderly, and of one with a block
- * broken.  Two are of the ledger, on a full board whose region 0 holds records:
- * an entry in its last sector, and a lookup of the record there.
+ * Two are of a start: on a full board, and with a block left over besides.
  *
  * One row of the last board, of the largest blocks and regions, F = 256 and
  * gamma = 16, is the work of a write with reclaim without the check of the
@@ -85,53 +82,6 @@ struct timed {
     uint32_t erases;
 };
 
-/* The call on the product.  An entry and a lookup, in the ledger of region 0,
-   take the sector for the serial. */
-static uint64_t product_call(char kind, uint32_t lba)
-{
-    size_t len = product.params.s;
-
-    switch (kind) {
-    case 'F':
-        return cnftl_board_format(&product);
-    case 'S':
-        return cnftl_board_start(&product);
-    case 'V':
-        return cnftl_board_salvage(&product);
-    case 'E':
-        return cnftl_board_enter(&product, 0, lba, data[0]);
-    case 'K':
-        return cnftl_board_lookup(&product, 0, lba, data[0]);
-    case 'R':
-        return cnftl_board_read(&product, lba, 1, data[0], len);
-    default:
-        return cnftl_board_write(&product, lba, 1, data[0], len);
-    }
-}
-
-/* The same call on the plain C. */
-static uint64_t plain_call(char kind, uint32_t lba)
-{
-    size_t len = plain.params.s;
-
-    switch (kind) {
-    case 'F':
-        return fast_format(CNFTL_BOARD(&plain));
-    case 'S':
-        return fast_start(CNFTL_BOARD(&plain));
-    case 'V':
-        return fast_salvage(CNFTL_BOARD(&plain));
-    case 'E':
-        return fast_enter(CNFTL_BOARD(&plain), 0, lba, data[1], 6);
-    case 'K':
-        return fast_lookup(CNFTL_BOARD(&plain), 0, lba, data[1], 6);
-    case 'R':
-        return fast_read(CNFTL_BOARD(&plain), lba, 1, data[1], len);
-    default:
-        return fast_write(CNFTL_BOARD(&plain), lba, 1, data[1], len);
-    }
-}
-
 /* One call on both sides, timed. */
 static struct timed timed_call(char kind, uint32_t lba)
 {
@@ -139,9 +89,15 @@ static struct timed timed_call(char kind, uint32_t lba)
     double start = now(), middle, end;
     uint64_t a, b;
 
-    a = product_call(kind, lba);
+    a = kind == 'F' ? cnftl_board_format(&product)
+      : kind == 'S' ? cnftl_board_start(&product)
+      : kind == 'R' ? cnftl_board_read(&product, lba, 1, data[0], len)
+                    : cnftl_board_write(&product, lba, 1, data[0], len);
     middle = now();
-    b = plain_call(kind, lba);
+    b = kind == 'F' ? fast_format(CNFTL_BOARD(&plain))
+      : kind == 'S' ? fast_start(CNFTL_BOARD(&plain))
+      : kind == 'R' ? fast_read(CNFTL_BOARD(&plain), lba, 1, data[1], len)
+                    : fast_write(CNFTL_BOARD(&plain), lba, 1, data[1], len);
     end = now();
     assert(a == b && cnftl_reply_of(a) == CNFTL_ACCEPTED);
     assert(memcmp(data[0], data[1], len) == 0);
@@ -385,101 +341,6 @@ static void time_starts(const char *name, double look)
     print_row(name, "start, a block left", 0, look);
 }
 
-/* Fills a board anew, on a chip without marks and wear, and makes one page of
-   its second block wrong. */
-static void break_block(const struct cnftl_board *b)
-{
-    const struct cnftl_params *p = &b->params;
-    size_t block = cnftl_pages_per_block(p) * cnftl_page_bytes(p);
-
-    memset(b->chip, 255, cnftl_chip_bytes(p));
-    memset(b->wear, 0, p->n * sizeof *b->wear);
-    fast_format(CNFTL_BOARD(b));
-    for (uint32_t r = 0; r < p->mu; r++)
-        fill_region(b, r, p->beta * p->d);
-    b->chip[block + p->s + 12] = 0;
-}
-
-/* The rows of a salvage of a full board, with nothing wrong and with a block
-   broken. */
-static void time_salvages(const char *name, double look)
-{
-    double end = begin_row();
-
-    fill_boards(product.params.beta * product.params.d);
-    while (goes_on(0, end))
-        time_call('V', 0);
-    print_row(name, "salvage, all sound", 0, look);
-    end = begin_row();
-    while (goes_on(0, end)) {
-        break_block(&product);
-        break_block(&plain);
-        time_call('V', 0);
-    }
-    print_row(name, "salvage, a block broken", 0, look);
-}
-
-/* A record for each page of region 0, with the serial and the address of its
-   sector's number. */
-static void put_records(const struct cnftl_board *b)
-{
-    const struct cnftl_params *p = &b->params;
-    uint32_t pages = p->gamma * p->beta * p->d * p->alpha;
-
-    for (uint32_t i = 0; i < pages; i++) {
-        uint8_t *page = b->chip + i * cnftl_page_bytes(p), *spare = page + p->s;
-
-        memset(page, 255, p->s);
-        memset(page + 4, 0, 14);
-        memcpy(page, "BOXR", 4);
-        for (int j = 0; j < 4; j++) {
-            uint32_t cluster = spare[0] | (uint32_t)spare[1] << 8
-                             | (uint32_t)spare[2] << 16;
-
-            page[4 + j] = (uint8_t)((cluster * p->alpha + spare[4]) >> 8 * j);
-            page[12 + j] = page[4 + j];
-        }
-    }
-}
-
-/* Takes the record of a sector off the page that holds it. */
-static void take_off(const struct cnftl_board *b, uint32_t lba)
-{
-    const struct cnftl_params *p = &b->params;
-    uint32_t list[CNFTL_WHY_ENTRIES];
-    size_t page;
-
-    assert(cnftl_board_why(b, lba, list) == CNFTL_ACCEPTED);
-    page = list[CNFTL_WHY_PHYSICAL] * cnftl_pages_per_block(p)
-         + list[CNFTL_WHY_FRAME] * p->alpha + lba % p->alpha;
-    memset(b->chip + page * cnftl_page_bytes(p), 255, p->s);
-}
-
-/* The rows of the ledger of a full board's region 0: entries in its last
-   sector, each taken off before the next, and lookups of it. */
-static void time_ledger(const char *name, double look)
-{
-    const struct cnftl_params *p = &product.params;
-    uint32_t last = cnftl_region_lba(p, 0, cnftl_region_sectors(p, 0) - 1);
-    double end;
-
-    fill_boards(p->beta * p->d);
-    put_records(&product);
-    put_records(&plain);
-    memset(data, 7, sizeof data);
-    end = begin_row();
-    while (goes_on(0, end)) {
-        take_off(&product, last);
-        take_off(&plain, last);
-        time_call('E', last);
-    }
-    print_row(name, "enter, region filled", 0, look);
-    end = begin_row();
-    while (goes_on(0, end))
-        time_call('K', last);
-    print_row(name, "lookup, last record", 0, look);
-}
-
 /* All rows of one board. */
 static void time_board(const char *name, const struct cnftl_params *p,
                        double look)
@@ -497,10 +358,7 @@ static void time_board(const char *name, const struct cnftl_params *p,
     print_row(name, "write with reclaim", 1, look);
     if (p->mu > 2)
         time_batches(name, look);
-    if (p->s >= CNFTL_LEDGER_SECTOR)
-        time_ledger(name, look);
     time_starts(name, look);
-    time_salvages(name, look);
     assert(same_boards());
     free_board(&product);
     free_board(&plain);
@@ -555,7 +413,6 @@ static void time_largest(const char *name, double look)
     print_row(name, "write with reclaim", 1, look);
     print_work(name);
     time_starts(name, look);
-    time_salvages(name, look);
     assert(same_boards());
     free_board(&product);
     free_board(&plain);

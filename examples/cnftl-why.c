@@ -6,9 +6,8 @@
  *
  * IMAGE is a file with a whole board in it (docs/IMAGE.md), which is read and
  * not changed.  The answer of cnftl_why is printed in words, with a drawing of
- * the frames that it speaks of.  Of a board that is not orderly it says what a
- * salvage would take out and clear, or why it is refused; of such a board, and
- * of one whose tables are missing, what a start from the chip would make of the
+ * the frames that it speaks of.  Of a board that is not orderly, or whose
+ * tables are missing, it says what a start from the chip would make of the
  * sector.
  *
  * Exit status: 0 the answer was given, 1 the layer refused the question, since
@@ -16,7 +15,7 @@
  * image of this version, or cannot be read, 3 the board is not orderly, and the
  * first rule that it breaks was told.
  */
-#include "salvage.h"
+#include "image.h"
 
 #include <stdarg.h>
 #include <stdio.h>
@@ -293,34 +292,6 @@ static void tell_answer(const struct cnftl_board *b, uint32_t region,
                "^ the frame meant\n");
 }
 
-/* Tells what a salvage, which is made on a copy of the board, takes out and
-   clears, and how the sector reads after it; or why it is refused. */
-static void tell_salvage(const struct cnftl_board *b, uint32_t lba)
-{
-    struct cnftl_board after;
-    uint32_t list[CNFTL_WHY_ENTRIES];
-    uint64_t a;
-    struct image_result r = salvage_copy(&after, b, &a);
-
-    if (r.fault != IMAGE_FINE)
-        fail(NO_ANSWER, "%s", r.message);
-    if (cnftl_reply_of(a) != CNFTL_ACCEPTED) {
-        printf("A salvage is refused with reply %lu:\n  %s.\n",
-               (unsigned long)cnftl_reply_of(a), salvage_refusal(b));
-    } else {
-        salvage_tell(b, &after);
-        cnftl_board_why(&after, lba, list);
-        printf("After it the sector reads ");
-        if (list[CNFTL_WHY_HELD])
-            printf("from frame %lu of physical block %lu.\n",
-                   (unsigned long)list[CNFTL_WHY_FRAME],
-                   (unsigned long)list[CNFTL_WHY_PHYSICAL]);
-        else
-            printf("as 255 throughout.\n");
-    }
-    image_free_board(&after);
-}
-
 /* Tells what would be so after a start from the chip, which is made on the
    board in memory. */
 static void tell_start(const struct cnftl_board *b, uint32_t lba)
@@ -393,8 +364,6 @@ int main(int argc, char **argv)
            (unsigned long)(lba / b.params.alpha), (unsigned long)region);
     if (reply == CNFTL_NOT_ORDERLY) {
         tell_rule(list, bare);
-        if (!bare)
-            tell_salvage(&b, lba);
         tell_start(&b, lba);
     } else {
         tell_answer(&b, region, list);

@@ -2,7 +2,6 @@
  * control.c - the bench's control program in miniature.
  *
  *   control IMAGE
- *   control IMAGE salvage [--yes]
  *   control --help
  *
  * IMAGE is a file with a whole board in it (docs/IMAGE.md).  If there is no
@@ -14,19 +13,13 @@
  * enters a few new serials in each, every one in a sector of its own, reads
  * them back, and writes the image.
  *
- * A board that is not orderly, and whose chip is none to start from, may be
- * salvaged: the program says which blocks that takes out and which sectors it
- * loses, asks on standard input unless --yes is given, and then writes the
- * salvaged image.
- *
  * Exit status: 0 done, 1 wrong use, 2 the file cannot be read or written, or
  * there is no memory for it, 3 the file is no board image of this version,
  * 4 the image is too short or too long, 5 the layer refused a call, 6 a serial
  * did not read back, 7 the board has one region only, 8 no block is left for a
- * serial, while all that were entered before still read, 9 a salvage was not
- * wanted, and the image is as it was.
+ * serial, while all that were entered before still read.
  */
-#include "salvage.h"
+#include "image.h"
 
 #include <stdarg.h>
 #include <stdio.h>
@@ -36,8 +29,7 @@
 /* The exit statuses. */
 enum {
     DONE = 0, WRONG_USE = 1, NO_ACCESS = 2, NO_BOARD = 3, WRONG_SIZE = 4,
-    REFUSED = 5, NOT_READ_BACK = 6, ONE_REGION = 7, WORN_OUT = 8,
-    NOT_WANTED = 9
+    REFUSED = 5, NOT_READ_BACK = 6, ONE_REGION = 7, WORN_OUT = 8
 };
 enum { LEDGERS = 2, NEW_SERIALS = 3, RECORD_BYTES = 15 };
 
@@ -136,19 +128,13 @@ static unsigned long blocks_in(const struct cnftl_board *b, uint8_t state)
     return count;
 }
 
-/* Starts a board from its chip, and says what was found there; or that it may
-   be salvaged, where it has tables. */
+/* Starts a board from its chip, and says what was found there. */
 static void start_board(const char *path, const char *why,
                         const struct cnftl_board *b, struct counts *counts)
 {
     unsigned long swept = counts->erases;
-    uint64_t a = cnftl_board_start(b);
 
-    if (cnftl_reply_of(a) == CNFTL_NOT_ORDERLY && !cnftl_board_is_cut(b))
-        fail(REFUSED, "%s: %s, and a start from its chip was refused with "
-             "reply %d; control %s salvage says what can be kept", path, why,
-             CNFTL_NOT_ORDERLY, path);
-    check("start", a, counts);
+    check("start", cnftl_board_start(b), counts);
     swept = counts->erases - swept;
     printf("%s: %s, so it was started from its chip\n", path, why);
     printf("  %lu blocks in use, %lu free, %lu bad or worn; "
@@ -205,92 +191,6 @@ static struct cnftl_board open_board(const char *path, struct counts *counts)
     else if (!is_orderly(&b))
         start_misfit(path, &b, counts);
     return b;
-}
-
-/* ==== Salvage ========================================================== */
-
-/* Tells where a start from the chip alone would be accepted. */
-static void tell_start(const char *path, const struct cnftl_board *b)
-{
-    struct cnftl_board copy;
-    struct image_result r = image_copy_board(&copy, b);
-
-    check_image(path, &r);
-    if (cnftl_reply_of(cnftl_board_start(&copy)) == CNFTL_ACCEPTED)
-        printf("A start from its chip would lose no record: control %s makes "
-               "it.\n", path);
-    image_free_board(&copy);
-}
-
-/* Asks, and takes a line that begins with y for a yes. */
-static int is_wanted(void)
-{
-    char line[16];
-
-    printf("Salvage the board? (y/n) ");
-    fflush(stdout);
-    return fgets(line, sizeof line, stdin) != NULL
-        && (line[0] == 'y' || line[0] == 'Y');
-}
-
-/* The board in the file, which has its tables, or the end of the program. */
-static struct cnftl_board load_whole(const char *path)
-{
-    struct cnftl_board b;
-    struct image_result r = image_load(&b, path);
-
-    if (r.fault == IMAGE_NO_TABLES)
-        fail(REFUSED, "%s: %s, and a salvage needs them; control %s starts it "
-             "from its chip", path, r.message, path);
-    check_image(path, &r);
-    return b;
-}
-
-/* Tells what a salvage of a board that is not orderly does, and makes it where
-   that is wanted. */
-static int salvage_board(const char *path, const struct cnftl_board *b,
-                         int sure)
-{
-    struct cnftl_board after;
-    uint32_t list[CNFTL_WHY_ENTRIES];
-    uint64_t a;
-    struct image_result r = salvage_copy(&after, b, &a);
-
-    check_image(path, &r);
-    cnftl_board_why(b, 0, list);
-    printf("%s: not orderly: %s\n", path,
-           cnftl_rule_text(list[CNFTL_WHY_RULE]));
-    tell_start(path, b);
-    if (cnftl_reply_of(a) != CNFTL_ACCEPTED)
-        fail(REFUSED, "%s: salvage was refused with reply %lu: %s", path,
-             (unsigned long)cnftl_reply_of(a), salvage_refusal(b));
-    salvage_tell(b, &after);
-    if (sure || is_wanted()) {
-        save(path, &after);
-        printf("%s: salvaged, %lu pages programmed, %lu blocks erased\n", path,
-               (unsigned long)cnftl_programs_of(a),
-               (unsigned long)cnftl_erases_of(a));
-        sure = 1;
-    } else {
-        printf("%s: left as it was\n", path);
-    }
-    image_free_board(&after);
-    return sure ? DONE : NOT_WANTED;
-}
-
-/* Salvages the board in a file, unless it is orderly. */
-static int salvage(const char *path, int sure)
-{
-    struct cnftl_board b = load_whole(path);
-    int status = DONE;
-
-    if (is_orderly(&b))
-        printf("%s: the board is orderly, so there is nothing to salvage\n",
-               path);
-    else
-        status = salvage_board(path, &b, sure);
-    image_free_board(&b);
-    return status;
 }
 
 /* ==== The serials ====================================================== */
@@ -438,37 +338,25 @@ static int run(const struct cnftl_board *b, struct counts *counts)
 }
 
 /* Opens the board, works on its ledgers, and saves it. */
-static int keep_ledgers(const char *path)
+int main(int argc, char **argv)
 {
     struct counts counts = { 0, 0 };
-    struct cnftl_board b = open_board(path, &counts);
-    int worn_out = run(&b, &counts);
+    struct cnftl_board b;
+    int worn_out;
 
-    save(path, &b);
+    if (argc != 2)
+        fail(WRONG_USE, "use: control IMAGE");
+    if (strcmp(argv[1], "--help") == 0) {
+        printf("use: control IMAGE\n"
+               "Lists the two ledgers of serials on the board in the file, "
+               "and enters %d in each.\n", NEW_SERIALS);
+        return DONE;
+    }
+    b = open_board(argv[1], &counts);
+    worn_out = run(&b, &counts);
+    save(argv[1], &b);
     printf("%lu pages programmed, %lu blocks erased\n", counts.programs,
            counts.erases);
     image_free_board(&b);
     return worn_out ? WORN_OUT : DONE;
-}
-
-/* Does what the command line asks for. */
-int main(int argc, char **argv)
-{
-    int sure = argc == 4 && strcmp(argv[3], "--yes") == 0;
-
-    if (argc == 2 && strcmp(argv[1], "--help") == 0) {
-        printf("use: control IMAGE\n"
-               "     control IMAGE salvage [--yes]\n"
-               "Lists the two ledgers of serials on the board in the file, "
-               "and enters %d in each;\n"
-               "or says what a salvage of a board that is not orderly takes "
-               "out and loses,\nasks, unless --yes is given, and makes it.\n",
-               NEW_SERIALS);
-        return DONE;
-    }
-    if (argc == 2)
-        return keep_ledgers(argv[1]);
-    if ((argc == 3 || sure) && strcmp(argv[2], "salvage") == 0)
-        return salvage(argv[1], sure);
-    fail(WRONG_USE, "use: control IMAGE [salvage [--yes]]");
 }

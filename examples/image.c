@@ -115,27 +115,6 @@ void image_free_board(struct cnftl_board *b)
     free(b->stamps);
 }
 
-/* A copy of a board in new memory. */
-struct image_result image_copy_board(struct cnftl_board *to,
-                                     const struct cnftl_board *from)
-{
-    const struct cnftl_params *p = &from->params;
-    struct image_result r = image_new_board(to, p);
-
-    if (r.fault != IMAGE_FINE)
-        return r;
-    memcpy(to->chip, from->chip, cnftl_chip_bytes(p));
-    memcpy(to->ct, from->ct, cnftl_ct_entries(p) * sizeof *to->ct);
-    memcpy(to->bt, from->bt, cnftl_bt_entries(p) * sizeof *to->bt);
-    memcpy(to->fst, from->fst, cnftl_fst_entries(p) * sizeof *to->fst);
-    memcpy(to->bst, from->bst, cnftl_bst_entries(p) * sizeof *to->bst);
-    memcpy(to->wear, from->wear, cnftl_wear_entries(p) * sizeof *to->wear);
-    memcpy(to->marks, from->marks, cnftl_marks_entries(p) * sizeof *to->marks);
-    memcpy(to->stamps, from->stamps,
-           cnftl_stamps_entries(p) * sizeof *to->stamps);
-    return fine;
-}
-
 /* ==== Reading ========================================================== */
 
 /* Takes bytes from the image; 0 if it does not give them. */

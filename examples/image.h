@@ -29,10 +29,6 @@ struct image_result image_new_board(struct cnftl_board *b,
                                     const struct cnftl_params *p);
 void image_free_board(struct cnftl_board *b);
 
-/* A copy of a board in new memory. */
-struct image_result image_copy_board(struct cnftl_board *to,
-                                     const struct cnftl_board *from);
-
 /* Reads the board in a file into new memory; with a fault there is none, but
    with IMAGE_NO_TABLES: then the chip is there, the wear is 0, and the other
    tables are all ones, so that a start may rebuild them. */

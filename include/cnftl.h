@@ -7,15 +7,14 @@
  * length of one call.  To keep a board, keep these eight arrays and its
  * parameters.
  *
- * There are eight calls: cnftl_format, cnftl_read, cnftl_write, cnftl_queue,
- * cnftl_release, cnftl_why, cnftl_start and cnftl_salvage.  Four of them also
- * come as a call that loses power on the way, for tests: cnftl_format_cut,
- * cnftl_write_cut, cnftl_queue_cut and cnftl_start_cut.  Two calls more,
- * cnftl_enter and cnftl_lookup, keep a ledger of boxes in a region.  Each one
- * returns for every request and for every content of the lent memory.  What
- * cannot be done is refused by number, and a refusal changes no lent byte, but
- * for two lists: that of a cnftl_why is filled with reply 7 too, and a queue
- * writes the answer of a refused item.
+ * There are seven calls: cnftl_format, cnftl_read, cnftl_write, cnftl_queue,
+ * cnftl_release, cnftl_why and cnftl_start.  Four of them also come as a call
+ * that loses power on the way, for tests: cnftl_format_cut, cnftl_write_cut,
+ * cnftl_queue_cut and cnftl_start_cut.  Each one returns for every request and
+ * for every content of the lent memory.  What cannot be done is refused by
+ * number, and a refusal changes no lent byte, but for two lists: that of a
+ * cnftl_why is filled with reply 7 too, and a queue writes the answer of a
+ * refused item.
  *
  * Which sectors belong to a region: sector lba is in cluster lba / alpha, and
  * cluster k is in region k mod mu.  So the sectors of a region, which are those
@@ -26,8 +25,8 @@
  * it out.
  *
  * A slice passes as a pointer and then a length in ELEMENTS (bytes for chip,
- * bst, data and address; 16-bit entries for ct, bt and fst; 32-bit entries for
- * wear, stamps, list and requests; 64-bit entries for marks and answers).
+ * bst and data; 16-bit entries for ct, bt and fst; 32-bit entries for wear,
+ * stamps, list and requests; 64-bit entries for marks and answers).
  *
  * What the tables say (regions, virtual blocks and frames count from 0; so do
  * segments, within their region: segment g is in virtual block g / d, and its
@@ -47,10 +46,8 @@
  *     v of region r is bit f % 64, UINT64_C(1) << f % 64, of entry
  *     CNFTL_MARK_WORDS*(r*gamma + v) + f/64.  All other bits are 0.
  *   - stamps: for each region the stamp that was taken last, 0 after a format.
- *     An accepted write, single, of a queue or of an entry in a ledger, takes
- *     the next one of its region for its pages; a start sets it to the largest
- *     one on the region's pages, and a salvage raises it to that where it is
- *     lower.
+ *     An accepted write, single or of a queue, takes the next one of its region
+ *     for its pages; a start sets it to the largest one on the region's pages.
  *     A region whose entry is 4,294,967,295 has no stamp left: its writes are
  *     refused with 9 until the next format.
  *
@@ -75,11 +72,11 @@
  *     its length is 0; that of an empty list of requests too.
  *   - Each slice is really as long as its length says.
  *   - No two slices of one call overlap: not two tables, not a table and the
- *     chip, and not the data, the list, the requests, the answers or the
- *     address and any other of them.
+ *     chip, and not the data, the list, the requests or the answers and any
+ *     other of them.
  *   - During a call nobody else writes the lent memory, and during a format,
- *     a write, a queue, a release, a start, a salvage or an entry nobody else
- *     reads it.  Calls on different boards may run at the same time.
+ *     a write, a queue, a release or a start nobody else reads it.  Calls on
+ *     different boards may run at the same time.
  *   - A board is used with the same parameters in every call, and with its own
  *     wear: with one that counts less, a block serves longer than it is rated.
  *
@@ -141,8 +138,7 @@ __attribute__((used)) static uint32_t (*const cnftl_needs_api)(void)
  * the virtual block, counted within its region, and 12 to 15 are 255.  All
  * pages of a frame have one stamp, which is the one that the write took for
  * them; the copies of a reclaim keep it.  An erased page is 255 throughout, and
- * so is the first page of a block that is worn, or that a salvage has taken
- * out, but for a 0 in spare byte 5.
+ * so is the first page of a worn block but for a 0 in spare byte 5.
  */
 #define CNFTL_SPARE_BYTES 16u
 
@@ -151,11 +147,6 @@ __attribute__((used)) static uint32_t (*const cnftl_needs_api)(void)
 
 /* Words of 64 marks for each region and virtual block. */
 #define CNFTL_MARK_WORDS 4u
-
-/* Bytes of a box's hardware address, and of the smallest sector that a ledger
-   takes. */
-#define CNFTL_ADDRESS_BYTES 6u
-#define CNFTL_LEDGER_SECTOR 32u
 
 /*
  * The nine parameters of a board.  With F = beta*d frames in a block and
@@ -175,16 +166,14 @@ struct cnftl_params {
 };
 
 /*
- * The replies, checked in the order of their numbers; but 8, which a queue
- * alone has, comes right after 2, and 20 to 25, which the calls of the ledger
- * have, come right after 7.  Only CNFTL_ACCEPTED changes the board.  Later
+ * The replies, checked in the order of their numbers; 8, which a queue alone
+ * has, comes right after 2.  Only CNFTL_ACCEPTED changes the board.  Later
  * issues may add numbers.
  */
 enum cnftl_reply {
     CNFTL_ACCEPTED = 0,       /* done                                       */
     CNFTL_BAD_PARAMETER = 1,  /* a parameter breaks the rules above         */
-    CNFTL_WRONG_LENGTH = 2,   /* chip, table, list or address of the wrong
-                                 length                                     */
+    CNFTL_WRONG_LENGTH = 2,   /* chip, table or list of the wrong length    */
     CNFTL_BAD_COUNT = 3,      /* count 0, or past the end of the cluster    */
     CNFTL_BAD_ADDRESS = 4,    /* lba is c*alpha or more, a cluster c or more*/
     CNFTL_WRONG_DATA = 5,     /* data length is not count*s; of an item of a
@@ -193,28 +182,18 @@ enum cnftl_reply {
     CNFTL_TOO_FEW_BLOCKS = 6, /* fewer than mu*gamma+1 blocks are not bad and
                                  not worn by the erases of this format      */
     CNFTL_NOT_ORDERLY = 7,    /* chip and tables break a cnftl_rule; of a
-                                 start: the chip is none to start from; of a
-                                 salvage: too much is wrong, see there      */
+                                 start: the chip is none to start from      */
     CNFTL_TOO_FEW_ANSWERS = 8, /* fewer places for answers than requests    */
     CNFTL_NO_STAMP_LEFT = 9,  /* a write's region has no stamp left         */
-    CNFTL_NO_BLOCK_LEFT = 10, /* a write needs a free block, to open a virtual
+    CNFTL_NO_BLOCK_LEFT = 10  /* a write needs a free block, to open a virtual
                                  block or to reclaim one, and none is free  */
-    CNFTL_SECTOR_TOO_SMALL = 20, /* a ledger needs sectors of
-                                 CNFTL_LEDGER_SECTOR bytes or more          */
-    CNFTL_NO_SUCH_REGION = 21, /* region is mu or more                      */
-    CNFTL_NO_RECORD = 22,     /* a sector of the filled part is no record   */
-    CNFTL_SERIAL_PRESENT = 23, /* a record of the ledger has the serial     */
-    CNFTL_ADDRESS_PRESENT = 24, /* a record of the ledger has the address   */
-    CNFTL_REGION_FULL = 25    /* no sector is left behind the filled part, or
-                                 the region has none                        */
 };
 
 /* The values of a BST entry. */
 enum cnftl_block_state {
     CNFTL_BLOCK_FREE = 0,
     CNFTL_BLOCK_USED = 1,
-    CNFTL_BLOCK_RESERVED = 2 /* bad from the maker, worn, or taken out by a
-                                salvage */
+    CNFTL_BLOCK_RESERVED = 2 /* bad from the maker, or worn */
 };
 
 /* The entries of the list that a cnftl_why fills, and their number. */
@@ -339,60 +318,6 @@ uint64_t cnftl_start(uint32_t s, uint32_t alpha, uint32_t beta, uint32_t d,
                      uint32_t *wear, size_t wear_len,
                      uint64_t *marks, size_t marks_len,
                      uint32_t *stamps, size_t stamps_len);
-
-/*
- * Salvage a board that is not orderly: take its broken blocks out and mend its
- * tables, so that it goes on with all the rest.  It is for a board whose calls
- * are refused with 7: a page that went bad, or an entry that was spoilt.  Where
- * the tables are gone or spoilt and the chip is as the calls left it, a start
- * is the better call: it loses no accepted write.  Where a start is refused
- * with 7 too, try a salvage.
- *
- * Broken is a used block whose pages break CNFTL_RULE_USED_BLOCK, a wholly
- * erased one too; a stamp above the region's entry alone is no such break.  It
- * is erased, its wear goes up by one unless it is 4,294,967,295, spare byte 5
- * of its first page becomes 0, worn or not, and it becomes reserved.  To every
- * later format and start it is a bad block.  Its BT entry becomes none.
- *
- * Then the tables follow what is left.  A CT entry that names no segment of its
- * region with a whole frame of its cluster becomes none: the sectors of such a
- * cluster read as 255 throughout, also where an older frame of it is left.
- * That is all that is lost, and it shows in ct: compare it with a copy from
- * before.  An FST entry that breaks CNFTL_RULE_FST names the last programmed
- * segment of the region's block that is not full, else of its lowest virtual
- * block that has a block, else none.  A stamps entry below the largest stamp on
- * the region's pages becomes that one.  The marks are worked out again.
- *
- * Afterwards the board is orderly.  A cluster whose CT entry was not cleared
- * reads from its valid frame as before; blocks that were not broken keep every
- * byte and their wear, and all other entries stay.  A board that is orderly is
- * not changed, so a second salvage changes nothing.  Blocks may be few then:
- * with mu*gamma or fewer not reserved a write may be refused with 10.
- *
- * What a board that a salvage has changed no longer promises until its next
- * format: that a start finds every accepted write and nothing older (after a
- * power loss it may be refused with 7, or bring an older frame back, also of a
- * cluster that was cleared), and that the requests to a region alone decide its
- * answers.  So read it out, and format it at the next occasion.
- *
- * Replies 1, 2, 7, 0.  7 is given, before anything is stored, exactly when a
- * BST entry is above 2; a BT entry is neither none nor below n; BT names a
- * block twice; a block is used and not named, or named and not used; a free
- * block is not erased throughout; or a region has two blocks that are not
- * broken and not full.  Counts: one program and one erase for each block taken
- * out.
- */
-uint64_t cnftl_salvage(uint32_t s, uint32_t alpha, uint32_t beta, uint32_t d,
-                       uint32_t mu, uint32_t gamma, uint32_t c, uint32_t n,
-                       uint32_t e,
-                       uint8_t *chip, size_t chip_len,
-                       uint16_t *ct, size_t ct_len,
-                       uint16_t *bt, size_t bt_len,
-                       uint16_t *fst, size_t fst_len,
-                       uint8_t *bst, size_t bst_len,
-                       uint32_t *wear, size_t wear_len,
-                       uint64_t *marks, size_t marks_len,
-                       uint32_t *stamps, size_t stamps_len);
 
 /*
  * Read count sectors from sector lba on into data.  They must lie in one
@@ -536,71 +461,6 @@ uint64_t cnftl_why(uint32_t s, uint32_t alpha, uint32_t beta, uint32_t d,
                    uint32_t *list, size_t list_len);
 
 /*
- * Enter a box, its serial and its hardware address, in the ledger of a region.
- *
- * A record is one sector: the bytes BOXR, then the serial in 8 bytes, low byte
- * first, then the address in 6, as they are lent, and the rest 255.  A sector
- * is taken for a record exactly if it begins with BOXR and is 255 from byte 18
- * on; s must be CNFTL_LEDGER_SECTOR or more.  The ledger is the sectors of the
- * region in rising order (cnftl_region_lba), and its filled part ends with the
- * last of them that is not 255 throughout.  The record goes into the sector
- * behind it, by a write of that one sector.
- *
- * A serial or an address that is there already is refused.  So after any
- * entries from a format on no two records agree in either, and none is lost,
- * also over starts and power losses, as long as no write, release or salvage
- * changes the region otherwise.  Entries in one region know nothing of the
- * ledgers of others.  An entry that power interrupts is, after the start, there
- * as a whole or not at all; so make it again: it is accepted, or refused with
- * 23 because it stands.
- *
- * Replies 1, 2 (also where address_len is not CNFTL_ADDRESS_BYTES), 7, 20, 21
- * (region is mu or more), 22 (a sector of the filled part is no record, one
- * that is 255 throughout too), 23 (the serial is there), 24 (the address is
- * there), 25 (the filled part is the whole region; also of a region without
- * sectors), 9 and 10 as of the write, 0.  Each is given after a look at the
- * whole filled part: 24 only where no record has the serial, wherever the two
- * stand.  Counts: those of the write.
- */
-uint64_t cnftl_enter(uint32_t s, uint32_t alpha, uint32_t beta, uint32_t d,
-                     uint32_t mu, uint32_t gamma, uint32_t c, uint32_t n,
-                     uint32_t e,
-                     uint8_t *chip, size_t chip_len,
-                     uint16_t *ct, size_t ct_len,
-                     uint16_t *bt, size_t bt_len,
-                     uint16_t *fst, size_t fst_len,
-                     uint8_t *bst, size_t bst_len,
-                     uint32_t *wear, size_t wear_len,
-                     uint64_t *marks, size_t marks_len,
-                     uint32_t *stamps, size_t stamps_len,
-                     uint32_t region, uint64_t serial,
-                     const uint8_t *address, size_t address_len);
-
-/*
- * Look a box up by its serial in the ledger of a region.  Where a record has
- * the serial, the first such one in rising order of the sectors, its address is
- * put into address, and the answer has a 1 where others have their programs
- * (cnftl_found); where none has it, the address stays as it was and there is a
- * 0.  Sectors that are no record are passed over, so a ledger that takes no
- * entries with 22 can still be asked.
- * Replies 1, 2 (also where address_len is not CNFTL_ADDRESS_BYTES), 7, 20, 21,
- * 0; 0 whether found or not.  Writes address only, and that only where found.
- */
-uint64_t cnftl_lookup(uint32_t s, uint32_t alpha, uint32_t beta, uint32_t d,
-                      uint32_t mu, uint32_t gamma, uint32_t c, uint32_t n,
-                      uint32_t e,
-                      const uint8_t *chip, size_t chip_len,
-                      const uint16_t *ct, size_t ct_len,
-                      const uint16_t *bt, size_t bt_len,
-                      const uint16_t *fst, size_t fst_len,
-                      const uint8_t *bst, size_t bst_len,
-                      const uint32_t *wear, size_t wear_len,
-                      const uint64_t *marks, size_t marks_len,
-                      const uint32_t *stamps, size_t stamps_len,
-                      uint32_t region, uint64_t serial,
-                      uint8_t *address, size_t address_len);
-
-/*
  * Four calls with a budget: they leave what the plain call would leave if the
  * power went while it works.  They are for tests of how a firmware, and a board
  * with it, comes back from a power loss; in service none of them is needed.
@@ -722,12 +582,6 @@ static inline uint32_t cnftl_erases_of(uint64_t answer)
     return (uint32_t)(answer >> 32);
 }
 
-/* Whether the answer of a cnftl_lookup says that the box was found. */
-static inline int cnftl_found(uint64_t answer)
-{
-    return cnftl_programs_of(answer) == 1;
-}
-
 /* A reply in words. */
 static inline const char *cnftl_reply_text(uint32_t reply)
 {
@@ -743,12 +597,6 @@ static inline const char *cnftl_reply_text(uint32_t reply)
     case CNFTL_TOO_FEW_ANSWERS: return "fewer places for answers than requests";
     case CNFTL_NO_STAMP_LEFT:   return "the region has no stamp left";
     case CNFTL_NO_BLOCK_LEFT:   return "no free block is left for the write";
-    case CNFTL_SECTOR_TOO_SMALL: return "the sectors are too small for records";
-    case CNFTL_NO_SUCH_REGION:  return "the board has no such region";
-    case CNFTL_NO_RECORD:       return "a sector of the ledger is no record";
-    case CNFTL_SERIAL_PRESENT:  return "the serial is already in the ledger";
-    case CNFTL_ADDRESS_PRESENT: return "the address is already in the ledger";
-    case CNFTL_REGION_FULL:     return "the ledger's region is full";
     default:                    return "unknown reply";
     }
 }
@@ -968,11 +816,6 @@ static inline uint64_t cnftl_board_start(const struct cnftl_board *b)
     return cnftl_start(CNFTL_BOARD(b));
 }
 
-static inline uint64_t cnftl_board_salvage(const struct cnftl_board *b)
-{
-    return cnftl_salvage(CNFTL_BOARD(b));
-}
-
 static inline uint64_t cnftl_board_read(const struct cnftl_board *b,
                                         uint32_t lba, uint32_t count,
                                         uint8_t *data, size_t data_len)
@@ -1013,23 +856,6 @@ static inline uint64_t cnftl_board_why(const struct cnftl_board *b,
                                        uint32_t lba, uint32_t *list)
 {
     return cnftl_why(CNFTL_BOARD(b), lba, list, CNFTL_WHY_ENTRIES);
-}
-
-/* The calls of the ledger: an address has CNFTL_ADDRESS_BYTES bytes. */
-static inline uint64_t cnftl_board_enter(const struct cnftl_board *b,
-                                         uint32_t region, uint64_t serial,
-                                         const uint8_t *address)
-{
-    return cnftl_enter(CNFTL_BOARD(b), region, serial, address,
-                       CNFTL_ADDRESS_BYTES);
-}
-
-static inline uint64_t cnftl_board_lookup(const struct cnftl_board *b,
-                                          uint32_t region, uint64_t serial,
-                                          uint8_t *address)
-{
-    return cnftl_lookup(CNFTL_BOARD(b), region, serial, address,
-                        CNFTL_ADDRESS_BYTES);
 }
 
 /* The calls with a budget, and whether the last of them was cut. */

@@ -4,7 +4,7 @@
 set -u
 cd "$(dirname "$0")/.."
 . tests/c/common.sh
-calls=${CALLS:-60000} seed=${SEED:-2}
+calls=${CALLS:-40000} seed=${SEED:-2}
 "$cc" -std=c11 -O2 "${strict[@]}" ${link[@]+"${link[@]}"} -o "$room/fuzz" tests/c/fuzz.c tests/c/model.c "$archive" || exit 2
 check "the archive and the model, $calls calls from seed $seed" run "$room/fuzz" --calls "$calls" --seed "$seed"
 counted

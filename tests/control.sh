@@ -1,6 +1,6 @@
 #!/usr/bin/env bash
-# Builds examples/control.c, and runs it as a bench would: on a new board, on the same board until both of its ledgers are full, on boards to be
-# salvaged, and on files that are not right. The output and the statuses are compared with what they should be.
+# Builds examples/control.c, and runs it as a bench would: on a new board, on the same board until both of its ledgers are full, and on files that are
+# not right. The output and the statuses are compared with what they should be.
 set -u
 cd "$(dirname "$0")/.."
 . tests/c/common.sh
@@ -83,139 +83,6 @@ check "cnftl-why builds" build cnftl-why
 check "half of the serials of each" fill 4
 check "no block is free" worn_out
 check "blocks wear out" wears_out
-# Salvages, of boards with twelve serials in each ledger. `asked STATUS LINE IMAGE ..` runs `control IMAGE salvage ..` with this line on its standard
-# input; its standard output should be what this function is given on its own, with nothing on standard error.
-asked() {
-    local expected=$1 line=$2 status
-    shift 2
-    cat >"$room/expected"
-    (cd "$room" && printf '%s' "$line" | run ./control "$1" salvage "${@:2}") >"$room/out" 2>"$room/err"
-    status=$?
-    diff "$room/expected" "$room/out" && [ "$status" -eq "$expected" ] && [ ! -s "$room/err" ]
-}
-ones() { printf '\\377%.0s' $(seq "$1"); }
-rule7="not orderly: a used block does not begin with frames of its virtual block and go on erased"
-rule8="not orderly: FST does not name the open block's last segment, or two blocks are not full"
-# What is said of a board with a wrong byte on the first page of block 0, up to the question.
-first_block() {
-    echo "$1: $rule7"
-    echo 'A salvage takes out 1 block, erased and marked bad:'
-    echo '  physical block 0, virtual block 0 of region 0'
-    echo 'It clears 2 clusters, which then read as 255:'
-    echo '  cluster 0, sectors 0 to 1'
-    echo '  cluster 2, sectors 4 to 5'
-    echo 'It works the marks out again.'
-}
-orderly() { asked 0 y "$@" < <(echo "$1: the board is orderly, so there is nothing to salvage"); }
-cp "$room/board" "$room/twelve"
-check "an orderly board" orderly twelve
-check "which is left as it was" cmp "$room/board" "$room/twelve"
-check "the place in a page is wrong" broken "$room/page" $((chip + spare + 4)) '\001'
-cp "$room/page" "$room/before"
-check "the board is not started" complains 5 "$room/page: its tables do not fit the chip, and a start from its chip was refused with reply 7; \
-control $room/page salvage says what can be kept" control "$room/page"
-for line in n $'maybe\n' '' $'\ny\n'; do
-    check "the answer is no: '$line'" asked 9 "$line" page < <(first_block page; echo 'Salvage the board? (y/n) page: left as it was')
-done
-check "and the board is as it was" cmp "$room/before" "$room/page"
-salvaged='salvaged, 1 pages programmed, 1 blocks erased'
-cp "$room/page" "$room/sure"
-check "the answer is yes" asked 0 $'y\n' page < <(first_block page; echo "Salvage the board? (y/n) page: $salvaged")
-check "--yes" asked 0 n sure --yes < <(first_block sure; echo "sure: $salvaged")
-check "with the same outcome" cmp "$room/page" "$room/sure"
-# Block 0 is erased but for the mark, and worn by one erase more; the other blocks and the tables of region 1 are as they were.
-taken_out() {
-    cmp <(tail -c +$((chip + 1)) "$room/page" | head -c 384) <(printf "$(ones $((spare + 5)))\\000$(ones $((384 - spare - 6)))") &&
-        [ "$(cmp -l "$room/before" "$room/page" | awk -v from="$((chip + 384))" -v to="$ct" '$1 > from && $1 <= to' | wc -l)" -eq 0 ] &&
-        [ "$(od -An -tu1 -j "$bst" -N 3 "$room/page" | tr -s ' ')" = " 2 1 1" ] &&
-        [ "$(od -An -tu4 -j $((bst + 10)) -N 8 "$room/page" | tr -s ' ')" = " 2 1" ]
-}
-check "the block is taken out, and no other" taken_out
-check "nothing is left to salvage" orderly page
-lists() { run "$room/control" "$room/page" >"$room/out" && diff <(list 12 | grep -v -x -e 'ledger 0, sector [0145]: .*') <(head -n 20 "$room/out"); }
-check "the other serials are found, and new ones entered" lists
-check "they are" [ "$(grep -c ' entered$' "$room/out")" -eq 6 ]
-
-# FST and the stamp of region 0 are wrong, and cluster 19 is said to be in segment 3: a start would lose nothing.
-several() {
-    broken "$room/tables" $((ct + 2 * 19)) '\003\000' && put "$room/tables" "$fst" '\000\000' && put "$room/tables" "$stamps" '\005'
-}
-check "tables that do not fit" several
-check "they are mended" asked 0 y tables < <(
-    echo "tables: $rule8"
-    echo 'A start from its chip would lose no record: control tables makes it.'
-    echo 'A salvage takes out no block.'
-    echo 'It clears 1 cluster, which then reads as 255:'
-    echo '  cluster 19, sectors 38 to 39'
-    echo 'It mends FST of region 0: segment 0 becomes 1.'
-    echo 'It raises the last stamp of region 0: 5 becomes 12.'
-    echo 'Salvage the board? (y/n) tables: salvaged, 0 pages programmed, 0 blocks erased'
-)
-check "nothing is left to salvage there" orderly tables
-# Region 0 loses all blocks.
-no_block() {
-    broken "$room/gone" $((chip + spare + 11)) '\003' && put "$room/gone" $((chip + 2 * 384)) "$(ones 384)" && put "$room/gone" $((chip + 4 * 384 + spare)) '\001'
-}
-check "three blocks of a region are wrong" no_block
-check "they are taken out" asked 0 y gone < <(
-    echo "gone: $rule7"
-    echo 'A salvage takes out 3 blocks, erased and marked bad:'
-    printf '  physical block %d, virtual block %d of region 0\n' 0 0 2 1 4 2
-    echo 'It clears 6 clusters, which then read as 255:'
-    for i in 0 2 4 6 8 10; do echo "  cluster $i, sectors $((2 * i)) to $((2 * i + 1))"; done
-    echo 'It mends FST of region 0: segment 5 becomes none.'
-    echo 'It works the marks out again.'
-    echo 'Salvage the board? (y/n) gone: salvaged, 3 pages programmed, 3 blocks erased'
-)
-
-# `unsalvaged IMAGE TEXT`: a salvage is refused with reply 7 for this reason, and leaves the image as it was. What goes before, on standard output, is
-# on standard input.
-unsalvaged() {
-    local status
-    cp "$room/$1" "$room/before" || return 1
-    cat >"$room/expected"
-    (cd "$room" && echo y | run ./control "$1" salvage) >"$room/out" 2>"$room/err"
-    status=$?
-    [ "$status" -eq 5 ] && diff "$room/expected" "$room/out" && cmp "$room/before" "$room/$1" &&
-        [ "$(cat "$room/err")" = "control: $1: salvage was refused with reply 7: $2" ]
-}
-start_of() { echo "A start from its chip would lose no record: control $1 makes it."; }
-check "a BST entry is 3" broken "$room/bst" "$bst" '\003'
-check "it is not salvaged, and can be started" unsalvaged bst "a BST entry is not 0, 1 or 2" < <(
-    echo 'bst: not orderly: a BST entry is not 0, 1 or 2'
-    start_of bst
-)
-check "a free block is not erased" broken "$room/free" $((chip + 9 * 384)) '\000'
-check "it is not salvaged" unsalvaged free "a free block is not erased throughout" < <(echo 'free: not orderly: a free block is not erased throughout')
-two_open() { broken "$room/two" $((chip + 6 * page)) "$(ones 96)" && put "$room/two" $((chip + 2 * 384 + 6 * page)) "$(ones 96)"; }
-check "two blocks of region 0 lose their last frame" two_open
-check "they are not salvaged" unsalvaged two "a region has two sound blocks that are not full" < <(echo "two: $rule8")
-check "one of them is broken too" put "$room/two" $((chip + spare + 12)) '\000'
-check "then they are" asked 0 y two < <(
-    echo "two: $rule7"
-    echo 'A salvage takes out 1 block, erased and marked bad:'
-    echo '  physical block 0, virtual block 0 of region 0'
-    echo 'It clears 2 clusters, which then read as 255:'
-    for i in 0 2; do echo "  cluster $i, sectors $((2 * i)) to $((2 * i + 1))"; done
-    echo 'It mends FST of region 0: segment 5 becomes 3.'
-    echo 'It works the marks out again.'
-    echo 'Salvage the board? (y/n) two: salvaged, 1 pages programmed, 1 blocks erased'
-)
-check "an image that ends with its chip" bare "$room/ends"
-check "it has nothing to salvage" complains 5 "$room/ends: its tables are missing, and a salvage needs them; control $room/ends starts it from its chip" \
-    control "$room/ends" salvage
-check "no such board" complains 2 "$room/nowhere: no such file" control "$room/nowhere" salvage
-check "none is made" [ ! -e "$room/nowhere" ]
-if [ -c /dev/full ]; then
-    check "the place is wrong again" broken "$room/stays" $((chip + spare + 4)) '\001'
-    cp "$room/stays" "$room/before"
-    ln -s /dev/full "$room/stays.new"
-    run "$room/control" "$room/stays" salvage --yes >"$room/out" 2>"$room/err"
-    check "a salvage that cannot be written" [ $? -eq 2 ]
-    check "says so" [ "$(cat "$room/err")" = "control: $room/stays: cannot be written whole" ]
-    check "and the board is as it was there too" cmp "$room/before" "$room/stays"
-fi
-
 check "all but two serials of each" fill 6
 check "they are 18 of each" grep -q -x -e 'ledger 1: 15 serials found, 3 entered, 18 now' "$room/out"
 check "the last two" fill 7
@@ -270,11 +137,8 @@ check "a start erases it" says < <(
 # `refuses STATUS TEXT FILE`: the program says so, and leaves the file as it was.
 refuses() { cp "$3" "$room/before" && complains "$1" "$2" control "$3" && cmp "$room/before" "$3"; }
 
-use="use: control IMAGE [salvage [--yes]]"
-check "no file is named" complains 1 "$use" control
-check "two files are named" complains 1 "$use" control "$room/board" "$room/board"
-check "another word than --yes" complains 1 "$use" control "$room/board" salvage yes
-check "a word too many" complains 1 "$use" control "$room/board" salvage --yes --yes
+check "no file is named" complains 1 "use: control IMAGE" control
+check "two files are named" complains 1 "use: control IMAGE" control "$room/board" "$room/board"
 check "a folder that is missing" complains 2 "$room/none/board: cannot be written: No such file or directory" control "$room/none/board"
 if [ -c /dev/full ]; then
     ln -s /dev/full "$room/full.new"
@@ -289,12 +153,8 @@ fault() {
     esac
 }
 each_fault fault
-check "the place in a page of the full board is wrong" broken "$room/place" $((chip + spare + 4)) '\001'
-check "a board that is not orderly, nor to be started" refuses 5 "$room/place: its tables do not fit the chip, and a start from its chip was refused with reply 7; \
-control $room/place salvage says what can be kept" "$room/place"
-lose_tables() { head -c "$ct" "$room/place" >"$room/nothing"; }
-check "the same without its tables" lose_tables
-check "it has nothing to salvage either" refuses 5 "start was refused with reply 7: the board is not orderly" "$room/nothing"
+check "the place in a page is wrong" broken "$room/place" $((chip + spare + 4)) '\001'
+check "a board that is not orderly, nor to be started" refuses 5 "start was refused with reply 7: the board is not orderly" "$room/place"
 # s=16, alpha=1, beta=1, d=2, mu=1, gamma=1, c=1, n=2, e=1000000: 128 bytes of chip and 52 of tables
 one_region() {
     printf 'CNFTLIMG\5\0\0\0\20\0\0\0\1\0\0\0\1\0\0\0\2\0\0\0\1\0\0\0\1\0\0\0\1\0\0\0\2\0\0\0\100\102\17\0' && head -c 180 /dev/zero
@@ -302,7 +162,7 @@ one_region() {
 one_region >"$room/one"
 check "a board with one region" refuses 7 "$room/one: the board has one region, for 2 ledgers" "$room/one"
 
-helps() { (cd "$room" && run ./control --help) >"$room/out" 2>"$room/err" && grep -q -x -e 'use: control IMAGE' "$room/out" && grep -q -x -e '     control IMAGE salvage \[--yes\]' "$room/out" && [ ! -s "$room/err" ]; }
+helps() { (cd "$room" && run ./control --help) >"$room/out" 2>"$room/err" && grep -q -x -e 'use: control IMAGE' "$room/out" && [ ! -s "$room/err" ]; }
 check "help" helps
 check "no board of that name is made" [ ! -e "$room/--help" ]
 counted

@@ -28,12 +28,6 @@ in_table() {
     cmp -s <(sed -n 's/^| [A-Za-z]* *| `\([a-z_]*\)` | .*/\1/p' README.md) <(sed -n 's/^\([a-z_]*\):.*/\1/p' crates.txt)
 }
 
-# The ledger stands on the calls alone: its crates use one another, the rules, the promises, the laws of lists and loops, and the calls' forms without the check.
-above_the_calls() {
-    awk -F': *' '/^ledger_/ { n = split($2, one, " "); for (i = 1; i <= n; i++) if (one[i] !~ /^(ledger_[a-z]*|rules|lists|loops|claims|outcomes|replies|reply_rows|call_read|call_write|write_work)$/) bad = 1 } END { exit bad }' crates.txt
-}
-
-check "crates.txt: a crate of the ledger uses one below the calls" above_the_calls
 check "docs/house.svg is not that of crates.txt: run tools/house" tools/house --check
 check "docs/cuts.svg is not that of crates/cases/specs/CutT.antt: run tools/cuts" tools/cuts --check
 check "crates.txt: a crate uses one that comes later" rising

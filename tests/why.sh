@@ -119,7 +119,7 @@ V valid, S stale, B begun, E erased, one letter a frame; ^ the frame meant
 END
 
 check "the first block full, the second begun" control 2
-# `breaks IMAGE RULE TEXT`: the rule that is told of sector 5, and then what a salvage and a start would make of it, on standard input.
+# `breaks IMAGE RULE TEXT`: the rule that is told of sector 5, and then what a start would make of it, on standard input.
 breaks() {
     tells 3 "$1" 5 < <(
         echo 'Sector 5 is at place 1 of cluster 2, in region 0.'
@@ -149,40 +149,10 @@ refused() {
     echo 'A start from the chip alone is refused with reply 7:'
     echo '  its blocks are not those that a power loss leaves.'
 }
-# What a salvage takes out and clears, where that is no block and no cluster, with what it mends; where it is block 0; and where it is refused.
-mends() {
-    echo 'A salvage takes out no block.'
-    echo 'It clears no cluster.'
-    echo "$1"
-    echo 'After it the sector reads from frame 3 of physical block 0.'
-}
-takes_out() {
-    echo 'A salvage takes out 1 block, erased and marked bad:'
-    echo '  physical block 0, virtual block 0 of region 0'
-    echo 'It clears 2 clusters, which then read as 255:'
-    printf '  cluster %d, sectors %d to %d\n' 0 0 1 2 4 5
-    echo 'It works the marks out again.'
-    echo 'After it the sector reads as 255 throughout.'
-}
-unsalvaged() { printf 'A salvage is refused with reply 7:\n  %s.\n' "$1"; }
-rule8="FST does not name the open block's last segment, or two blocks are not full"
 check "a BST entry becomes 3" broken "$room/bst" "$bst" '\003'
-check "rule 1" breaks "$room/bst" 1 "a BST entry is not 0, 1 or 2" < <(unsalvaged "a BST entry is not 0, 1 or 2"; found)
+check "rule 1" breaks "$room/bst" 1 "a BST entry is not 0, 1 or 2" < <(found)
 check "an FST entry becomes none" broken "$room/fst" "$fst" '\377\377'
-check "rule 8" breaks "$room/fst" 8 "$rule8" < <(mends 'It mends FST of region 0: segment none becomes 2.'; found)
-check "a free block is not erased" broken "$room/free" $((chip + 9 * 8 * page)) '\000'
-check "rule 6" breaks "$room/free" 6 "a free block is not erased throughout" < <(unsalvaged "a free block is not erased throughout"; refused)
-# Frame 3 of block 0, which is cluster 2, is lost: two blocks of region 0 are not full.
-check "a frame is lost" broken "$room/lost" $((chip + 6 * page)) "$(printf '\\377%.0s' $(seq $((2 * page))))"
-check "rule 8 for that too" breaks "$room/lost" 8 "$rule8" < <(unsalvaged "a region has two sound blocks that are not full"; refused)
-check "cluster 18 is said to be in segment 0" broken "$room/ct" $((ct + 2 * 18)) '\000\000'
-check "rule 9" breaks "$room/ct" 9 "a CT entry names a segment that does not hold its cluster" < <(
-    echo 'A salvage takes out no block.'
-    echo 'It clears 1 cluster, which then reads as 255:'
-    echo '  cluster 18, sectors 36 to 37'
-    echo 'After it the sector reads from frame 3 of physical block 0.'
-    found
-)
+check "rule 8" breaks "$room/fst" 8 "FST does not name the open block's last segment, or two blocks are not full" < <(found)
 check "an image without its tables" bare "$room/bare"
 check "what a start makes of it" tells 3 "$room/bare" 5 < <(
     echo 'Sector 5 is at place 1 of cluster 2, in region 0.'
@@ -191,21 +161,18 @@ check "what a start makes of it" tells 3 "$room/bare" 5 < <(
 )
 
 check "frame 0, which is stale, gets a mark beside frames 1 and 3" broken "$room/marked" "$marks" '\013'
-check "rule 10" breaks "$room/marked" 10 "a mark is 1 where no frame is valid, or 0 where one is" < <(mends 'It works the marks out again.'; found)
+check "rule 10" breaks "$room/marked" 10 "a mark is 1 where no frame is valid, or 0 where one is" < <(found)
 check "the mark of frame 1 is lost" broken "$room/unmarked" "$marks" '\010'
 check "rule 10 for that too" grep -q '^Rule 10 is the first one broken' <(run "$room/cnftl-why" "$room/unmarked" 5)
 check "the marks are those of frames 1 and 3" broken "$room/same" "$marks" '\012'
 check "nothing was changed by that" cmp "$room/board" "$room/same"
 
 check "the first page names virtual block 1" broken "$room/virtual" $((chip + spare + 11)) '\001'
-check "rule 7" breaks "$room/virtual" 7 "a used block does not begin with frames of its virtual block and go on erased" < <(takes_out; refused)
+check "rule 7" breaks "$room/virtual" 7 "a used block does not begin with frames of its virtual block and go on erased" < <(refused)
 check "the second page gets another stamp than the first" broken "$room/mixed" $((chip + page + spare + 7)) '\000'
 check "rule 7 for that too" grep -q '^Rule 7 is the first one broken' <(run "$room/cnftl-why" "$room/mixed" 5)
 check "region 0 has taken 5 stamps, and its sixth write the sixth" broken "$room/stamped" "$stamps" '\005'
-check "rule 11" breaks "$room/stamped" 11 "a page has a larger stamp than the last one of its region" < <(
-    mends 'It raises the last stamp of region 0: 5 becomes 6.'
-    found
-)
+check "rule 11" breaks "$room/stamped" 11 "a page has a larger stamp than the last one of its region" < <(found)
 check "it has taken 6" broken "$room/same" "$stamps" '\006'
 check "nothing was changed by that either" cmp "$room/board" "$room/same"
 

@@ -9,7 +9,7 @@ passed=0 failed=0
 bash tools/packages
 strict=(-Wall -Wextra -Werror -pedantic -Iinclude)
 crate=${crate:-cnftl}
-exported="cnftl_api_3 cnftl_enter cnftl_format cnftl_format_cut cnftl_lookup cnftl_queue cnftl_queue_cut cnftl_read cnftl_release cnftl_salvage cnftl_start cnftl_start_cut cnftl_why \
+exported="cnftl_api_3 cnftl_format cnftl_format_cut cnftl_queue cnftl_queue_cut cnftl_read cnftl_release cnftl_start cnftl_start_cut cnftl_why \
 cnftl_write cnftl_write_cut" # what the archive offers, sorted
 if [ "$(uname -m)" = x86_64 ] || [ -n "${here:-}" ]; then
     cc=gcc cxx=g++ objdump=objdump link=() runner=()

@@ -14,13 +14,6 @@
  * compared with the model's for any allowed parameters.  Half of the boards
  * have blocks with few rated erases, and many have wear near those, so that
  * formats, reclaims and starts wear blocks out and writes find none free.
- * Boards are damaged and salvaged: what a salvage promises is looked at by the
- * bytes before and after it alone, and from what it left a new shadow is made,
- * with which the board goes on.
- * Boards with sectors of 32 bytes or so keep ledgers, most of them one region
- * for a ledger alone.  The book has the boxes that were accepted there: what
- * the ledger promises of them is looked at by reads and lookups alone, after
- * starts and cuts too.
  *
  *   fuzz [--calls N] [--seed S] [--mutant K]    compare
  *   fuzz --mutants                              list the model's mutants
@@ -41,25 +34,21 @@
 
 enum slice {
     CHIP, CT, BT, FST, BST, WEAR, MARKS, STAMPS, TABLES, DATA = TABLES, LIST,
-    REQUESTS, ANSWERS, ADDRESS, SLICES
+    REQUESTS, ANSWERS, SLICES
 };
-enum { GUARD = 64, DATA_ROOM = 16 * 512 + GUARD };
-enum { REPLIES = CNFTL_REGION_FULL + 1 };
+enum { GUARD = 64, DATA_ROOM = 16 * 512 + GUARD, REPLIES = 11 };
 enum { LIST_ROOM = (CNFTL_WHY_ENTRIES + 1) * 4, RULES = CNFTL_RULE_STAMPS + 1 };
 enum { MOST_ITEMS = 8, REQUESTS_ROOM = (3 * MOST_ITEMS + 2) * 4 };
 enum { ANSWERS_ROOM = (MOST_ITEMS + 3) * 8 };
-enum { ADDRESS_ROOM = 8, RECORD_END = 18 };
-enum { KINDS = 10 };      /* of calls */
 enum { RATED = 1000000 }; /* the most rated erases of a block, as of Board T */
 
 static const char *const slice_name[SLICES] = {
     "chip", "ct", "bt", "fst", "bst", "wear", "marks", "stamps", "data",
-    "list", "requests", "answers", "address"
+    "list", "requests", "answers"
 };
-static const size_t width[SLICES] = { 1, 2, 2, 2, 1, 4, 8, 4, 1, 4, 4, 8, 1 };
+static const size_t width[SLICES] = { 1, 2, 2, 2, 1, 4, 8, 4, 1, 4, 4, 8 };
 static const size_t own_room[SLICES] = {
-    0, 0, 0, 0, 0, 0, 0, 0, DATA_ROOM, LIST_ROOM, REQUESTS_ROOM, ANSWERS_ROOM,
-    ADDRESS_ROOM
+    0, 0, 0, 0, 0, 0, 0, 0, DATA_ROOM, LIST_ROOM, REQUESTS_ROOM, ANSWERS_ROOM
 };
 
 /* ==== Chance =========================================================== */
@@ -112,44 +101,15 @@ struct side {
 };
 
 static struct side product, model, saved;
-static struct side before;        /* the board as a salvage or a call of the
-                                     ledger got it lent */
 static struct cnftl_params par;   /* the board's parameters */
 static size_t right_len[TABLES];  /* the right lengths, in elements */
 static size_t room[SLICES];       /* bytes between the guards */
 static size_t shift;              /* where byte slices start, 0 to 7 */
 static uint8_t *shadow;           /* the bytes last accepted, by sector */
 static bool shadow_holds;         /* false while the board went another way */
-static bool salvaged;             /* while it holds: known from a salvage on, so
-                                     that a start may find other things */
 static uint8_t *released;         /* 1 for a cluster released and not written */
 static bool down;                 /* while it holds: cut and not started yet */
 static uint32_t hot_from, hot;    /* the clusters that get half the traffic */
-
-/* A box in the ledger of a region. */
-struct box {
-    uint32_t region;
-    uint64_t serial;
-    uint8_t address[CNFTL_ADDRESS_BYTES];
-};
-
-/* The boxes that were accepted since the format, in their order; which regions
-   were changed by entries alone since then; and the box of an entry whose write
-   was cut, while it is not known whether it is there. */
-static struct book {
-    struct box boxes[256];
-    uint32_t count;
-    bool pure[1024];
-    bool pending;
-    struct box cut;
-} book;
-static uint32_t own_region;       /* the one that is kept for a ledger, or
-                                     CNFTL_NONE */
-static struct {
-    uint8_t *shadow, *released;
-    bool shadow_holds, salvaged, down;
-    struct book book;
-} known;                          /* the same for the saved side */
 
 /* The first element of a slice.  Slices of bytes may start anywhere. */
 static uint8_t *bytes_of(const struct side *a, enum slice i)
@@ -235,37 +195,6 @@ static void copy_side(const struct side *to, const struct side *from)
         memcpy(to->raw[i], from->raw[i], room[i] + 2 * GUARD);
 }
 
-/* Bytes of the shadow. */
-static size_t shadow_bytes(void)
-{
-    return (size_t)cnftl_sectors(&par) * par.s;
-}
-
-/* Keeps the board and what is known of it, to go back to. */
-static void save_board(void)
-{
-    copy_side(&saved, &product);
-    memcpy(known.shadow, shadow, shadow_bytes());
-    memcpy(known.released, released, par.c);
-    known.shadow_holds = shadow_holds;
-    known.salvaged = salvaged;
-    known.down = down;
-    known.book = book;
-}
-
-/* Goes back to it. */
-static void restore_board(void)
-{
-    copy_side(&product, &saved);
-    copy_side(&model, &saved);
-    memcpy(shadow, known.shadow, shadow_bytes());
-    memcpy(released, known.released, par.c);
-    shadow_holds = known.shadow_holds;
-    salvaged = known.salvaged;
-    down = known.down;
-    book = known.book;
-}
-
 /* Lends memory for a board of these parameters; chip_bytes is the room that
    its chip gets.  All of it is random at first. */
 static void open_board(struct cnftl_params p, size_t chip_bytes)
@@ -285,20 +214,15 @@ static void open_board(struct cnftl_params p, size_t chip_bytes)
         product.raw[i] = get_memory(room[i] + 2 * GUARD);
         model.raw[i] = get_memory(room[i] + 2 * GUARD);
         saved.raw[i] = get_memory(room[i] + 2 * GUARD);
-        before.raw[i] = get_memory(room[i] + 2 * GUARD);
         fill_random(product.raw[i], room[i] + 2 * GUARD);
     }
     copy_side(&model, &product);
-    shadow = get_memory(shadow_bytes());
-    known.shadow = get_memory(shadow_bytes());
-    shadow_holds = salvaged = down = false;
+    shadow = get_memory((size_t)cnftl_sectors(&p) * p.s);
+    shadow_holds = false;
+    down = false;
     released = get_memory(p.c);
-    known.released = get_memory(p.c);
-    memset(released, 0, p.c);
     hot = between(1, p.c < 4 ? p.c : 4);
     hot_from = p.c <= 65536 && once_in(2) ? 0 : p.c - hot;
-    memset(&book, 0, sizeof book);
-    own_region = CNFTL_NONE;
 }
 
 /* Gives the board's memory back. */
@@ -308,33 +232,26 @@ static void close_board(void)
         free(product.raw[i]);
         free(model.raw[i]);
         free(saved.raw[i]);
-        free(before.raw[i]);
     }
     free(shadow);
     free(released);
-    free(known.shadow);
-    free(known.released);
 }
 
 /* ==== One call on both sides =========================================== */
 
 struct call {
     char kind; /* 'F', 'R', 'W', a release 'L', a why 'Y', a queue 'Q', a
-                  start 'S', a salvage 'V', an entry 'E', a lookup 'K' */
+                  start 'S' */
     struct cnftl_params p;
     size_t len[SLICES];
     uint32_t lba, count; /* lba is a release's cluster */
     bool limited;        /* whether it has a budget */
     uint64_t budget;
-    struct box box;      /* of an entry and a lookup */
-    const uint8_t *data; /* what it writes, where that is not anything */
-    bool enters;         /* whether that is the record of its box, in its
-                            place */
 };
 
-static const char call_kinds[] = "FRWLYQSVEK";
+static const char call_kinds[] = "FRWLYQS";
 static uint64_t calls, limit = 1000000, seed = 1;
-static uint64_t seen[REPLIES], kinds[KINDS], reclaims, shadow_reads;
+static uint64_t seen[REPLIES], kinds[7], reclaims, shadow_reads;
 static uint64_t starts_seen[REPLIES]; /* replies to starts */
 static uint64_t sweeps;               /* starts that erased a block */
 static uint64_t came_back;            /* released clusters that a start found */
@@ -343,7 +260,7 @@ static uint64_t broken[RULES];   /* rules that a why has told */
 static uint64_t forecasts[4];    /* writes as a why has forecast them */
 static uint64_t stampless;       /* those forecast to be refused with 9 */
 static uint64_t blockless;       /* and those with 10 */
-static uint64_t worn_out[KINDS];     /* blocks that calls wore out, by kind */
+static uint64_t worn_out[7];     /* blocks that calls wore out, by kind */
 static uint64_t unmarked;        /* cuts between such an erase and its mark */
 static uint64_t worn_formats;    /* formats refused with 6 for wear alone */
 static uint64_t short_writes;    /* accepted writes where mu*gamma blocks or
@@ -351,26 +268,11 @@ static uint64_t short_writes;    /* accepted writes where mu*gamma blocks or
 static uint64_t short_reads;     /* and reads, compared with the shadow */
 static uint64_t held_reads;      /* reads of a frame that a why has told */
 static uint64_t looks_told[3];   /* third counts as told: 0, 1, and 2 or more */
-static uint64_t cut[KINDS], whole[KINDS]; /* accepted calls with a budget, by
-                                     kind: cut, and with one not spent */
+static uint64_t cut[7], whole[7]; /* accepted calls with a budget, by kind: cut,
+                                     and with a budget that was not spent */
 static uint64_t restarts, restart_erases; /* starts after a cut, their erases */
 static uint64_t came_old, came_new; /* writes cut short, as starts found them */
 static uint64_t kept_items;         /* accepted items of queues that were cut */
-static uint64_t salvages_seen[REPLIES]; /* replies to salvages */
-static uint64_t salvages_by[RULES]; /* salvages refused with 7, by the first
-                                       rule broken */
-static uint64_t idle_salvages;      /* those of an orderly board */
-static uint64_t taken_out, several_out; /* blocks that salvages took out, and
-                                       salvages that took out several */
-static uint64_t worn_blocks_out;    /* blocks taken out that are worn too */
-static uint64_t cleared, mended, raised; /* entries of CT, FST and stamps that
-                                       salvages changed */
-static uint64_t salvaged_reads;     /* reads after a salvage, compared */
-static uint64_t entries_seen[REPLIES], lookups_seen[REPLIES]; /* replies */
-static uint64_t found_boxes, missing_boxes; /* accepted lookups */
-static uint64_t book_checks, most_boxes; /* of ledgers, and the largest */
-static uint64_t cut_old, cut_new;   /* entries cut short that starts did not
-                                       find, and that they found */
 
 #define PARAMETERS(k)                                                          \
     (k)->p.s, (k)->p.alpha, (k)->p.beta, (k)->p.d, (k)->p.mu, (k)->p.gamma,    \
@@ -383,8 +285,6 @@ static uint64_t cut_old, cut_new;   /* entries cut short that starts did not
     longs_of(a, STAMPS), (k)->len[STAMPS]
 #define REQUEST(k, a)                                                          \
     (k)->lba, (k)->count, bytes_of(a, DATA), (k)->len[DATA]
-#define BOX(k, a)                                                              \
-    (k)->box.region, (k)->box.serial, bytes_of(a, ADDRESS), (k)->len[ADDRESS]
 #define QUESTION(k, a) (k)->lba, longs_of(a, LIST), (k)->len[LIST]
 #define QUEUE(k, a)                                                            \
     longs_of(a, REQUESTS), (k)->len[REQUESTS],                                 \
@@ -440,12 +340,6 @@ static uint64_t call_product(const struct call *k)
         return cnftl_queue(LENT(k, &product), QUEUE(k, &product));
     case 'S':
         return cnftl_start(LENT(k, &product));
-    case 'V':
-        return cnftl_salvage(LENT(k, &product));
-    case 'E':
-        return cnftl_enter(LENT(k, &product), BOX(k, &product));
-    case 'K':
-        return cnftl_lookup(LENT(k, &product), BOX(k, &product));
     default:
         return cnftl_write(LENT(k, &product), REQUEST(k, &product));
     }
@@ -469,12 +363,6 @@ static uint64_t call_model(const struct call *k)
         return model_queue(LENT(k, &model), QUEUE(k, &model));
     case 'S':
         return model_start(LENT(k, &model));
-    case 'V':
-        return model_salvage(LENT(k, &model));
-    case 'E':
-        return model_enter(LENT(k, &model), BOX(k, &model));
-    case 'K':
-        return model_lookup(LENT(k, &model), BOX(k, &model));
     default:
         return model_write(LENT(k, &model), REQUEST(k, &model));
     }
@@ -513,9 +401,6 @@ static void differ(const struct call *k, const char *what, uint64_t by_product,
            k->len[ANSWERS]);
     if (k->limited)
         printf("  with budget %" PRIu64 "\n", k->budget);
-    if (k->kind == 'E' || k->kind == 'K')
-        printf("  region %" PRIu32 ", serial %" PRIu64 ", address %zu bytes\n",
-               k->box.region, k->box.serial, k->len[ADDRESS]);
     printf("  s=%" PRIu32 " alpha=%" PRIu32 " beta=%" PRIu32 " d=%" PRIu32
            " mu=%" PRIu32 " gamma=%" PRIu32 " c=%" PRIu32 " n=%" PRIu32
            " e=%" PRIu32 "\n", PARAMETERS(k));
@@ -556,7 +441,6 @@ static void follow_items(const struct call *k)
                    bytes_of(&product, DATA) + item[2],
                    (size_t)item[1] * par.s);
             released[item[0] / par.alpha] = 0;
-            book.pure[cnftl_region_of(&par, item[0])] = false;
         }
     }
 }
@@ -606,225 +490,6 @@ static const uint8_t *latest_frame(uint32_t cluster)
     return latest;
 }
 
-/* Whether the board is as a salvage or a call of the ledger got it lent, guards
-   too. */
-static bool unchanged(void)
-{
-    for (int i = 0; i < TABLES; i++)
-        if (memcmp(before.raw[i], product.raw[i], room[i] + 2 * GUARD) != 0)
-            return false;
-    return true;
-}
-
-/* ==== What a ledger promises =========================================== */
-
-/* Whether bytes are all 255. */
-static bool is_blank(const uint8_t *bytes, size_t len)
-{
-    while (len > 0 && bytes[len - 1] == 255)
-        len--;
-    return len == 0;
-}
-
-/* Whether a sector is a record. */
-static bool is_record(const uint8_t *sector)
-{
-    return memcmp(sector, "BOXR", 4) == 0
-        && is_blank(sector + RECORD_END, par.s - RECORD_END);
-}
-
-/* Puts the record of a box down. */
-static void put_record(uint8_t *sector, const struct box *box)
-{
-    memset(sector, 255, par.s);
-    memcpy(sector, "BOXR", 4);
-    for (int i = 0; i < 8; i++)
-        sector[4 + i] = (uint8_t)(box->serial >> 8 * i);
-    memcpy(sector + 12, box->address, sizeof box->address);
-}
-
-/* Whether the first bytes of a record are the serial's of a box. */
-static bool same_serial(const uint8_t *sector, const struct box *box)
-{
-    uint8_t record[512];
-
-    put_record(record, box);
-    return memcmp(sector + 4, record + 4, 8) == 0;
-}
-
-/* Where the shadow has the k-th sector of a region. */
-static uint8_t *ledger_at(uint32_t region, uint32_t k)
-{
-    return shadow + (size_t)cnftl_region_lba(&par, region, k) * par.s;
-}
-
-/* How many sectors of a region are filled, by the shadow. */
-static uint32_t filled_in(uint32_t region)
-{
-    uint32_t k = cnftl_region_sectors(&par, region);
-
-    while (k > 0 && is_blank(ledger_at(region, k - 1), par.s))
-        k--;
-    return k;
-}
-
-/* Keeps the book up with an accepted entry. */
-static void add_to_book(const struct box *box)
-{
-    if (book.count == sizeof book.boxes / sizeof book.boxes[0])
-        book.pure[box->region] = false;
-    else
-        book.boxes[book.count++] = *box;
-}
-
-/* Whether all that the ledger of a region has is in the book. */
-static bool in_book(uint32_t region)
-{
-    return shadow_holds && !down && !salvaged && book.pure[region];
-}
-
-/* Looks one box of the book up: "every accepted entry is found with its
-   address". */
-static void look_up(const struct call *k, const struct box *box)
-{
-    uint8_t address[CNFTL_ADDRESS_BYTES] = { 0 };
-    uint64_t a = cnftl_lookup(LENT(k, &product), box->region, box->serial,
-                              address, sizeof address);
-
-    if (a != 65536 || memcmp(address, box->address, sizeof address) != 0)
-        differ(k, "the lookup of an accepted box", a, box->serial);
-}
-
-/* "no two records agree in either and none is lost": the records of a region
-   are the boxes of the book, in their order and with nothing behind them; all
-   differ in serial and address, and each is found. */
-static void check_book(const struct call *k, uint32_t region)
-{
-    uint32_t sectors = cnftl_region_sectors(&par, region), at = 0;
-    uint8_t sector[512], record[512];
-
-    if (!in_book(region))
-        return;
-    for (uint32_t i = 0; i < book.count; i++) {
-        const struct box *box = &book.boxes[i];
-
-        if (box->region != region)
-            continue;
-        put_record(record, box);
-        if (cnftl_read(LENT(k, &product), cnftl_region_lba(&par, region, at++),
-                       1, sector, par.s) != CNFTL_ACCEPTED
-            || memcmp(sector, record, par.s) != 0)
-            differ(k, "the record of an accepted box", i, at);
-        for (uint32_t j = 0; j < i; j++)
-            if (book.boxes[j].region == region
-                && (book.boxes[j].serial == box->serial
-                    || memcmp(book.boxes[j].address, box->address,
-                              sizeof box->address) == 0))
-                differ(k, "two accepted boxes", i, j);
-        look_up(k, box);
-    }
-    if (at < sectors
-        && (cnftl_read(LENT(k, &product), cnftl_region_lba(&par, region, at),
-                       1, sector, par.s) != CNFTL_ACCEPTED
-            || !is_blank(sector, par.s)))
-        differ(k, "the sector behind the records", at, sectors);
-    book_checks += at > 0;
-    most_boxes = at > most_boxes ? at : most_boxes;
-}
-
-/* The reply to an entry on a sound board by what the shadow has in its region,
-   9 and 10 aside. */
-static uint32_t reply_to_box(const struct box *box)
-{
-    uint32_t filled = filled_in(box->region), reply = CNFTL_ACCEPTED;
-
-    if (filled == cnftl_region_sectors(&par, box->region))
-        reply = CNFTL_REGION_FULL;
-    for (uint32_t k = 0; k < filled; k++)
-        if (memcmp(ledger_at(box->region, k) + 12, box->address, 6) == 0)
-            reply = CNFTL_ADDRESS_PRESENT;
-    for (uint32_t k = 0; k < filled; k++)
-        if (same_serial(ledger_at(box->region, k), box))
-            reply = CNFTL_SERIAL_PRESENT;
-    for (uint32_t k = 0; k < filled; k++)
-        if (!is_record(ledger_at(box->region, k)))
-            reply = CNFTL_NO_RECORD;
-    return reply;
-}
-
-/* The first record of the shadow that has the serial of a lookup, or NULL. */
-static const uint8_t *record_for(const struct box *box)
-{
-    uint32_t sectors = cnftl_region_sectors(&par, box->region);
-
-    for (uint32_t k = 0; k < sectors; k++) {
-        const uint8_t *sector = ledger_at(box->region, k);
-
-        if (is_record(sector) && same_serial(sector, box))
-            return sector;
-    }
-    return NULL;
-}
-
-/* A lookup on a sound board finds what the shadow has. */
-static void hold_lookup(const struct call *k, uint64_t a)
-{
-    const uint8_t *record = record_for(&k->box);
-
-    if (cnftl_found(a) != (record != NULL))
-        differ(k, "whether a box is found", a, record != NULL);
-    if (record != NULL
-        && memcmp(bytes_of(&product, ADDRESS), record + 12, 6) != 0)
-        differ(k, "the address of a box", a, a);
-    found_boxes += record != NULL;
-    missing_boxes += record == NULL;
-}
-
-static uint8_t lent_address[ADDRESS_ROOM]; /* as the last call got it */
-
-/* The answer of a call of the ledger by what is known without the model: a
-   refusal leaves all as it was lent, and so does a lookup that finds nothing;
-   on a sound board the reply is that of the shadow's sectors. */
-static void hold_to_ledger(const struct call *k, uint64_t a)
-{
-    uint32_t reply = cnftl_reply_of(a), right = CNFTL_ACCEPTED;
-
-    if ((reply != CNFTL_ACCEPTED && (a != reply || !unchanged()))
-        || ((k->kind == 'E' || !cnftl_found(a))
-            && memcmp(bytes_of(&product, ADDRESS), lent_address,
-                      room[ADDRESS]) != 0))
-        differ(k, "what a call of the ledger may not change", a, a);
-    if (!own_parameters(k) || !shadow_holds || down
-        || reply == CNFTL_WRONG_LENGTH)
-        return;
-    if (par.s < CNFTL_LEDGER_SECTOR)
-        right = CNFTL_SECTOR_TOO_SMALL;
-    else if (k->box.region >= par.mu)
-        right = CNFTL_NO_SUCH_REGION;
-    else if (k->kind == 'E')
-        right = reply_to_box(&k->box);
-    if (reply != right
-        && !(k->kind == 'E' && right == CNFTL_ACCEPTED
-             && (reply == CNFTL_NO_STAMP_LEFT || reply == CNFTL_NO_BLOCK_LEFT)))
-        differ(k, "the reply of the ledger", a, right);
-    if (k->kind == 'K' && reply == CNFTL_ACCEPTED)
-        hold_lookup(k, a);
-}
-
-/* Keeps shadow and book up with an accepted entry. */
-static void follow_entry(const struct call *k)
-{
-    uint32_t region = k->box.region, next = filled_in(region);
-
-    put_record(ledger_at(region, next), &k->box);
-    released[cnftl_region_lba(&par, region, next) / par.alpha] = 0;
-    add_to_book(&k->box);
-    if (once_in(4))
-        check_book(k, region);
-}
-
-/* ==== What a cut leaves ================================================ */
-
 /* The write that was cut short, if one was: its cluster and what this would
    be. */
 static struct {
@@ -845,15 +510,9 @@ static uint8_t *shadow_of(uint32_t cluster)
     return shadow + (size_t)cluster * par.alpha * par.s;
 }
 
-/* A write was cut short: an entry's, or any. */
-static void begin_write(uint32_t lba, uint32_t count, const uint8_t *data,
-                        const struct box *entry)
+/* A write was cut short. */
+static void begin_write(uint32_t lba, uint32_t count, const uint8_t *data)
 {
-    book.pending = entry != NULL;
-    if (entry != NULL)
-        book.cut = *entry;
-    else
-        book.pure[cnftl_region_of(&par, lba)] = false;
     unfinished.any = true;
     unfinished.cluster = lba / par.alpha;
     memcpy(unfinished.bytes, shadow_of(lba / par.alpha), par.alpha * par.s);
@@ -876,24 +535,21 @@ static void follow_cut_queue(const struct call *k)
         if (item[0] < cnftl_sectors(&par) && item[1] > 0
             && (uint64_t)item[0] % par.alpha + item[1] <= par.alpha
             && end <= k->len[DATA])
-            begin_write(item[0], item[1], bytes_of(&product, DATA) + item[2],
-                        NULL);
+            begin_write(item[0], item[1], bytes_of(&product, DATA) + item[2]);
     }
 }
 
-/* What is known after a cut: nothing of a board whose format was cut, or that
-   was salvaged since its format. */
+/* What is known after a cut: nothing of a board whose format was cut. */
 static void follow_cut(const struct call *k)
 {
-    if (k->kind == 'F' || salvaged)
+    if (k->kind == 'F')
         shadow_holds = false;
     if (!shadow_holds || down)
         return;
     down = true;
     unfinished.any = false;
     if (k->kind == 'W')
-        begin_write(k->lba, k->count, bytes_of(&product, DATA),
-                    k->enters ? &k->box : NULL);
+        begin_write(k->lba, k->count, bytes_of(&product, DATA));
     if (k->kind == 'Q')
         follow_cut_queue(k);
 }
@@ -913,17 +569,12 @@ static void settle_write(const struct call *k, uint64_t a)
         differ(k, "the read after a start", by_read, CNFTL_ACCEPTED);
     if (memcmp(found, unfinished.bytes, len) == 0) {
         came_new++;
-        cut_new += book.pending;
         memcpy(old, unfinished.bytes, len);
-        if (book.pending)
-            add_to_book(&book.cut);
     } else if (memcmp(found, old, len) == 0) {
         came_old++;
-        cut_old += book.pending;
     } else {
         differ(k, "the write cut short", a, a);
     }
-    book.pending = false;
 }
 
 /* "A released cluster with whole frames left comes back with the latest": what
@@ -944,13 +595,9 @@ static void find_released(void)
     }
 }
 
-/* What is known after a start: nothing where the board was salvaged. */
+/* What is known after a start. */
 static void follow_start(const struct call *k, uint64_t a)
 {
-    if (salvaged) {
-        shadow_holds = false;
-        return;
-    }
     find_released();
     if (!down)
         return;
@@ -961,184 +608,6 @@ static void follow_start(const struct call *k, uint64_t a)
         differ(k, "the erases of a start after a cut", a, CNFTL_ACCEPTED);
     if (unfinished.any)
         settle_write(k, a);
-    for (uint32_t r = 0; r < par.mu; r++)
-        check_book(k, r);
-}
-
-/* ==== What a salvage promises ========================================== */
-
-static uint32_t lent_rule; /* the first rule broken before a salvage, or 0 */
-
-/* Keeps the board that a salvage gets lent, and the rule that it breaks. */
-static void keep_before(const struct call *k)
-{
-    uint32_t list[CNFTL_WHY_ENTRIES] = { 0 };
-
-    copy_side(&before, &product);
-    cnftl_why(LENT(k, &product), 0, list, CNFTL_WHY_ENTRIES);
-    lent_rule = list[CNFTL_WHY_RULE];
-}
-
-/* What the rule that was broken says of the answer: 7 where it is one of BST,
-   of BT or of the free blocks, perhaps where it is that of used blocks or of
-   FST, and else never; blocks are taken out exactly if it is that of used
-   blocks; an orderly board, and a refused one, is not changed. */
-static void hold_to_rule(const struct call *k, uint64_t a)
-{
-    bool tables = lent_rule > CNFTL_RULE_NONE && lent_rule <= CNFTL_RULE_FREE;
-    bool blocks = lent_rule == CNFTL_RULE_USED_BLOCK;
-    bool right = cnftl_reply_of(a) != CNFTL_TOO_FEW_BLOCKS;
-
-    if (cnftl_reply_of(a) == CNFTL_ACCEPTED)
-        right = !tables && (cnftl_erases_of(a) > 0) == blocks
-             && cnftl_programs_of(a) == cnftl_erases_of(a);
-    if (cnftl_reply_of(a) == CNFTL_NOT_ORDERLY) {
-        right = tables || blocks || lent_rule == CNFTL_RULE_FST;
-        salvages_by[lent_rule % RULES]++;
-    }
-    if (!right)
-        differ(k, "the answer by the rule that was broken", a, lent_rule);
-    if ((lent_rule == 0 || cnftl_reply_of(a) != CNFTL_ACCEPTED)
-        && (!unchanged() || a != cnftl_reply_of(a)))
-        differ(k, "a board that is not to be changed", a, lent_rule);
-    idle_salvages += lent_rule == 0 && a == CNFTL_ACCEPTED;
-}
-
-/* Whether a block is erased but for the mark. */
-static bool only_marked(uint32_t block)
-{
-    const uint8_t *bytes = chip + block * block_bytes();
-
-    for (size_t i = 0; i < block_bytes(); i++)
-        if (bytes[i] != (i == par.s + 5 ? 0 : 255))
-            return false;
-    return true;
-}
-
-/* Whether a block has what it had before: BST entry, wear and every byte. */
-static bool block_stays(uint32_t block)
-{
-    size_t at = block * block_bytes();
-
-    return bst[block] == bytes_of(&before, BST)[block]
-        && wear[block] == longs_of(&before, WEAR)[block]
-        && memcmp(chip + at, bytes_of(&before, CHIP) + at, block_bytes()) == 0;
-}
-
-/* Each block stays as it was, or it was used and is taken out: erased once
-   more, marked and reserved.  How many they are. */
-static uint32_t hold_blocks(const struct call *k, uint64_t a)
-{
-    uint32_t out = 0;
-
-    for (uint32_t b = 0; b < par.n; b++) {
-        uint32_t erases = longs_of(&before, WEAR)[b];
-
-        if (block_stays(b))
-            continue;
-        if (bytes_of(&before, BST)[b] != CNFTL_BLOCK_USED
-            || bst[b] != CNFTL_BLOCK_RESERVED || !only_marked(b)
-            || wear[b] != erases + (erases != UINT32_MAX))
-            differ(k, "a block of a salvaged board", a, b);
-        worn_blocks_out += wear[b] >= par.e;
-        out++;
-    }
-    return out;
-}
-
-/* BT names what it named, but for what is taken out; no stamp is lowered. */
-static void hold_entries(const struct call *k, uint64_t a)
-{
-    for (uint32_t i = 0; i < par.mu * par.gamma; i++) {
-        uint16_t named = words_of(&before, BT)[i];
-
-        if (bt[i] != (named != CNFTL_NONE && block_stays(named)
-                      ? named : CNFTL_NONE))
-            differ(k, "BT of a salvaged board", a, i);
-    }
-    for (uint32_t r = 0; r < par.mu; r++) {
-        if (stamps[r] < longs_of(&before, STAMPS)[r])
-            differ(k, "the stamps of a salvaged board", a, r);
-        raised += stamps[r] != longs_of(&before, STAMPS)[r];
-        mended += fst[r] != words_of(&before, FST)[r];
-    }
-}
-
-/* The first page of the valid frame of a cluster before, in a block that stays:
-   the last whole one in the segment that its CT entry names; or NULL. */
-static const uint8_t *valid_before(uint32_t cluster)
-{
-    uint32_t segment = words_of(&before, CT)[cluster], number, block;
-    size_t page = cnftl_page_bytes(&par);
-    const uint8_t *valid = NULL, *end;
-
-    if (segment >= segments())
-        return NULL;
-    block = bt[cluster % par.mu * par.gamma + segment / par.d];
-    if (block == CNFTL_NONE)
-        return NULL;
-    end = bytes_of(&before, CHIP) + block * block_bytes()
-        + segment % par.d * par.beta * par.alpha * page;
-    for (uint32_t i = 0; i < par.beta; i++) {
-        const uint8_t *last = (end += par.alpha * page) - CNFTL_SPARE_BYTES;
-
-        memcpy(&number, last, sizeof number);
-        if (last[6] == 0 && number == cluster)
-            valid = end - par.alpha * page;
-    }
-    return valid;
-}
-
-/* "A cluster whose CT entry was not cleared reads as the validity rule said
-   before": what the shadow has of a cluster after a salvage.  An entry is
-   cleared exactly if it named no such frame. */
-static void learn_cluster(const struct call *k, uint64_t a, uint32_t cluster)
-{
-    const uint8_t *valid = valid_before(cluster);
-    uint16_t entry = words_of(&before, CT)[cluster];
-    size_t bytes = (size_t)par.alpha * par.s;
-
-    if (ct[cluster] != (valid == NULL ? CNFTL_NONE : entry))
-        differ(k, "CT of a salvaged board", a, cluster);
-    cleared += ct[cluster] != entry;
-    memset(shadow + cluster * bytes, 255, bytes);
-    for (uint32_t i = 0; valid != NULL && i < par.alpha; i++)
-        memcpy(shadow + cluster * bytes + i * par.s,
-               valid + i * cnftl_page_bytes(&par), par.s);
-}
-
-/* What is known after a salvage: of a board that was known and orderly what was
-   known before, else what it left. */
-static void follow_salvage(const struct call *k, uint64_t a)
-{
-    uint32_t out = hold_blocks(k, a);
-
-    if (cnftl_erases_of(a) != out)
-        differ(k, "the erases of a salvage", a, out);
-    taken_out += out;
-    several_out += out > 1;
-    hold_entries(k, a);
-    if (lent_rule == CNFTL_RULE_NONE && shadow_holds)
-        return;
-    for (uint32_t cluster = 0; cluster < par.c; cluster++)
-        learn_cluster(k, a, cluster);
-    memset(released, 0, par.c);
-    memset(&book, 0, sizeof book);
-    shadow_holds = salvaged = true;
-    down = false;
-}
-
-/* ==== What is known ==================================================== */
-
-/* What is known after a format: all is blank. */
-static void follow_format(void)
-{
-    down = salvaged = false;
-    memset(shadow, 255, shadow_bytes());
-    memset(released, 0, par.c);
-    memset(&book, 0, sizeof book);
-    memset(book.pure, true, par.mu);
-    shadow_holds = true;
 }
 
 /* Keeps the shadow up with an accepted call, and compares a read with it. */
@@ -1146,30 +615,24 @@ static void follow_shadow(const struct call *k, uint64_t a)
 {
     uint8_t *sectors = shadow + (size_t)k->lba * par.s;
 
-    if (k->kind == 'Y' || k->kind == 'K')
+    if (k->kind == 'Y')
         return;
     if (!own_parameters(k)) {
         shadow_holds = shadow_holds && k->kind == 'R';
-    } else if (k->kind == 'V') {
-        follow_salvage(k, a);
     } else if (k->limited && is_cut()) {
         follow_cut(k);
     } else if (k->kind == 'F') {
-        follow_format();
-    } else if (shadow_holds && k->kind == 'E') {
-        follow_entry(k);
+        down = false;
+        memset(shadow, 255, (size_t)cnftl_sectors(&par) * par.s);
+        memset(released, 0, par.c);
+        shadow_holds = true;
     } else if (shadow_holds && k->kind == 'L') {
-        book.pure[k->lba % par.mu] = false;
         memset(shadow + (size_t)k->lba * par.alpha * par.s, 255,
                (size_t)par.alpha * par.s);
         released[k->lba] = 1;
     } else if (shadow_holds && k->kind == 'W') {
         memcpy(sectors, bytes_of(&product, DATA), k->len[DATA]);
         released[k->lba / par.alpha] = 0;
-        if (k->enters)
-            add_to_book(&k->box);
-        else
-            book.pure[cnftl_region_of(&par, k->lba)] = false;
     } else if (shadow_holds && k->kind == 'S') {
         follow_start(k, a);
     } else if (shadow_holds && k->kind == 'Q') {
@@ -1178,7 +641,6 @@ static void follow_shadow(const struct call *k, uint64_t a)
         if (memcmp(sectors, bytes_of(&product, DATA), k->len[DATA]) != 0)
             differ(k, "the bytes last accepted", a, a);
         shadow_reads++;
-        salvaged_reads += salvaged;
     }
 }
 
@@ -1238,15 +700,9 @@ static uint32_t blocks_not_bad(bool after_erase)
 }
 
 /* Whether a right call on a sound board may be refused so: a write where blocks
-   are worn and none is free, or where a salvaged board has no stamp left, a
-   format that would leave too few, or a call of the ledger, whose reply was
-   looked at already. */
+   are worn and none is free, or a format that would leave too few. */
 static bool may_be_refused(const struct call *k, uint32_t reply)
 {
-    if (k->kind == 'E' || k->kind == 'K')
-        return reply != CNFTL_NOT_ORDERLY;
-    if (k->kind == 'W' && reply == CNFTL_NO_STAMP_LEFT && salvaged)
-        return stamps[cnftl_region_of(&par, k->lba)] == UINT32_MAX;
     if (k->kind == 'W' && reply == CNFTL_NO_BLOCK_LEFT) {
         for (uint32_t b = 0; b < par.n; b++)
             if (bst[b] == CNFTL_BLOCK_FREE)
@@ -1295,19 +751,13 @@ static void count_call(const struct call *k, uint64_t a)
     seen[cnftl_reply_of(a)]++;
     if (own_parameters(k))
         count_wear(k, kind, cnftl_reply_of(a));
-    reclaims += (k->kind == 'W' || k->kind == 'E') && cnftl_erases_of(a) == 1;
+    reclaims += k->kind == 'W' && cnftl_erases_of(a) == 1;
     if (k->kind == 'Q' && cnftl_reply_of(a) == CNFTL_ACCEPTED)
         count_items(k);
     if (k->kind == 'S') {
         starts_seen[cnftl_reply_of(a) % REPLIES]++;
         sweeps += cnftl_erases_of(a) > 0;
     }
-    if (k->kind == 'V')
-        salvages_seen[cnftl_reply_of(a) % REPLIES]++;
-    if (k->kind == 'E')
-        entries_seen[cnftl_reply_of(a) % REPLIES]++;
-    if (k->kind == 'K')
-        lookups_seen[cnftl_reply_of(a) % REPLIES]++;
     if (k->kind == 'Y' && cnftl_reply_of(a) == CNFTL_NOT_ORDERLY)
         broken[longs_of(&product, LIST)[CNFTL_WHY_RULE] % RULES]++;
     if (calls % 100000 == 0)
@@ -1346,26 +796,13 @@ static uint32_t first_byte(const struct call *k, uint32_t count)
     return below(last + 1);
 }
 
-/* A cluster, half of the time a hot one; none of the region that is kept for a
-   ledger where it is to be changed, and C if none is found. */
-static uint32_t some_cluster(bool to_change)
-{
-    for (int i = 0; i < 8; i++) {
-        uint32_t cluster = once_in(2) ? hot_from + below(hot) : below(par.c);
-
-        if (!to_change || cluster % par.mu != own_region)
-            return cluster;
-    }
-    return par.c;
-}
-
 /* The requests of a queue; one in eight with a fault of its own. */
 static void fill_requests(const struct call *k)
 {
     uint32_t end = cnftl_sectors(&par);
 
     for (size_t i = 0; i < k->len[REQUESTS] / 3; i++) {
-        uint32_t cluster = some_cluster(true);
+        uint32_t cluster = once_in(2) ? hot_from + below(hot) : below(par.c);
         uint32_t place = below(par.alpha), lba = cluster * par.alpha + place;
         uint32_t count = between(1, par.alpha - place);
         const uint32_t counts[] = { 0, par.alpha - place + 1, UINT32_MAX };
@@ -1379,47 +816,18 @@ static void fill_requests(const struct call *k)
     }
 }
 
-/* The address of an entry, and at times of a lookup, and the data of a call
-   that has its own, the same on both sides. */
-static void fill_own(const struct call *k)
-{
-    size_t len = room[ADDRESS] < 6 ? room[ADDRESS] : 6;
-
-    if (k->kind == 'E' || (k->kind == 'K' && once_in(2))) {
-        memcpy(bytes_of(&product, ADDRESS), k->box.address, len);
-        memcpy(bytes_of(&model, ADDRESS), k->box.address, len);
-    }
-    memcpy(lent_address, bytes_of(&product, ADDRESS), room[ADDRESS]);
-    if (k->data != NULL) {
-        memcpy(bytes_of(&product, DATA), k->data, k->len[DATA]);
-        memcpy(bytes_of(&model, DATA), k->data, k->len[DATA]);
-    }
-}
-
-/* Fills what the call gets lent beside the board, and keeps what it is held to
-   afterwards. */
-static void lend(const struct call *k)
-{
-    for (int i = TABLES; i < SLICES; i++)
-        fill_slice(k, (enum slice)i);
-    fill_requests(k);
-    fill_own(k);
-    memcpy(lent_answers, bytes_of(&product, ANSWERS), room[ANSWERS]);
-    if (own_parameters(k) && room[CHIP] > 0)
-        keep_blocks();
-    if (k->kind == 'V')
-        keep_before(k);
-    if (k->kind == 'E' || k->kind == 'K')
-        copy_side(&before, &product);
-}
-
 /* Makes a call on both sides and compares all that they may have touched.
    Returns the answer. */
 static uint64_t answer_of(const struct call *k)
 {
     uint64_t by_product, by_model;
 
-    lend(k);
+    for (int i = TABLES; i < SLICES; i++)
+        fill_slice(k, (enum slice)i);
+    fill_requests(k);
+    memcpy(lent_answers, bytes_of(&product, ANSWERS), room[ANSWERS]);
+    if (own_parameters(k) && room[CHIP] > 0)
+        keep_blocks();
     by_product = call_product(k);
     by_model = call_model(k);
     if (by_product != by_model)
@@ -1428,10 +836,6 @@ static uint64_t answer_of(const struct call *k)
         if (memcmp(product.raw[i], model.raw[i], room[i] + 2 * GUARD) != 0)
             differ(k, slice_name[i], by_product, by_model);
     count_call(k, by_product);
-    if (k->kind == 'V')
-        hold_to_rule(k, by_product);
-    if (k->kind == 'E' || k->kind == 'K')
-        hold_to_ledger(k, by_product);
     if (cnftl_reply_of(by_product) == CNFTL_ACCEPTED)
         follow_shadow(k, by_product);
     return by_product;
@@ -1443,56 +847,18 @@ static uint32_t make_call(const struct call *k)
     return cnftl_reply_of(answer_of(k));
 }
 
-/* A box to enter or to look up: of the book, with one thing in common with a
-   box of it, of a few that come again, or any. */
-static struct box some_box(void)
-{
-    struct box box = { own_region, rnd(), { 0 } };
-
-    fill_random(box.address, sizeof box.address);
-    if (own_region == CNFTL_NONE || once_in(4))
-        box.region = below(par.mu);
-    if (book.count > 0 && once_in(3)) {
-        const struct box *other = &book.boxes[below(book.count)];
-
-        box.region = once_in(4) ? below(par.mu) : other->region;
-        if (once_in(2))
-            box.serial = other->serial ^ (uint64_t)once_in(4) << 40;
-        else
-            memcpy(box.address, other->address, sizeof box.address);
-        box.address[5] ^= (uint8_t)once_in(4);
-    }
-    if (once_in(4))
-        box.serial = below(6);
-    if (once_in(4))
-        memset(box.address, (int)below(6), sizeof box.address);
-    return box;
-}
-
-/* A request that is right for the board.  A change of a region that is kept for
-   a ledger becomes a read. */
+/* A request that is right for the board. */
 static struct call right_call(char kind)
 {
-    struct call k = {
-        kind, par, { 0 }, 0, 0, false, 0, { 0, 0, { 0 } }, NULL, false
-    };
-    uint32_t cluster = some_cluster(kind == 'W' || kind == 'L');
+    struct call k = { kind, par, { 0 }, 0, 0, false, 0 };
+    uint32_t cluster = once_in(2) ? hot_from + below(hot) : below(par.c);
     uint32_t place = below(par.alpha);
 
-    if (cluster == par.c) {
-        k.kind = kind = 'R';
-        cluster = below(par.c);
-    }
     memcpy(k.len, right_len, sizeof right_len);
     k.lba = kind == 'L' ? cluster : cluster * par.alpha + place;
     k.count = between(1, par.alpha - place);
-    k.len[DATA] = strchr("LYSVEK", kind) ? 0 : (size_t)k.count * par.s;
+    k.len[DATA] = strchr("LYS", kind) ? 0 : (size_t)k.count * par.s;
     k.len[LIST] = kind == 'Y' ? CNFTL_WHY_ENTRIES : 0;
-    if (kind == 'E' || kind == 'K') {
-        k.len[ADDRESS] = CNFTL_ADDRESS_BYTES;
-        k.box = kind == 'K' && book.count > 0 && once_in(2)
-              ? book.boxes[below(book.count)] : some_box();
-    }
     if (kind == 'Q') {
         uint32_t items = below(MOST_ITEMS + 1);
 
@@ -1503,8 +869,8 @@ static struct call right_call(char kind)
     return k;
 }
 
-/* Gives a call that can have one a budget: most times about as many operations
-   as it may make, at times more than 32 bits can say. */
+/* Gives a call a budget: most times about as many operations as it may make, at
+   times more than 32 bits can say. */
 static void give_budget(struct call *k)
 {
     uint32_t pages = (uint32_t)cnftl_pages_per_block(&par);
@@ -1513,7 +879,7 @@ static void give_budget(struct call *k)
                   : k->kind == 'W' ? each
                   : each * (uint32_t)(k->len[REQUESTS] / 3);
 
-    k->limited = strchr("FWQS", k->kind) != NULL;
+    k->limited = true;
     k->budget = below(most + 2);
     if (once_in(8))
         k->budget = below(2);
@@ -1660,30 +1026,12 @@ static void fault_lists(struct call *k)
         k->len[ANSWERS] = items - (items > 0 ? between(1, (uint32_t)items) : 0);
 }
 
-/* A call of the ledger with an address of another length, or a region from mu
-   up. */
-static void fault_box(struct call *k)
-{
-    static const size_t lengths[] = { 0, 5, 7, 8 };
-    const uint32_t regions[] = {
-        par.mu, par.mu + 1, par.c, UINT32_MAX, 65536 + k->box.region
-    };
-
-    if (k->kind != 'E' && k->kind != 'K')
-        return;
-    if (once_in(2))
-        k->len[ADDRESS] = lengths[below(4)];
-    else
-        k->box.region = regions[below(5)];
-}
-
 /* One to four faults at once. */
 static void add_faults(struct call *k)
 {
     static void (*const faults[])(struct call *) = {
         fault_parameter, fault_parameters, fault_length, fault_count,
-        fault_address, fault_data, fault_list, fault_lists, fault_box,
-        fault_box
+        fault_address, fault_data, fault_list, fault_lists
     };
 
     do
@@ -2489,12 +1837,11 @@ static void change_stamps(void)
     changes[below(sizeof changes / sizeof *changes)]();
 }
 
-/* A free block takes the first pages of a BT entry's block, if any, as copies
-   that were cut short leave it: so many frames, and perhaps the first pages of
-   one more. */
-static void copy_from(uint32_t entry)
+/* A free block takes the first pages of a used one, as copies that were cut
+   short leave it: so many frames, and perhaps the first pages of one more. */
+static void copy_block(void)
 {
-    uint32_t to = some_block(CNFTL_BLOCK_FREE);
+    uint32_t entry = some_entry(true), to = some_block(CNFTL_BLOCK_FREE);
     uint32_t pages = (uint32_t)cnftl_pages_per_block(&par), k;
 
     if (entry == CNFTL_NONE || to == CNFTL_NONE)
@@ -2504,21 +1851,6 @@ static void copy_from(uint32_t entry)
     memcpy(frame_at(to, 0), frame_at(bt[entry], 0), k * cnftl_page_bytes(&par));
     if (once_in(4))
         bst[to] = CNFTL_BLOCK_USED;
-}
-
-/* The same of any used block. */
-static void copy_block(void)
-{
-    copy_from(some_entry(true));
-}
-
-/* The same twice of one. */
-static void copy_block_twice(void)
-{
-    uint32_t entry = some_entry(true);
-
-    copy_from(entry);
-    copy_from(entry);
 }
 
 /* Each full block gets such a copy, which is not full, while there are free
@@ -2538,33 +1870,15 @@ static void copy_full_blocks(void)
     }
 }
 
-/* The block of a BT entry loses its last frames, down to one. */
-static void shorten(uint32_t entry)
+/* A used block loses its last frames, down to one. */
+static void shorten_block(void)
 {
-    uint32_t k, to;
+    uint32_t entry = some_entry(true), k, to;
 
-    if (bt[entry] >= par.n || (k = frames_in(bt[entry])) < 2)
+    if (entry == CNFTL_NONE || (k = frames_in(bt[entry])) < 2)
         return;
     for (to = between(1, k - 1); k > to; k--)
         memset(frame_at(bt[entry], k - 1), 255, frame_bytes());
-}
-
-/* A used block does. */
-static void shorten_block(void)
-{
-    uint32_t entry = some_entry(true);
-
-    if (entry != CNFTL_NONE)
-        shorten(entry);
-}
-
-/* All blocks of a region do. */
-static void shorten_region(void)
-{
-    uint32_t region = below(par.mu);
-
-    for (uint32_t i = 0; i < par.gamma; i++)
-        shorten(region * par.gamma + i);
 }
 
 /* A frame of a used block gets the cluster and the stamp of another frame of
@@ -2603,8 +1917,8 @@ static void wear_blocks(void)
 static void change_for_start(void)
 {
     static void (*const changes[])(void) = {
-        copy_block, copy_block, copy_block, copy_block_twice, shorten_block,
-        repeat_stamp, cut_frame, cut_write, change_virtual, change_used_spare
+        copy_block, copy_block, copy_block, shorten_block, repeat_stamp,
+        cut_frame, cut_write, change_virtual, change_used_spare
     };
 
     if (once_in(2))
@@ -2618,62 +1932,12 @@ static void change_for_start(void)
     while (once_in(3));
 }
 
-/* A page of a used block becomes anything, or is lost. */
-static void spoil_page(void)
-{
-    uint32_t entry = some_entry(true);
-    uint32_t page = below((uint32_t)cnftl_pages_per_block(&par));
-    uint8_t *at;
-
-    if (entry == CNFTL_NONE)
-        return;
-    at = frame_at(bt[entry], 0) + page * cnftl_page_bytes(&par);
-    if (once_in(2))
-        fill_random(at, cnftl_page_bytes(&par));
-    else
-        memset(at, 255, cnftl_page_bytes(&par));
-}
-
-/* A used block becomes anything, or is erased. */
-static void spoil_block(void)
-{
-    uint32_t entry = some_entry(true);
-
-    if (entry == CNFTL_NONE)
-        return;
-    if (once_in(2))
-        fill_random(frame_at(bt[entry], 0), block_bytes());
-    else
-        memset(frame_at(bt[entry], 0), 255, block_bytes());
-}
-
 /* One whole table becomes anything. */
 static void scramble_table(void)
 {
     uint32_t i = between(CT, STAMPS);
 
     fill_random(bytes_of(&product, (enum slice)i), room[i]);
-}
-
-/* What a salvage mends is damaged, or in a few cases what it refuses: a byte, a
-   page, a block, an entry, a table, or several of these. */
-static void damage_board(void)
-{
-    static void (*const changes[])(void) = {
-        change_used_spare, change_used_spare, spoil_page, spoil_page,
-        spoil_block, spoil_block, change_virtual, change_cluster, mix_stamps,
-        change_stamp, cut_frame, cut_write, drop_last_frame, shorten_block,
-        shorten_region, name_empty_block, change_ct, change_fst,
-        change_last_stamps, change_marks, change_frame, change_chip,
-        scramble_table, change_bst, change_bt
-    };
-
-    do
-        changes[below(sizeof changes / sizeof *changes)]();
-    while (once_in(2));
-    if (once_in(4))
-        wear_blocks();
-    copy_side(&model, &product);
 }
 
 /* Changes one thing, most often, in both sides' states: marks or stamps alone,
@@ -2800,13 +2064,6 @@ static void compare_some_figures(void)
 
 static uint32_t rest_of_episode; /* calls that this board still gets */
 
-/* Whether the board gets calls of the ledger: its sectors are large enough, or
-   just not. */
-static bool keeps_ledger(void)
-{
-    return par.s >= CNFTL_LEDGER_SECTOR - 1;
-}
-
 /* Whether the mark of this frame of a virtual block of a cluster's region is
    set. */
 static bool is_marked(uint32_t cluster, uint32_t virtual_block, uint32_t frame)
@@ -2919,7 +2176,7 @@ static void hold_to_it(const struct call *why)
     if (!own_parameters(why) || once_in(3) || calls >= limit)
         return;
     memcpy(list, bytes_of(&product, LIST), sizeof list);
-    k.kind = k.lba / par.alpha % par.mu == own_region ? 'R' : "RW"[below(2)];
+    k.kind = "RW"[below(2)];
     k.count = 1;
     k.len[DATA] = par.s;
     k.len[LIST] = 0;
@@ -2933,19 +2190,17 @@ static void hold_to_it(const struct call *why)
 }
 
 /* Makes a few requests on a changed state, and then goes back to the state
-   before or, where the changed one is orderly and no region is kept for a
-   ledger, perhaps goes on with it. */
+   before or, where the changed one is orderly, perhaps goes on with it. */
 static void changed_requests(void)
 {
+    bool held = shadow_holds;
     uint32_t reply, times = between(1, 3);
 
-    save_board();
+    copy_side(&saved, &product);
     change_state();
     shadow_holds = false;
     do {
-        struct call k = right_call(keeps_ledger() && once_in(2)
-                                   ? "EEK"[below(3)]
-                                   : "RRRWWWLYYQQSSSSVV"[below(17)]);
+        struct call k = right_call("RRRWWWLYYQQSSSS"[below(15)]);
 
         if (strchr("WQS", k.kind) && once_in(3))
             give_budget(&k);
@@ -2955,55 +2210,17 @@ static void changed_requests(void)
         if (k.kind == 'Y' && reply == CNFTL_ACCEPTED)
             hold_to_it(&k);
     } while (--times > 0 && calls < limit);
-    if (reply != CNFTL_ACCEPTED || own_region != CNFTL_NONE || !once_in(4))
-        restore_board();
-}
-
-/* A second salvage changes nothing and has nothing to count. */
-static void salvage_again(const struct call *k)
-{
-    uint64_t a = answer_of(k);
-
-    if (a != CNFTL_ACCEPTED || !unchanged())
-        differ(k, "a second salvage", a, CNFTL_ACCEPTED);
-}
-
-/* Damages the board, most times, and salvages it; then reads a few sectors and
-   goes on with it, or back to the board before, as always where a region is
-   kept for a ledger. */
-static void salvage_request(void)
-{
-    struct call k = right_call('V');
-    uint32_t reads = between(1, 4);
-
-    save_board();
-    if (!once_in(8)) {
-        damage_board();
-        shadow_holds = false;
-    }
-    if (make_call(&k) != CNFTL_ACCEPTED) {
-        restore_board();
+    if (reply == CNFTL_ACCEPTED && once_in(4))
         return;
-    }
-    if (calls < limit)
-        salvage_again(&k);
-    for (; reads > 0 && calls < limit; reads--) {
-        struct call read = right_call('R');
-        uint32_t reply = make_call(&read);
-
-        if (reply != CNFTL_ACCEPTED)
-            differ(&read, "a read after a salvage", reply, CNFTL_ACCEPTED);
-    }
-    if (own_region != CNFTL_NONE || once_in(2))
-        restore_board();
+    copy_side(&product, &saved);
+    copy_side(&model, &saved);
+    shadow_holds = held;
 }
 
 /* One call of any kind with faults. */
 static void faulty_request(void)
 {
-    struct call k = right_call(keeps_ledger() && once_in(2)
-                               ? "EK"[below(2)]
-                               : "FRRWWLYYQQQQSV"[below(14)]);
+    struct call k = right_call("FRRWWLYYQQQQS"[below(13)]);
 
     if (strchr("FWQS", k.kind) && once_in(3))
         give_budget(&k);
@@ -3061,7 +2278,7 @@ static void format_request(void)
 static void limited_request(void)
 {
     struct call k = right_call(once_in(64) ? 'F' : "WWWWWQQQS"[below(9)]);
-    bool sound = shadow_holds && !down && !(salvaged && k.kind == 'S');
+    bool sound = shadow_holds && !down;
     uint64_t a;
 
     give_budget(&k);
@@ -3077,17 +2294,16 @@ static void limited_request(void)
         start_again();
 }
 
-/* A right read, write, release, why, queue, start or salvage.  It is accepted
-   if the board was changed by calls alone since a format, and a start then
-   erases nothing, or since a salvage, but for a start; but a write may find no
-   block left, and then the board ends soon.
+/* A right read, write, release, why, queue or start.  It is accepted if the
+   board was changed by calls alone since a format, and a start then erases
+   nothing; but a write may find no block left, and then the board ends soon.
    One that is cut is started soon, one that is not orderly is formatted soon,
    and one with no stamp left in a region later. */
 static void right_request(void)
 {
-    struct call k = right_call(once_in(64) ? "SV"[below(2)]
+    struct call k = right_call(once_in(64) ? 'S'
                                : "RRRRWWWWWWWLYYQQ"[below(16)]);
-    bool sound = shadow_holds && !down && !(salvaged && k.kind == 'S');
+    bool sound = shadow_holds && !down;
     uint64_t a = answer_of(&k);
     uint32_t reply = cnftl_reply_of(a);
 
@@ -3106,108 +2322,6 @@ static void right_request(void)
         format_request();
 }
 
-/* The write of an entry that would be accepted, as a write of its record with a
-   budget.  A start follows, and the box is there then or is not; the book is
-   held to either. */
-static void cut_entry(void)
-{
-    struct box box = some_box();
-    struct call k = right_call('R');
-    uint8_t record[512];
-
-    if (!in_book(box.region) || reply_to_box(&box) != CNFTL_ACCEPTED)
-        return;
-    put_record(record, &box);
-    k.kind = 'W';
-    k.lba = cnftl_region_lba(&par, box.region, filled_in(box.region));
-    k.count = 1;
-    k.len[DATA] = par.s;
-    k.box = box;
-    k.data = record;
-    k.enters = true;
-    give_budget(&k);
-    make_call(&k);
-    if (is_cut() && calls < limit)
-        start_again();
-}
-
-/* A plain write of a record, at times of a spoilt one, to any sector of a
-   region, or a release there. */
-static void stray_write(uint32_t region)
-{
-    uint32_t sectors = cnftl_region_sectors(&par, region);
-    struct call k = right_call('R');
-    struct box box = some_box();
-    uint8_t record[512];
-
-    put_record(record, &box);
-    if (once_in(3))
-        record[once_in(2) ? below(4) : between(RECORD_END, par.s - 1)] ^= 1;
-    k.kind = once_in(6) ? 'L' : 'W';
-    k.lba = cnftl_region_lba(&par, region, below(sectors));
-    k.count = 1;
-    k.len[DATA] = par.s;
-    k.data = record;
-    if (k.kind == 'L') {
-        k.lba /= par.alpha;
-        k.len[DATA] = 0;
-        k.data = NULL;
-    }
-    make_call(&k);
-}
-
-/* Changes a ledger by plain writes, at times where no block is free then or no
-   stamp left, makes calls of the ledger, and goes back to the board before. */
-static void strayed_requests(void)
-{
-    uint32_t region = own_region == CNFTL_NONE ? below(par.mu) : own_region;
-    uint32_t writes = below(4), times = between(2, 6);
-
-    if (clusters_of_region(region) == 0)
-        return;
-    save_board();
-    for (; writes > 0 && calls < limit; writes--)
-        stray_write(region);
-    if (once_in(4))
-        reserve_free_blocks();
-    if (once_in(8))
-        stamps[region] = UINT32_MAX;
-    copy_side(&model, &product);
-    for (; times > 0 && calls < limit; times--) {
-        struct call k = right_call("EK"[below(2)]);
-
-        k.box.region = region;
-        make_call(&k);
-    }
-    restore_board();
-}
-
-/* A call of the ledger, or what it has to stand; a board that is cut is started
-   first, and one whose ledger is full or not in the book is formatted soon. */
-static void ledger_request(void)
-{
-    uint32_t kind = below(16), reply;
-    struct call k = right_call(kind < 7 ? 'E' : 'K');
-
-    if (is_cut()) {
-        start_again();
-    } else if (kind < 11) {
-        if (par.s < CNFTL_LEDGER_SECTOR && once_in(4))
-            fault_box(&k);
-        reply = make_call(&k);
-        if (reply == CNFTL_NO_BLOCK_LEFT)
-            end_soon(60);
-        if (own_region != CNFTL_NONE && calls < limit
-            && once_in(in_book(own_region) && reply != CNFTL_REGION_FULL
-                       ? 128 : 8))
-            format_request();
-    } else if (kind < 14 && par.s >= CNFTL_LEDGER_SECTOR) {
-        cut_entry();
-    } else if (par.s >= CNFTL_LEDGER_SECTOR) {
-        strayed_requests();
-    }
-}
-
 /* A right read of a state that was built to be orderly is accepted. */
 static void read_built_state(void)
 {
@@ -3218,11 +2332,11 @@ static void read_built_state(void)
         differ(&k, "the reply on a built state", reply, CNFTL_ACCEPTED);
 }
 
-/* The state that a board starts from: raw and then formatted, as always where a
-   region is kept for a ledger, orderly, or random bytes. */
+/* The state that a board starts from: raw and then formatted, orderly, or
+   random bytes. */
 static void start_state(void)
 {
-    uint32_t kind = own_region == CNFTL_NONE ? below(16) : 15;
+    uint32_t kind = below(16);
 
     if (kind == 0)
         return;
@@ -3240,31 +2354,26 @@ static void start_state(void)
 }
 
 /* Up to this many calls of all sorts on a board of these parameters; fewer
-   on a large one.  One of its regions may be kept for a ledger. */
-static void run_board(struct cnftl_params p, uint32_t most, uint32_t kept)
+   on a large one. */
+static void run_board(struct cnftl_params p, uint32_t most)
 {
     uint32_t by_size;
 
     assert(cnftl_params_allowed(&p));
     open_board(p, cnftl_chip_bytes(&p));
-    own_region = kept;
     by_size = (uint32_t)(3000000 / room[CHIP]);
     rest_of_episode = by_size < 20 ? 20 : by_size < most ? by_size : most;
     start_state();
     for (; rest_of_episode > 0 && calls < limit; rest_of_episode--) {
         uint32_t kind = below(100);
 
-        if (keeps_ledger() && once_in(2))
-            ledger_request();
-        else if (kind < 1 && (!shadow_holds || once_in(4)))
+        if (kind < 1 && (!shadow_holds || once_in(4)))
             format_request();
         else if (kind < 6)
             faulty_request();
         else if (kind < 14)
             changed_requests();
-        else if (kind < 18)
-            salvage_request();
-        else if (kind < 28 && (!salvaged || once_in(8)))
+        else if (kind < 24)
             limited_request();
         else
             right_request();
@@ -3280,8 +2389,8 @@ static void run_wrapped_board(void)
 
     assert((uint64_t)cnftl_chip_bytes(&p) == UINT64_C(4294967296));
     open_board(p, 0);
-    for (int i = 0; i < 9 && calls < limit; i++) {
-        struct call k = right_call("FRWYQSVEK"[i]);
+    for (int i = 0; i < 6 && calls < limit; i++) {
+        struct call k = right_call("FRWYQS"[i]);
 
         make_call(&k);
     }
@@ -3394,23 +2503,6 @@ static struct cnftl_params extreme_board(void)
     return with_sizes(p);
 }
 
-/* Small boards with sectors for a ledger, and some whose sectors are just too
-   small; on some of them a region has no cluster. */
-static struct cnftl_params ledger_board(void)
-{
-    struct cnftl_params p = {
-        once_in(5) ? 31 : between(32, 35), between(1, 3), between(1, 3),
-        between(1, 3), between(1, 3), between(2, 3), 0, 0, RATED
-    };
-
-    p = with_sizes(p);
-    if (!once_in(4))
-        p.e = RATED;
-    if (p.mu > 1 && once_in(8))
-        p.c = between(1, p.mu - 1);
-    return p;
-}
-
 /* One region with marks in all four words, and few frames more than clusters,
    so that the victim changes with every few writes. */
 static struct cnftl_params large_block_board(void)
@@ -3438,26 +2530,18 @@ static void run_large_board(uint64_t turn)
 
     switch (turn % 4) {
     case 0:
-        run_board(most_clusters, 20, CNFTL_NONE);
+        run_board(most_clusters, 20);
         break;
     case 1:
-        run_board(most_regions, 40, CNFTL_NONE);
+        run_board(most_regions, 40);
         break;
     case 2:
-        run_board(most_blocks, 20, CNFTL_NONE);
+        run_board(most_blocks, 20);
         break;
     default:
         run_wrapped_board();
         break;
     }
-}
-
-/* A board with ledgers, most times with a region for one alone. */
-static void run_ledger_board(void)
-{
-    struct cnftl_params p = ledger_board();
-
-    run_board(p, 300, once_in(4) ? CNFTL_NONE : below(p.mu));
 }
 
 /* Figures, and boards until the calls are made. */
@@ -3468,13 +2552,11 @@ static void run_all(void)
         if (i % 16 == 15)
             run_large_board(i / 16);
         else if (i % 8 == 3)
-            run_board(large_block_board(), 1200, CNFTL_NONE);
-        else if (i % 8 == 1 || i % 8 == 4)
-            run_ledger_board();
+            run_board(large_block_board(), 1200);
         else if (i % 2 == 0)
-            run_board(small_board(), 1200, CNFTL_NONE);
+            run_board(small_board(), 1200);
         else
-            run_board(extreme_board(), 1200, CNFTL_NONE);
+            run_board(extreme_board(), 1200);
     }
 }
 
@@ -3487,17 +2569,7 @@ static const int item_replies[] = {
 };
 enum { ITEM_REPLIES = sizeof item_replies / sizeof *item_replies };
 
-/* The replies that entries get, of which a lookup gets the first. */
-static const int entry_replies[] = {
-    CNFTL_ACCEPTED, CNFTL_BAD_PARAMETER, CNFTL_WRONG_LENGTH,
-    CNFTL_NOT_ORDERLY, CNFTL_SECTOR_TOO_SMALL, CNFTL_NO_SUCH_REGION,
-    CNFTL_NO_RECORD, CNFTL_SERIAL_PRESENT, CNFTL_ADDRESS_PRESENT,
-    CNFTL_REGION_FULL, CNFTL_NO_STAMP_LEFT, CNFTL_NO_BLOCK_LEFT
-};
-enum { LOOKUP_REPLIES = 6 };
-enum { ENTRY_REPLIES = sizeof entry_replies / sizeof *entry_replies };
-
-/* The replies that a start gets, and a salvage. */
+/* The replies that a start gets. */
 static const int start_replies[] = {
     CNFTL_ACCEPTED, CNFTL_BAD_PARAMETER, CNFTL_WRONG_LENGTH, CNFTL_NOT_ORDERLY
 };
@@ -3544,67 +2616,13 @@ static bool report_wear(void)
     return all;
 }
 
-/* Prints what was seen of salvages; false if something never was, or 6 was. */
-static bool report_salvages(void)
-{
-    bool all = idle_salvages > 0 && several_out > 0 && worn_blocks_out > 0
-            && cleared > 0 && mended > 0 && raised > 0 && salvaged_reads > 0
-            && salvages_seen[CNFTL_TOO_FEW_BLOCKS] == 0;
-
-    printf("fuzz: %" PRIu64 " salvages (%" PRIu64 " of orderly boards), by "
-           "reply:", kinds[7], idle_salvages);
-    for (int i = 0; i < START_REPLIES; i++) {
-        printf(" %d: %" PRIu64, start_replies[i],
-               salvages_seen[start_replies[i]]);
-        all = all && salvages_seen[start_replies[i]] > 0;
-    }
-    printf("; refused with rule");
-    for (int i = CNFTL_RULE_BST; i <= CNFTL_RULE_FST; i++) {
-        printf(" %d: %" PRIu64, i, salvages_by[i]);
-        all = all && (salvages_by[i] > 0) == (i != CNFTL_RULE_ENOUGH);
-    }
-    printf("\nfuzz: they took out %" PRIu64 " blocks, %" PRIu64 " of them worn "
-           "too and several at once %" PRIu64 " times, and changed %" PRIu64
-           " entries of CT, %" PRIu64 " of FST and %" PRIu64 " stamps; %" PRIu64
-           " reads after one compared\n", taken_out, worn_blocks_out,
-           several_out, cleared, mended, raised, salvaged_reads);
-    return all;
-}
-
-/* Prints what was seen of ledgers; false if something never was. */
-static bool report_ledgers(void)
-{
-    bool all = found_boxes > 0 && missing_boxes > 0 && book_checks > 0
-            && cut_old > 0 && cut_new > 0;
-
-    printf("fuzz: %" PRIu64 " entries, by reply:", kinds[8]);
-    for (int i = 0; i < ENTRY_REPLIES; i++) {
-        printf(" %d: %" PRIu64, entry_replies[i],
-               entries_seen[entry_replies[i]]);
-        all = all && entries_seen[entry_replies[i]] > 0;
-    }
-    printf("\nfuzz: %" PRIu64 " lookups, by reply:", kinds[9]);
-    for (int i = 0; i < LOOKUP_REPLIES; i++) {
-        printf(" %d: %" PRIu64, entry_replies[i],
-               lookups_seen[entry_replies[i]]);
-        all = all && lookups_seen[entry_replies[i]] > 0;
-    }
-    printf("; on sound boards %" PRIu64 " found and %" PRIu64 " not\n",
-           found_boxes, missing_boxes);
-    printf("fuzz: ledgers compared with the boxes accepted: %" PRIu64 ", with "
-           "up to %" PRIu64 " boxes; entries cut short: %" PRIu64 " were not "
-           "there, %" PRIu64 " were\n", book_checks, most_boxes, cut_old,
-           cut_new);
-    return all;
-}
-
 /* Prints what was seen; false if something never was. */
 static bool report(void)
 {
     bool all = reclaims > 0 && shadow_reads > 0 && kinds[3] > 0
             && held_reads > 0 && stampless > 0 && blockless > 0;
 
-    for (int r = 0; r < CNFTL_NO_BLOCK_LEFT + 1; r++) {
+    for (int r = 0; r < REPLIES; r++) {
         printf("fuzz: reply %d: %" PRIu64 " calls\n", r, seen[r]);
         all = all && seen[r] > 0;
     }
@@ -3613,8 +2631,8 @@ static bool report(void)
            PRIu64 " reclaims, %" PRIu64 " releases\n", kinds[0], kinds[1],
            shadow_reads, kinds[2], reclaims, kinds[3]);
     printf("fuzz: %" PRIu64 " queues, their items by reply:", kinds[5]);
-    for (int i = 0; i < ITEM_REPLIES; i++)
-        printf(" %d: %" PRIu64, item_replies[i], items_seen[item_replies[i]]);
+    for (int r = 0; r < REPLIES; r++)
+        printf(" %d: %" PRIu64, r, items_seen[r]);
     printf("\n");
     for (int i = 0; i < ITEM_REPLIES; i++)
         all = all && items_seen[item_replies[i]] > 0;
@@ -3631,8 +2649,6 @@ static bool report(void)
     all = all && starts_seen[CNFTL_TOO_FEW_BLOCKS] == 0;
     all = report_cuts() && all;
     all = report_wear() && all;
-    all = report_salvages() && all;
-    all = report_ledgers() && all;
     printf("fuzz: %" PRIu64 " whys, %" PRIu64 " read as told, written as told:"
            " %" PRIu64 " continued, %" PRIu64 " opened, %" PRIu64
            " reclaimed, %" PRIu64 " had no stamp left, %" PRIu64

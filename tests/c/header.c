@@ -1,8 +1,7 @@
 /*
  * header.c - Board T of document 01 through cnftl.h, as C99 and as C++ (see
  * header.cc): the printed session and the marked cases that a call can show;
- * the calls with a budget, cut after each of their operations; salvages of
- * boards with one thing wrong; the ledger, on Board T with sectors of 32 bytes;
+ * the calls with a budget, cut after each of their operations;
  * and what follows from the parameters alone: sizes, the sectors of each
  * region, and the writes per erase, with the figures of the README.
  */
@@ -35,9 +34,8 @@ static const struct line session[] = {
     { 'R', 1, 2, 0, 3, 0, 0, 0 }
 };
 
-/* Room for Board T, also with sectors of 32 bytes, and one CT entry more for
-   case (d). */
-static uint8_t chip[960], bst[5], data[32];
+/* Room for Board T, and one CT entry more for case (d). */
+static uint8_t chip[640], bst[5], data[32];
 static uint16_t ct[7], bt[4], fst[2];
 static uint32_t wear[5];
 static uint64_t marks[16];
@@ -66,7 +64,6 @@ static void new_board(void)
     memset(wear, 0, sizeof wear);
     memset(marks, 85, sizeof marks);
     memset(stamps, 85, sizeof stamps);
-    board.params.s = 16;
     board.params.beta = 1;
     board.params.d = 2;
     board.params.c = 6;
@@ -212,7 +209,6 @@ static void check_rated(void)
         assert(!cnftl_params_allowed(&board.params));
         assert(is(cnftl_board_format(&board), CNFTL_BAD_PARAMETER, 0, 0));
         assert(is(cnftl_board_start(&board), CNFTL_BAD_PARAMETER, 0, 0));
-        assert(is(cnftl_board_salvage(&board), CNFTL_BAD_PARAMETER, 0, 0));
         assert(is(cnftl_board_read(&board, 0, 1, data, 16),
                   CNFTL_BAD_PARAMETER, 0, 0));
         assert(is(cnftl_board_write(&board, 0, 1, data, 16),
@@ -581,7 +577,7 @@ static int is_found(void)
    changes nothing; and its other replies. */
 static void check_start(void)
 {
-    static uint8_t before[sizeof chip];
+    static uint8_t before[640];
 
     lose_tables();
     assert(is(cnftl_board_release(&board, 0), CNFTL_NOT_ORDERLY, 0, 0));
@@ -763,8 +759,7 @@ static void check_cut_refused(void)
     assert(is_found());
 }
 
-/* Whether a block is erased but for the mark of a worn block or of one that was
-   taken out, and reserved. */
+/* Whether a block is erased but for the mark of a worn block, and reserved. */
 static int is_worn(int block)
 {
     const uint8_t *bytes = chip + block * 128;
@@ -889,479 +884,14 @@ static void check_cut_worn(void)
               CNFTL_ACCEPTED, 4, 1) && is_worn(0));
 }
 
-/* Board T as it was lent to a call that is to change nothing, or little. */
-static struct {
-    uint8_t chip[960], bst[5];
-    uint16_t ct[7], bt[4], fst[2];
-    uint32_t wear[5];
-    uint64_t marks[16];
-    uint32_t stamps[2];
-} kept;
-
-/* Keeps all that. */
-static void keep_board(void)
-{
-    memcpy(kept.chip, chip, sizeof chip);
-    memcpy(kept.bst, bst, sizeof bst);
-    memcpy(kept.ct, ct, sizeof ct);
-    memcpy(kept.bt, bt, sizeof bt);
-    memcpy(kept.fst, fst, sizeof fst);
-    memcpy(kept.wear, wear, sizeof wear);
-    memcpy(kept.marks, marks, sizeof marks);
-    memcpy(kept.stamps, stamps, sizeof stamps);
-}
-
-/* Whether the board is as it was kept. */
-static int is_kept(void)
-{
-    return memcmp(kept.chip, chip, sizeof chip) == 0
-        && memcmp(kept.bst, bst, sizeof bst) == 0
-        && memcmp(kept.ct, ct, sizeof ct) == 0
-        && memcmp(kept.bt, bt, sizeof bt) == 0
-        && memcmp(kept.fst, fst, sizeof fst) == 0
-        && memcmp(kept.wear, wear, sizeof wear) == 0
-        && memcmp(kept.marks, marks, sizeof marks) == 0
-        && memcmp(kept.stamps, stamps, sizeof stamps) == 0;
-}
-
-/* Whether a salvage has this answer and changes nothing. */
-static int salvage_idle(uint32_t reply)
-{
-    keep_board();
-    return is(cnftl_board_salvage(&board), reply, 0, 0) && is_kept();
-}
-
-/* Whether the first four entries of CT that Board T's fifth write leaves, those
-   of clusters 0, 1, 2 and 4, are these, and the others none. */
-static int ct_is(uint16_t c0, uint16_t c1, uint16_t c2, uint16_t c4)
-{
-    return ct[0] == c0 && ct[1] == c1 && ct[2] == c2 && ct[3] == CNFTL_NONE
-        && ct[4] == c4 && ct[5] == CNFTL_NONE;
-}
-
-/* Whether all bytes of a sector read as this one. */
-static int reads_as(uint32_t lba, uint8_t value)
-{
-    return is(cnftl_board_read(&board, lba, 1, data, 16), CNFTL_ACCEPTED, 0, 0)
-        && sector_is(0, value);
-}
-
-/* Board T after the fifth write with one spare byte of a block's second page
-   wrong.  Blocks 0 and 2 of region 0 are full, with clusters 0 and 2, and 4 and
-   0; block 1 of region 1 has a frame of cluster 1. */
-static void break_block(int block)
-{
-    five_writes();
-    chip[block * 128 + 32 + 16 + 4] = 0;
-    assert(breaks(CNFTL_RULE_USED_BLOCK));
-    assert(is(cnftl_board_start(&board), CNFTL_NOT_ORDERLY, 0, 0));
-    keep_board();
-}
-
-/* Whether all blocks but this one keep every byte and their wear, and it is
-   taken out. */
-static int only_out(int block)
-{
-    for (int i = 0; i < 5; i++)
-        if (i != block
-            && (memcmp(chip + i * 128, kept.chip + i * 128, 128) != 0
-                || wear[i] != kept.wear[i] || bst[i] != kept.bst[i]))
-            return 0;
-    return is_worn(block) && wear[block] == kept.wear[block] + 1;
-}
-
-/* A salvage of an orderly board changes nothing; of one with a broken block it
-   takes this one out, with the entries of the clusters that were held there,
-   and the older frame of cluster 0 does not come back for them.  FST follows
-   where it has to.  All else reads and goes on. */
-static void check_salvage(void)
-{
-    five_writes();
-    assert(salvage_idle(CNFTL_ACCEPTED));
-
-    break_block(0);
-    assert(is(cnftl_board_salvage(&board), CNFTL_ACCEPTED, 1, 1));
-    assert(only_out(0) && bt[0] == CNFTL_NONE && bt[1] == 2 && bt[2] == 1);
-    assert(ct_is(3, 0, CNFTL_NONE, 2) && fst[0] == 3 && fst[1] == 0);
-    assert(marks_are(0, 3, 1, 0) && stamps[0] == 4 && stamps[1] == 1);
-    assert(salvage_idle(CNFTL_ACCEPTED));
-    assert(reads_as(0, 21) && reads_as(1, 17) && reads_as(2, 19)
-           && reads_as(4, 255) && reads_as(5, 255) && reads_as(8, 20));
-    assert(is(cnftl_board_write(&board, 4, 1, data, 16), CNFTL_ACCEPTED, 2, 0)
-           && bt[0] == 3 && ct[2] == 0 && stamps[0] == 5);
-
-    break_block(2);
-    assert(is(cnftl_board_salvage(&board), CNFTL_ACCEPTED, 1, 1));
-    assert(only_out(2) && bt[0] == 0 && bt[1] == CNFTL_NONE && bt[2] == 1);
-    assert(ct_is(CNFTL_NONE, 0, 1, CNFTL_NONE) && fst[0] == 1 && fst[1] == 0);
-    assert(marks_are(2, 0, 1, 0) && stamps[0] == 4);
-    assert(reads_as(0, 255) && reads_as(4, 18) && reads_as(8, 255));
-
-    break_block(1);
-    assert(is(cnftl_board_salvage(&board), CNFTL_ACCEPTED, 1, 1));
-    assert(only_out(1) && bt[2] == CNFTL_NONE && fst[0] == 3);
-    assert(ct_is(3, CNFTL_NONE, 1, 2) && fst[1] == CNFTL_NONE);
-    assert(marks_are(2, 3, 0, 0) && stamps[1] == 1 && reads_as(2, 255));
-}
-
-/* Several blocks, a used block that is erased throughout, a frame only begun,
-   and blocks that are worn by it or at the limit of their wear: each is marked
-   once. */
-static void check_salvaged_blocks(void)
-{
-    break_block(0);
-    chip[1 * 128 + 16 + 11] = 1;
-    board.params.e = 2;
-    wear[1] = 4294967295u;
-    assert(is(cnftl_board_salvage(&board), CNFTL_ACCEPTED, 2, 2));
-    assert(is_worn(0) && is_worn(1) && wear[0] == 2 && wear[1] == 4294967295u);
-    assert(ct_is(3, CNFTL_NONE, CNFTL_NONE, 2) && marks_are(0, 3, 0, 0));
-    assert(is(cnftl_board_format(&board), CNFTL_TOO_FEW_BLOCKS, 0, 0));
-
-    five_writes();
-    bst[3] = CNFTL_BLOCK_USED;
-    bt[3] = 3;
-    keep_board();
-    assert(is(cnftl_board_salvage(&board), CNFTL_ACCEPTED, 1, 1));
-    assert(only_out(3) && bt[3] == CNFTL_NONE && ct_is(3, 0, 1, 2));
-
-    five_writes();
-    memset(chip + 2 * 128 + 96, 255, 32);
-    keep_board();
-    assert(is(cnftl_board_salvage(&board), CNFTL_ACCEPTED, 0, 0));
-    assert(memcmp(chip, kept.chip, sizeof chip) == 0
-           && memcmp(bst, kept.bst, sizeof bst) == 0 && fst[0] == 3);
-    assert(ct_is(CNFTL_NONE, 0, 1, 2) && marks_are(2, 1, 1, 0));
-}
-
-/* Tables with a wrong entry each: CT's becomes none, FST's is chosen, a stamp
-   is raised and never lowered, and the marks are worked out. */
-static void check_salvaged_tables(void)
-{
-    five_writes();
-    ct[3] = 1;
-    ct[4] = 4;
-    fst[0] = 2;
-    fst[1] = 1;
-    stamps[0] = 3;
-    stamps[1] = 7;
-    memset(marks, 85, sizeof marks);
-    keep_board();
-    assert(is(cnftl_board_salvage(&board), CNFTL_ACCEPTED, 0, 0));
-    assert(memcmp(chip, kept.chip, sizeof chip) == 0
-           && memcmp(bt, kept.bt, sizeof bt) == 0);
-    assert(ct_is(3, 0, 1, CNFTL_NONE) && fst[0] == 1 && fst[1] == 0);
-    assert(stamps[0] == 4 && stamps[1] == 7 && marks_are(2, 2, 1, 0));
-    fst[0] = 3;
-    assert(salvage_idle(CNFTL_ACCEPTED));
-}
-
-/* What a salvage refuses, which changes nothing: each rule of BST, of BT and of
-   the free blocks broken, and two sound blocks of a region that are not full;
-   but not where one of these is broken.  Lengths too. */
-static void check_salvage_refused(void)
-{
-    five_writes();
-    bst[4] = 3;
-    assert(salvage_idle(CNFTL_NOT_ORDERLY));
-    bst[4] = CNFTL_BLOCK_USED;
-    assert(salvage_idle(CNFTL_NOT_ORDERLY));
-    bst[4] = CNFTL_BLOCK_FREE;
-    bst[2] = CNFTL_BLOCK_RESERVED;
-    assert(salvage_idle(CNFTL_NOT_ORDERLY));
-    bst[2] = CNFTL_BLOCK_USED;
-    bt[3] = 5;
-    assert(salvage_idle(CNFTL_NOT_ORDERLY));
-    bt[3] = 2;
-    assert(salvage_idle(CNFTL_NOT_ORDERLY));
-    bt[3] = CNFTL_NONE;
-    chip[4 * 128 + 127] = 254;
-    assert(salvage_idle(CNFTL_NOT_ORDERLY));
-    chip[4 * 128 + 127] = 255;
-    assert(salvage_idle(CNFTL_ACCEPTED));
-    memset(chip + 64, 255, 64);
-    memset(chip + 2 * 128 + 64, 255, 64);
-    assert(salvage_idle(CNFTL_NOT_ORDERLY));
-    chip[16 + 12] = 0;
-    assert(is(cnftl_board_salvage(&board), CNFTL_ACCEPTED, 1, 1));
-    assert(is_worn(0) && fst[0] == 2
-           && ct_is(CNFTL_NONE, 0, CNFTL_NONE, 2));
-    assert(is(cnftl_salvage(16, 2, 1, 2, 2, 2, 6, 5, RATED, chip, 640, ct, 6,
-                            bt, 4, fst, 2, bst, 5, wear, 5, marks, 16,
-                            stamps, 1), CNFTL_WRONG_LENGTH, 0, 0));
-}
-
-/* A board that a salvage leaves with too few blocks is not refused; its writes
-   go on until one needs a block, and a start goes on with what it finds. */
-static void check_salvaged_short(void)
-{
-    break_block(2);
-    assert(is(cnftl_board_salvage(&board), CNFTL_ACCEPTED, 1, 1));
-    for (int i = 0; i < 5; i++)
-        if (bst[i] == CNFTL_BLOCK_FREE)
-            bst[i] = CNFTL_BLOCK_RESERVED;
-    assert(is(cnftl_board_write(&board, 0, 1, data, 16), CNFTL_NO_BLOCK_LEFT,
-              0, 0));
-    assert(is(cnftl_board_write(&board, 2, 1, data, 16), CNFTL_ACCEPTED, 2, 0));
-    assert(salvage_idle(CNFTL_ACCEPTED));
-    break_block(2);
-    assert(is(cnftl_board_salvage(&board), CNFTL_ACCEPTED, 1, 1)
-           && reads_as(0, 255));
-    assert(is(cnftl_board_start(&board), CNFTL_ACCEPTED, 0, 0)
-           && bst[2] == CNFTL_BLOCK_RESERVED && reads_as(0, 17));
-}
-
-/* A formatted Board T with sectors of this many bytes.  Region 0 has sectors 0,
-   1, 4, 5, 8 and 9. */
-static void ledger_board(uint32_t s)
-{
-    new_board();
-    board.params.s = s;
-    assert(is(cnftl_board_format(&board), CNFTL_ACCEPTED, 0, 5));
-}
-
-/* Enters a box whose address is this byte six times; the answer. */
-static uint64_t enter(uint32_t region, uint64_t serial, uint8_t value)
-{
-    uint8_t address[CNFTL_ADDRESS_BYTES];
-
-    memset(address, value, sizeof address);
-    return cnftl_board_enter(&board, region, serial, address);
-}
-
-/* Whether an entry is refused so and changes nothing. */
-static int enter_idle(uint32_t region, uint64_t serial, uint8_t value,
-                      uint32_t reply)
-{
-    keep_board();
-    return is(enter(region, serial, value), reply, 0, 0) && is_kept();
-}
-
-/* Whether a lookup is accepted and finds an address of this byte six times, or
-   with 0 finds none and leaves the lent address and the board as they are. */
-static int finds(uint32_t region, uint64_t serial, uint8_t value)
-{
-    uint8_t address[CNFTL_ADDRESS_BYTES] = { 0, 0, 0, 0, 0, 0 };
-    uint64_t a;
-
-    keep_board();
-    a = cnftl_board_lookup(&board, region, serial, address);
-    for (unsigned i = 0; i < CNFTL_ADDRESS_BYTES; i++)
-        if (address[i] != value)
-            return 0;
-    return is(a, CNFTL_ACCEPTED, value != 0, 0) && is_kept()
-        && cnftl_found(a) == (value != 0);
-}
-
-/* Puts down the record of such a box with a serial below 256. */
-static void make_record(uint8_t *sector, uint8_t serial, uint8_t value)
-{
-    memset(sector, 0, 32);
-    memcpy(sector, "BOXR", 4);
-    sector[4] = serial;
-    memset(sector + 12, value, 6);
-    memset(sector + 18, 255, 14);
-}
-
-/* Writes such a record to a sector by a plain write, one byte of it changed to
-   this value. */
-static void write_record(uint32_t lba, uint8_t serial, uint8_t value, int at,
-                         uint8_t byte)
-{
-    make_record(data, serial, value);
-    data[at] = byte;
-    assert(cnftl_reply_of(cnftl_board_write(&board, lba, 1, data, 32))
-           == CNFTL_ACCEPTED);
-}
-
-/* Whether a sector reads as such a record. */
-static int holds_record(uint32_t lba, uint8_t serial, uint8_t value)
-{
-    uint8_t record[32];
-
-    make_record(record, serial, value);
-    return is(cnftl_board_read(&board, lba, 1, data, 32), CNFTL_ACCEPTED, 0, 0)
-        && memcmp(data, record, sizeof record) == 0;
-}
-
-/* The bytes of a record, and a box that is found with its address. */
-static void check_record(void)
-{
-    static const uint8_t address[6] = { 0xa0, 0xb1, 0xc2, 0xd3, 0xe4, 0xf5 };
-    static const uint8_t record[19] = {
-        'B', 'O', 'X', 'R', 0x88, 0x77, 0x66, 0x55, 0x44, 0x33, 0x22, 0x11,
-        0xa0, 0xb1, 0xc2, 0xd3, 0xe4, 0xf5, 255
-    };
-    uint8_t back[6];
-
-    ledger_board(32);
-    assert(finds(0, UINT64_C(0x1122334455667788), 0));
-    assert(is(cnftl_board_enter(&board, 0, UINT64_C(0x1122334455667788),
-                                address), CNFTL_ACCEPTED, 2, 0));
-    assert(is(cnftl_board_read(&board, 0, 1, data, 32), CNFTL_ACCEPTED, 0, 0));
-    assert(memcmp(data, record, 18) == 0);
-    for (int i = 18; i < 32; i++)
-        assert(data[i] == record[18]);
-    assert(cnftl_found(cnftl_board_lookup(&board, 0,
-                                          UINT64_C(0x1122334455667788), back))
-           && memcmp(back, address, 6) == 0);
-    assert(finds(0, 0x55667788, 0) && finds(0, UINT64_MAX, 0));
-}
-
-/* Six boxes fill region 0, with the counts of their writes; what is there is
-   refused, and a seventh too.  Region 1 has a ledger of its own. */
-static void check_ledger(void)
-{
-    static const uint32_t lbas[6] = { 0, 1, 4, 5, 8, 9 };
-
-    ledger_board(32);
-    for (int i = 0; i < 6; i++) {
-        assert(is(enter(0, 10 + (unsigned)i, (uint8_t)(i + 1)),
-                  CNFTL_ACCEPTED, i < 4 ? 2 : 4, i >= 4));
-        assert(holds_record(lbas[i], (uint8_t)(10 + i), (uint8_t)(i + 1)));
-        assert(enter_idle(0, 10, 99, CNFTL_SERIAL_PRESENT));
-        assert(enter_idle(0, 99, 1, CNFTL_ADDRESS_PRESENT));
-        assert(enter_idle(0, 10 + (unsigned)i, 1, CNFTL_SERIAL_PRESENT));
-    }
-    assert(enter_idle(0, 16, 7, CNFTL_REGION_FULL));
-    assert(enter_idle(0, 10, 7, CNFTL_SERIAL_PRESENT));
-    assert(enter_idle(0, 16, 6, CNFTL_ADDRESS_PRESENT));
-    for (int i = 0; i < 6; i++)
-        assert(finds(0, 10 + (unsigned)i, (uint8_t)(i + 1)));
-    assert(finds(1, 10, 0));
-    assert(is(enter(1, 10, 1), CNFTL_ACCEPTED, 2, 0));
-    assert(holds_record(2, 10, 1) && finds(1, 10, 1));
-    assert(is(cnftl_board_start(&board), CNFTL_ACCEPTED, 0, 0));
-    for (int i = 0; i < 6; i++)
-        assert(finds(0, 10 + (unsigned)i, (uint8_t)(i + 1)));
-}
-
-/* Sectors that are no record stop entries, and lookups pass over them: one
-   byte of BOXR or of the rest changed, and one that is blank with a record
-   behind it.  Of two records with a serial the first counts. */
-static void check_no_record(void)
-{
-    static const int wrong[] = { 0, 1, 2, 3, 18, 31 };
-
-    for (size_t i = 0; i < sizeof wrong / sizeof wrong[0]; i++) {
-        ledger_board(32);
-        assert(is(enter(0, 10, 1), CNFTL_ACCEPTED, 2, 0));
-        write_record(1, 11, 2, wrong[i], 'A');
-        assert(enter_idle(0, 10, 3, CNFTL_NO_RECORD));
-        assert(finds(0, 10, 1) && finds(0, 11, 0));
-        write_record(4, 11, 4, 12, 4);
-        assert(enter_idle(0, 12, 3, CNFTL_NO_RECORD) && finds(0, 11, 4));
-        write_record(1, 11, 2, 17, 2);
-        assert(finds(0, 11, 2) && is(enter(0, 12, 3), CNFTL_ACCEPTED, 2, 1));
-    }
-    ledger_board(32);
-    write_record(4, 10, 1, 17, 1);
-    assert(enter_idle(0, 12, 3, CNFTL_NO_RECORD) && finds(0, 10, 1));
-    assert(is(cnftl_board_release(&board, 2), CNFTL_ACCEPTED, 0, 0));
-    assert(finds(0, 10, 0) && is(enter(0, 12, 3), CNFTL_ACCEPTED, 2, 0)
-           && holds_record(0, 12, 3));
-}
-
-/* The other refusals of both calls, in their order: 2 before 7, 7 before 20, 20
-   before 21; 9 and 10 after the ledger's own, and not for a lookup. */
-static void check_ledger_refused(void)
-{
-    uint8_t address[7] = { 1, 1, 1, 1, 1, 1, 1 };
-
-    ledger_board(31);
-    assert(enter_idle(2, 10, 1, CNFTL_SECTOR_TOO_SMALL));
-    assert(is(cnftl_board_lookup(&board, 2, 10, address),
-              CNFTL_SECTOR_TOO_SMALL, 0, 0));
-    fst[0] = 0;
-    assert(enter_idle(2, 10, 1, CNFTL_NOT_ORDERLY));
-    assert(is(cnftl_board_lookup(&board, 2, 10, address), CNFTL_NOT_ORDERLY, 0,
-              0));
-    for (size_t len = 0; len < 8; len++) {
-        uint32_t reply = len == 6 ? CNFTL_NOT_ORDERLY : CNFTL_WRONG_LENGTH;
-
-        assert(is(cnftl_enter(CNFTL_BOARD(&board), 0, 10, address, len), reply,
-                  0, 0));
-        assert(is(cnftl_lookup(CNFTL_BOARD(&board), 0, 10, address, len),
-                  reply, 0, 0));
-    }
-    ledger_board(32);
-    assert(enter_idle(2, 10, 1, CNFTL_NO_SUCH_REGION));
-    assert(is(cnftl_board_lookup(&board, 2, 10, address),
-              CNFTL_NO_SUCH_REGION, 0, 0));
-    assert(is(enter(0, 10, 1), CNFTL_ACCEPTED, 2, 0));
-    assert(is(enter(0, 11, 2), CNFTL_ACCEPTED, 2, 0));
-    for (int i = 0; i < 5; i++)
-        if (bst[i] == CNFTL_BLOCK_FREE)
-            bst[i] = CNFTL_BLOCK_RESERVED;
-    assert(enter_idle(0, 12, 3, CNFTL_NO_BLOCK_LEFT));
-    stamps[0] = 4294967295u;
-    assert(enter_idle(0, 12, 3, CNFTL_NO_STAMP_LEFT) && finds(0, 11, 2));
-    assert(enter_idle(0, 11, 3, CNFTL_SERIAL_PRESENT));
-    assert(enter_idle(0, 12, 2, CNFTL_ADDRESS_PRESENT));
-    board.params.e = 0;
-    assert(is(enter(0, 12, 3), CNFTL_BAD_PARAMETER, 0, 0));
-    assert(is(cnftl_board_lookup(&board, 0, 10, address), CNFTL_BAD_PARAMETER,
-              0, 0));
-}
-
-/* A region without a cluster is full, and has no box. */
-static void check_empty_region(void)
-{
-    new_board();
-    board.params.s = 32;
-    board.params.c = 1;
-    assert(is(cnftl_board_format(&board), CNFTL_ACCEPTED, 0, 5));
-    assert(enter_idle(1, 10, 1, CNFTL_REGION_FULL) && finds(1, 10, 0));
-    assert(is(enter(0, 10, 1), CNFTL_ACCEPTED, 2, 0));
-    assert(is(enter(0, 11, 2), CNFTL_ACCEPTED, 2, 0));
-    assert(enter_idle(0, 12, 3, CNFTL_REGION_FULL) && finds(0, 11, 2));
-}
-
-/* The write of an entry is cut after each of its operations, with a reclaim
-   among them: after the start the four boxes before it are there, and it is
-   there as a whole or can be entered. */
-static void check_cut_entry(void)
-{
-    int found = 0;
-
-    for (uint64_t budget = 0; budget < 6; budget++) {
-        ledger_board(32);
-        for (int i = 0; i < 4; i++)
-            assert(is(enter(0, 10 + (unsigned)i, (uint8_t)(i + 1)),
-                      CNFTL_ACCEPTED, 2, 0));
-        make_record(data, 14, 5);
-        assert(is(cnftl_board_write_cut(&board, 8, 1, data, 32, budget),
-                  CNFTL_ACCEPTED, 0, 0) && cnftl_board_is_cut(&board));
-        assert(cnftl_reply_of(cnftl_board_start(&board)) == CNFTL_ACCEPTED);
-        for (int i = 0; i < 4; i++)
-            assert(finds(0, 10 + (unsigned)i, (uint8_t)(i + 1)));
-        if (finds(0, 14, 5)) {
-            found++;
-            assert(enter_idle(0, 14, 5, CNFTL_SERIAL_PRESENT));
-        } else {
-            assert(finds(0, 14, 0));
-            assert(cnftl_reply_of(enter(0, 14, 5)) == CNFTL_ACCEPTED);
-        }
-        assert(holds_record(8, 14, 5) && finds(0, 14, 5));
-    }
-    assert(found == 1);
-}
-
-/* Whether a number is that of no reply. */
-static int is_unknown(uint32_t reply)
-{
-    return (reply > CNFTL_NO_BLOCK_LEFT && reply < CNFTL_SECTOR_TOO_SMALL)
-        || reply > CNFTL_REGION_FULL;
-}
-
-/* The texts: one for each reply and each rule, and one for all other numbers;
-   no two alike. */
+/* The texts: one for each reply and each rule, and one for all numbers from the
+   next on; no two alike. */
 static void check_texts(void)
 {
-    for (uint32_t i = 0; i <= CNFTL_REGION_FULL + 1; i++)
+    for (uint32_t i = 0; i <= CNFTL_NO_BLOCK_LEFT + 1; i++)
         for (uint32_t j = 0; j <= i; j++)
             assert((strcmp(cnftl_reply_text(i), cnftl_reply_text(j)) == 0)
-                   == (i == j || (is_unknown(i) && is_unknown(j))));
+                   == (i == j));
     for (uint32_t i = 0; i <= CNFTL_RULE_STAMPS + 1; i++)
         for (uint32_t j = 0; j <= i; j++)
             assert((strcmp(cnftl_rule_text(i), cnftl_rule_text(j)) == 0)
@@ -1370,10 +900,6 @@ static void check_texts(void)
     assert(strcmp(cnftl_reply_text(CNFTL_NOT_ORDERLY),
                   "the board is not orderly") == 0);
     assert(strcmp(cnftl_reply_text(11), "unknown reply") == 0);
-    assert(strcmp(cnftl_reply_text(19), "unknown reply") == 0);
-    assert(strcmp(cnftl_reply_text(CNFTL_SERIAL_PRESENT),
-                  "the serial is already in the ledger") == 0);
-    assert(strcmp(cnftl_reply_text(26), "unknown reply") == 0);
     assert(strcmp(cnftl_reply_text(UINT32_MAX), "unknown reply") == 0);
     assert(strcmp(cnftl_rule_text(CNFTL_RULE_TWICE),
                   "BT names a block twice") == 0);
@@ -1523,17 +1049,6 @@ int main(void)
     check_wear();
     check_worn();
     check_cut_worn();
-    check_salvage();
-    check_salvaged_blocks();
-    check_salvaged_tables();
-    check_salvage_refused();
-    check_salvaged_short();
-    check_record();
-    check_ledger();
-    check_no_record();
-    check_ledger_refused();
-    check_empty_region();
-    check_cut_entry();
     check_replies();
     printf("header: Board T answers as printed\n");
     return 0;

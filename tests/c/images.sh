@@ -5,7 +5,7 @@ chip=48 ct=3888 fst=3940 bst=3944 marks=3994 stamps=4186 # where chip and these 
 page=48 spare=32                                         # bytes of a page, and where its spare area begins
 
 # `build NAME` compiles examples/NAME.c.
-build() { "$cc" -std=c11 -O2 "${strict[@]}" ${link[@]+"${link[@]}"} -o "$room/$1" "examples/$1.c" examples/image.c examples/salvage.c "$archive"; }
+build() { "$cc" -std=c11 -O2 "${strict[@]}" ${link[@]+"${link[@]}"} -o "$room/$1" "examples/$1.c" examples/image.c "$archive"; }
 
 # `put IMAGE OFFSET BYTES` puts bytes, as printf takes them, at an offset.
 put() { printf "$3" | dd of="$1" bs=1 seek="$2" conv=notrunc 2>"$room/err"; }

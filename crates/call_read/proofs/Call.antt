@@ -1,6 +1,6 @@
 -- What an accepted read asks, and its work done.
 -- Assumes nothing.
-use mathlib.Core.Path.{◌≡◌, sym, ap, ap₂, ◌∙◌}
+use mathlib.Core.Path.{◌≡◌, sym, ap₂, ◌∙◌}
 use mathlib.Core.List.{List, []}
 use Prim.Native.Nat.{ℕ}
 use Rattle.rules.specs.declared.Params.{Params}
@@ -11,7 +11,7 @@ use Rattle.rules.specs.Tables.{Board}
 use Rattle.rules.specs.Regions.{looks_at}
 use Rattle.rules.specs.Requests.{Request, read, request_cluster}
 use Rattle.rules.specs.Replies.{reply_of}
-use Rattle.rules.specs.Calls.{Outcome, answer_of, outcome_of, read_bytes}
+use Rattle.rules.specs.Calls.{answer_of, outcome_of, read_bytes}
 use Rattle.rules.proofs.Admitted.{admitted, read_checks}
 use Rattle.rules.proofs.Outcomes.{read_accepted}
 use Rattle.read_work.specs.Lookup.{Looked}
@@ -28,7 +28,3 @@ module _ (p : Params) (b : Board) (q : Request) (e : reply_of p b (read q) ≡ A
   read_done bytes d looks k r er a is =
       let n : looks ≡ looks_at p b (request_cluster p q) = unfold looks_at in k.is b.fst in
       (λ i. outcome ((is ∙ ap₂ {C = Answer} (λ (y : Reply) (m : ℕ). answer_of y [] m) (er ∙ e) n) i) (d i) [] b) ∙ sym (read_accepted p b q e)
-
-  -- and its bytes are the outcome's
-  pub bytes_read : (bytes : List ℕ) → bytes ≡ read_bytes p b q → bytes ≡ (outcome_of p b (read q)).bytes
-  bytes_read bytes d = d ∙ ap (λ (o : Outcome). o.bytes) (sym (read_accepted p b q e))

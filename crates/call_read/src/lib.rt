@@ -3,11 +3,9 @@ ghost use Rattle.std.specs.Prelude.{◌≡◌, []};
 ghost use Rattle.rules.specs.Lent.{entry_board};
 ghost use Rattle.rules.specs.Requests.{read, request_of};
 ghost use Rattle.rules.specs.Calls.{outcome_of};
-ghost use Rattle.rules.specs.Replies.{reply_of};
 ghost use Rattle.outcomes.specs.Claims.{outcome};
-ghost use Rattle.call_read.specs.Others.{Others, board_with, ReadTaken};
 
-use rules::{Answer, Params, Reply};
+use rules::{Answer, Params};
 
 // The lent data becomes the sectors asked for; 255 in those that were not written since the last format.
 pub fn read(
@@ -46,21 +44,4 @@ pub fn read(
     }
     let looks = read_work::read_sectors(p, chip, ct, bt, lba as usize, count as usize, bytes);
     reply_rows::looked(reply, looks)
-}
-
-// The work of a read that is known to be accepted: the state is not looked at again.
-pub fn read_orderly(
-    p: Params,
-    chip: &[u8],
-    ct: &[u16],
-    bt: &[u16],
-    lba: usize,
-    count: usize,
-    bytes: &mut [u8],
-)
-    requires { ReadTaken p chip.now ct.now bt.now (request_of lba count bytes.old) }
-    ensures { (x : Others) → reply_of p (board_with chip.now ct.now bt.now x) (read (request_of lba count bytes.old)) ≡ Reply.Accepted
-        → bytes.new ≡ (outcome_of p (board_with chip.now ct.now bt.now x) (read (request_of lba count bytes.old))).bytes }
-{
-    read_work::read_sectors(p, chip, ct, bt, lba, count, bytes);
 }

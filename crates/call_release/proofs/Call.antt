@@ -29,7 +29,7 @@ use Rattle.rules.proofs.Outcomes.{release_accepted}
 use Rattle.marks.specs.Kept.{put_mark}
 use Rattle.marks.proofs.ReleasedMarks.{released_marks}
 use Rattle.read_work.specs.Lookup.{Lookup, Stands, Within}
-use Rattle.read_work.proofs.Views.{lookup_of_lem}
+use Rattle.read_work.proofs.Views.{lookup_of}
 use Rattle.write_marks.specs.Keeping.{UnmarkAsked}
 use Rattle.write_marks.proofs.Keeping.{old_is, unmark_asked}
 use Rattle.outcomes.specs.Claims.{outcome}
@@ -58,7 +58,7 @@ module _ (p : Params) (b : Board) (c : ℕ) (r : Reply) (e : r ≡ reply_of p b 
     release_lookup =
         let l = tables_in p b acc.lengths acc.tidy in
         let nt = neat p (region_of p c) (view p b (region_of p c)) (orderly_region p b acc.tidy (region_of p c) (mod-lt c regions)) in
-        lookup_of_lem p b.chip b.ct b.bt b.fst c acc.fine l.chip_length l.ct_length l.bt_length acc.cluster l.names (nt.entries c acc.cluster)
+        lookup_of p b.chip b.ct b.bt b.fst c acc.fine l.chip_length l.ct_length l.bt_length acc.cluster l.names (nt.entries c acc.cluster)
 
     pub entry_there : c < length b.ct
     entry_there = rw release_lookup.ct_length release_lookup.low

@@ -10,7 +10,7 @@ use Rattle.rules.specs.Numbers.{cluster_of, region_of, vblock_of, place_of}
 use Rattle.rules.specs.Tables.{Board, board_of, none, ct_at, bt_at, bst_at, wear_at}
 use Rattle.rules.specs.Regions.{view}
 use Rattle.rules.specs.Marks.{marks_of}
-use Rattle.rules.specs.Requests.{Request, request_region, Call, format, read, write, release, queue, start, salvage}
+use Rattle.rules.specs.Requests.{Request, request_region, Call, format, read, write, release, queue, start}
 use Rattle.rules.specs.Write.{Plan, continues, opens, reclaims, plan_of}
 use Rattle.rules.specs.Replies.{number_of, is_accepted, reply_of}
 use Rattle.rules.specs.Calls.{Outcome, outcome_of}
@@ -64,7 +64,6 @@ printed (write q) o = counted o.answer ++ (o.answer.looks ∷ [])
 printed (release c) o = counted o.answer
 printed (queue l) o = counted o.answer
 printed start o = counted o.answer
-printed salvage o = counted o.answer
 printed (read q) o = number_of o.answer.reply ∷ cond (is_accepted o.answer.reply) o.bytes []
 
 unfoldable pub session_from : Board → List Call → List (List ℕ)

@@ -2,4 +2,3 @@ pub mod BoardT
 pub mod StartT
 pub mod CutT
 pub mod WornT
-pub mod SalvageT

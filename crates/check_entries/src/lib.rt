@@ -73,7 +73,7 @@ fn open_ok(p: Params, chip: &[u8], bt: &[u16], r: usize, sg: Segment) -> bool
 }
 
 // FST is none exactly if region r has no block, else it names the segment of the last programmed frame of the open block.
-pub fn fst_ok(p: Params, chip: &[u8], bt: &[u16], fst: &[u16], r: usize) -> bool
+fn fst_ok(p: Params, chip: &[u8], bt: &[u16], fst: &[u16], r: usize) -> bool
     requires lent { Lent p chip.now bt.now }
     requires fst_len { length fst.now ≡ p.mu }
     requires r_lt_mu { r < p.mu }
@@ -123,7 +123,7 @@ fn segment_ok(p: Params, chip: &[u8], bt: &[u16], r: usize, c: Cluster, sg: Segm
 }
 
 // The CT entry of cluster c, of region r, is none or names such a segment.
-pub fn cluster_ok(p: Params, chip: &[u8], ct: &[u16], bt: &[u16], r: usize, c: Cluster) -> bool
+fn cluster_ok(p: Params, chip: &[u8], ct: &[u16], bt: &[u16], r: usize, c: Cluster) -> bool
     requires lent { Lent p chip.now bt.now }
     requires r_lt_mu { r < p.mu }
     requires c_in_bounds { c.0 < length ct.now }

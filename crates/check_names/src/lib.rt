@@ -1,5 +1,4 @@
-// The rules of which blocks BT names: none twice, and exactly the used ones. They search BT as often as they need: only the question which rule is broken asks, and a salvage
-// for a block that breaks its rule.
+// The rules of which blocks BT names: none twice, and exactly the used ones. They search BT as often as they need: only the question which rule is broken asks.
 ghost use Rattle.std.specs.Prelude.{◌≡◌, true, not, ◌||◌, ◌*◌, ◌<◌, length, eqb};
 ghost use Rattle.std.specs.Bool.{beq};
 ghost use Rattle.lists.specs.Below.{all_below};
@@ -26,7 +25,7 @@ fn pair_ok(bt: &[u16], i: usize, j: usize) -> bool
 }
 
 // No other entry of BT names the block of entry i.
-pub fn entry_once(p: Params, bt: &[u16], i: usize) -> bool
+fn entry_once(p: Params, bt: &[u16], i: usize) -> bool
     requires bt_len { length bt.now ≡ p.mu * p.gamma }
     requires i_bound { i < p.mu * p.gamma }
     ensures { result ≡ all_below (p.mu * p.gamma) (λ j. eqb i j || (eqb (bt_entry bt.now i) none || not (eqb (bt_entry bt.now i) (bt_entry bt.now j)))) }

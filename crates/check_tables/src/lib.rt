@@ -52,7 +52,7 @@ pub fn bt_ok(p: Params, bt: &[u16]) -> bool
 }
 
 // 1 if a test passed, else 0.
-pub fn one_if(ok: bool) -> usize
+fn one_if(ok: bool) -> usize
     ensures value { result ≡ cond ok 1 0 }
     ensures upper_bound { result ≤ 1 }
 {

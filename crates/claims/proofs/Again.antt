@@ -19,13 +19,13 @@ use Rattle.rules.specs.Parameters.{allowed, chip_bytes}
 use Rattle.rules.specs.Tables.{Board, bst_at, bt_at, wear_at}
 use Rattle.rules.specs.Regions.{view}
 use Rattle.rules.specs.Traces.{Op, erase, erase_ops, erase_where, frame_ops, frames_ops, mark, on_wear, program, replay_wear, worn}
-use Rattle.rules.specs.Requests.{Call, Request, format, queue, read, release, request_cluster, request_region, start, write, salvage}
+use Rattle.rules.specs.Requests.{Call, Request, format, queue, read, release, request_cluster, request_region, start, write}
 use Rattle.rules.specs.Format.{bad, format_ops}
 use Rattle.rules.specs.Start.{in_use, left_over, start_ops}
 use Rattle.rules.specs.Write.{Plan, copies, new_frame, next_stamp, plan_block, plan_frame, plan_of, plan_ops, plan_vBlock, room_ops, victim_ops, write_ops}
 use Rattle.rules.specs.Replies.{OrderlyBoard, bad_parameter, first_row, is_accepted, lengths_fit, lent_rows, reply_of, rows_of, too_few_blocks, wrong_length}
 use Rattle.rules.specs.Calls.{ops_of, work_of}
-use Rattle.rules.specs.Cuts.{Step, is_cut, limited, plain, call_of}
+use Rattle.rules.specs.Cuts.{Step, is_cut, limited, plain}
 use Rattle.rules.proofs.Admitted.{Admitted, admitted, format_admitted, write_checks}
 use Rattle.rules.proofs.BadBlocks.{unreserved_good}
 use Rattle.rules.proofs.Erases.{erases_below, wear_ahead, where_below}
@@ -40,9 +40,7 @@ use Rattle.rules.proofs.Writes.{wear_length_lem}
 use Rattle.starts.proofs.KeptBlocks.{use_good}
 use Rattle.claims.specs.Runs.{board_after, erases_block, leaves, made_by}
 use Rattle.claims.proofs.BadRuns.{MarksWorn, bad_replay, erased_rated, new_worn, stays_bad, worn_append, worn_take}
-use Rattle.salvages.proofs.Same.{no_ops}
 use Rattle.claims.proofs.CutTraces.{step_long, step_made, trace_long}
-use Rattle.claims.proofs.Quiet.{AllQuiet, Quiet, StepsQuiet, one_quiet}
 use Rattle.claims.proofs.Kept.{Replayed, one_made, run_long}
 use Rattle.claims.proofs.PlainRuns.{plain_board, plain_leaves, plain_parts, plain_trace}
 use Rattle.claims.proofs.Singles.{AllSingle, Single, all_single, parts_same, singles_of}
@@ -221,21 +219,20 @@ module _ (p : Params) (fine : allowed p ≡ true) (n : ℕ) (low : n < p.N) wher
   z : Sizes p
   z = sizes p fine
 
-  done_sparing : (b : Board) (c : Call) → Single c → Quiet p b c → reply_of p b c ≡ Accepted → lengths_fit p b ≡ true → Sparing p b n (done_ops p b c)
+  done_sparing : (b : Board) (c : Call) → Single c → reply_of p b c ≡ Accepted → lengths_fit p b ≡ true → Sparing p b n (done_ops p b c)
   unfolding done_ops format_ops start_ops
-  done_sparing b format s t e l = where_sparing p z b n (λ m. not (bad p b.chip m)) (wear_long p b l) (not-true (bad p b.chip n))
-  done_sparing b (read q) s t e l = none_sparing p b n
-  done_sparing b (write q) s t e l = write_sparing p b q e n
-  done_sparing b (release c) s t e l = none_sparing p b n
-  done_sparing b (queue l) s t e l' = absurd s
-  done_sparing b start s t e l = where_sparing p z b n (left_over p b.chip) (wear_long p b l) (λ h. use_good p b.chip n (unfold left_over in and_left (in_use p b.chip n) _ h))
-  done_sparing b salvage s t e l = rw (no_ops p b (t e)) (none_sparing p b n)
+  done_sparing b format s e l = where_sparing p z b n (λ m. not (bad p b.chip m)) (wear_long p b l) (not-true (bad p b.chip n))
+  done_sparing b (read q) s e l = none_sparing p b n
+  done_sparing b (write q) s e l = write_sparing p b q e n
+  done_sparing b (release c) s e l = none_sparing p b n
+  done_sparing b (queue l) s e l' = absurd s
+  done_sparing b start s e l = where_sparing p z b n (left_over p b.chip) (wear_long p b l) (λ h. use_good p b.chip n (unfold left_over in and_left (in_use p b.chip n) _ h))
 
-  ops_sparing : (b : Board) (c : Call) → Single c → Quiet p b c → lengths_fit p b ≡ true → Sparing p b n (ops_by p b c)
-  ops_sparing b c s t l = go (reply_cases (reply_of p b c))
+  ops_sparing : (b : Board) (c : Call) → Single c → lengths_fit p b ≡ true → Sparing p b n (ops_by p b c)
+  ops_sparing b c s l = go (reply_cases (reply_of p b c))
     where
       go : (reply_of p b c ≡ Accepted) ⊎ (is_accepted (reply_of p b c) ≡ false) → Sparing p b n (ops_by p b c)
-      go (inl e) = rw (accepted_ops p b c s e) (done_sparing b c s t e l)
+      go (inl e) = rw (accepted_ops p b c s e) (done_sparing b c s e l)
       go (inr e) = rw (refused_ops p b c s e) (none_sparing p b n)
 
   -- a bad block stays bad by operations that spare it
@@ -249,12 +246,12 @@ module _ (p : Params) (fine : allowed p ≡ true) (n : ℕ) (low : n < p.N) wher
       rw m.wear (new_worn p z n ops b.wear (bad p b.chip n) (rw (wear_long p b l) low) s.worns inv
       (sym (bad_replay p z n low ops b.chip (chip_long p b l) m.fits m.erased) ∙ (rw m.chip at h)))
 
-  singles_sparing : (b : Board) (cs : List Call) → AllSingle cs → AllQuiet p b cs → lengths_fit p b ≡ true → Sparing p b n (plain_trace p b cs)
-  singles_sparing b [] s t l = unfold plain_trace plain_parts ops_of in none_sparing p b n
-  singles_sparing b (c ∷ cs) s t l =
-      let here = ops_sparing b c s.0 t.0 l in
-      let made = one_made p b c s.0 t.0 in
-      let there = singles_sparing (plain_leaves p b c) cs s.1 t.1 (leaves_long b c l) in
+  singles_sparing : (b : Board) (cs : List Call) → AllSingle cs → lengths_fit p b ≡ true → Sparing p b n (plain_trace p b cs)
+  singles_sparing b [] s l = unfold plain_trace plain_parts ops_of in none_sparing p b n
+  singles_sparing b (c ∷ cs) s l =
+      let here = ops_sparing b c s.0 l in
+      let made = one_made p b c s.0 in
+      let there = singles_sparing (plain_leaves p b c) cs s.1 (leaves_long b c l) in
       rw (trace_step p b c cs)
       (record {
         spares = λ h. erases_append n (ops_by p b c) _ (here.spares h) (there.spares (kept_bad b (plain_leaves p b c) (ops_by p b c) l made here h));
@@ -264,8 +261,8 @@ module _ (p : Params) (fine : allowed p ≡ true) (n : ℕ) (low : n < p.N) wher
       leaves_long : (b : Board) (c : Call) → lengths_fit p b ≡ true → lengths_fit p (plain_leaves p b c) ≡ true
       leaves_long b c l = unfold plain_board in run_long p b (c ∷ []) l
 
-  call_sparing : (b : Board) (c : Call) → Quiet p b c → lengths_fit p b ≡ true → Sparing p b n (ops_of (work_of p b c).parts)
-  call_sparing b c t l = rw same (singles_sparing b (singles_of p b (c ∷ [])) (all_single p b (c ∷ [])) (one_quiet p b c t) l)
+  call_sparing : (b : Board) (c : Call) → lengths_fit p b ≡ true → Sparing p b n (ops_of (work_of p b c).parts)
+  call_sparing b c l = rw same (singles_sparing b (singles_of p b (c ∷ [])) (all_single p b (c ∷ [])) l)
     where
       alone : (work_of p b c).parts ≡ plain_parts p b (c ∷ [])
       alone = unfold plain_parts in sym (append-nil (work_of p b c).parts)
@@ -275,10 +272,10 @@ module _ (p : Params) (fine : allowed p ≡ true) (n : ℕ) (low : n < p.N) wher
 
   -- ---- a step, cut or not, and a run
 
-  step_sparing : (b : Board) (s : Step) → Quiet p b (call_of s) → lengths_fit p b ≡ true → Sparing p b n (made_by p b s)
-  unfolding made_by call_of
-  step_sparing b (plain c) t l = call_sparing b c t l
-  step_sparing b (limited k c) t l = go (so (is_cut p b (limited k c))) (call_sparing b c t l)
+  step_sparing : (b : Board) (s : Step) → lengths_fit p b ≡ true → Sparing p b n (made_by p b s)
+  unfolding made_by
+  step_sparing b (plain c) l = call_sparing b c l
+  step_sparing b (limited k c) l = go (so (is_cut p b (limited k c))) (call_sparing b c l)
     where
       ops : List Op
       ops = ops_of (work_of p b c).parts
@@ -288,19 +285,19 @@ module _ (p : Params) (fine : allowed p ≡ true) (n : ℕ) (low : n < p.N) wher
       go (inl e) s = rw e (record { spares = λ h. erases_take n k ops (s.spares h); worns = worn_take p n b.wear k ops s.worns })
       go (inr e) s = rw e s
 
-  pub run_still : (b : Board) (ss : List Step) → StepsQuiet p b ss → lengths_fit p b ≡ true → bad p b.chip n ≡ true → bad p (board_after p b ss).chip n ≡ true
+  pub run_still : (b : Board) (ss : List Step) → lengths_fit p b ≡ true → bad p b.chip n ≡ true → bad p (board_after p b ss).chip n ≡ true
   unfolding board_after
-  run_still b [] t l h = h
-  run_still b (s ∷ ss) t l h = run_still (leaves p b s) ss t.1 (step_long p b s l) (kept_bad b (leaves p b s) (made_by p b s) l (step_made p b s t.0) (step_sparing b s t.0 l) h)
+  run_still b [] l h = h
+  run_still b (s ∷ ss) l h = run_still (leaves p b s) ss (step_long p b s l) (kept_bad b (leaves p b s) (made_by p b s) l (step_made p b s) (step_sparing b s l) h)
 
-  run_from : {A : Type 0} (b : Board) (ss : List Step) → StepsQuiet p b ss → lengths_fit p b ≡ true → (bad p b.chip n ≡ true → A ⊎ (p.E ≤ wear_at b.wear n))
+  run_from : {A : Type 0} (b : Board) (ss : List Step) → lengths_fit p b ≡ true → (bad p b.chip n ≡ true → A ⊎ (p.E ≤ wear_at b.wear n))
       → bad p (board_after p b ss).chip n ≡ true → A ⊎ (p.E ≤ wear_at (board_after p b ss).wear n)
   unfolding board_after
-  run_from b [] t l inv = inv
-  run_from b (s ∷ ss) t l inv = run_from (leaves p b s) ss t.1 (step_long p b s l) (new_bad_lem b (leaves p b s) (made_by p b s) l (step_made p b s t.0) (step_sparing b s t.0 l) inv)
+  run_from b [] l inv = inv
+  run_from b (s ∷ ss) l inv = run_from (leaves p b s) ss (step_long p b s l) (new_bad_lem b (leaves p b s) (made_by p b s) l (step_made p b s) (step_sparing b s l) inv)
 
-  pub run_new : (b : Board) (ss : List Step) → StepsQuiet p b ss → lengths_fit p b ≡ true → bad p (board_after p b ss).chip n ≡ true → (bad p b.chip n ≡ true) ⊎ (p.E ≤ wear_at (board_after p b ss).wear n)
-  run_new b ss t l = run_from b ss t l inl
+  pub run_new : (b : Board) (ss : List Step) → lengths_fit p b ≡ true → bad p (board_after p b ss).chip n ≡ true → (bad p b.chip n ≡ true) ⊎ (p.E ≤ wear_at (board_after p b ss).wear n)
+  run_new b ss l = run_from b ss l inl
 
 -- ---- a format after a run
 

@@ -15,7 +15,7 @@ use Rattle.rules.specs.declared.Reply.TheVariants.{Accepted}
 use Rattle.rules.specs.Parameters.{allowed}
 use Rattle.rules.specs.Tables.{Board}
 use Rattle.rules.specs.Orderly.{orderly}
-use Rattle.rules.specs.Requests.{Call, Queue, Request, format, item_requests, queue, read, release, salvage, start, write}
+use Rattle.rules.specs.Requests.{Call, Queue, Request, format, item_requests, queue, read, release, start, write}
 use Rattle.rules.specs.Replies.{is_accepted, lengths_fit, reply_of}
 use Rattle.rules.specs.Calls.{Part, outcome_of, queue_work, work_of}
 use Rattle.rules.specs.Cuts.{cut_part, finished}
@@ -24,11 +24,10 @@ use Rattle.rules.proofs.Outcomes.{reply_cases, reply_is}
 use Rattle.claims.specs.Runs.{Belief, Known, doubts, doubts_in, hears, hears_all, is_format, learns, losing, lost, nothing, resets, stands}
 use Rattle.claims.proofs.Memory.{Agrees, after_agrees, format_agrees}
 use Rattle.claims.proofs.PlainRuns.{learns_all, plain_board, plain_known, plain_leaves, plain_parts, plain_writes}
-use Rattle.claims.proofs.Quiet.{Quiet, one_quiet, orderly_quiet}
 use Rattle.claims.proofs.Queues.{on_disorder}
 use Rattle.claims.proofs.Recovery.{Lost, lost_start}
 use Rattle.claims.proofs.Singles.{Single, queue_parts, refused_leaves}
-use Rattle.claims.proofs.Standing.{Standing, after_standing, format_standing, stands_orderly}
+use Rattle.claims.proofs.Standing.{Standing, after_standing, format_standing}
 use Rattle.claims.proofs.Steps.{accepted_leaves, done_board, its_part, part_of, parts_step}
 
 -- ---- what holds
@@ -74,18 +73,16 @@ done_nothing p b (write q) e = tt
 done_nothing p b (release c) e = tt
 done_nothing p b (queue l) e = tt
 done_nothing p b start e = tt
-done_nothing p b salvage e = tt
 
 module _ (p : Params) (fine : allowed p ≡ true) (b : Board) (lengths : lengths_fit p b ≡ true) (k : Known) (short : List Request) (off : orderly p b ≡ false) (l : Lost p k short b.chip) where
-  done_lost : (c : Call) → Single c → Quiet p b c → reply_of p b c ≡ Accepted → Believed p (done_board p b c) (hears p (done_board p b c) c (lost k short))
+  done_lost : (c : Call) → Single c → reply_of p b c ≡ Accepted → Believed p (done_board p b c) (hears p (done_board p b c) c (lost k short))
   unfolding hears resets
-  done_lost format s t e = formatted_known p b k e
-  done_lost (read q) s t e = absurd (never (read_checks p b q e).tidy off)
-  done_lost (write q) s t e = absurd (never (write_checks p b q e).tidy off)
-  done_lost (release c) s t e = absurd (never (release_admitted p b c e).tidy off)
-  done_lost (queue m) s t e = absurd s
-  done_lost salvage s t e = absurd (never (t e).tidy off)
-  done_lost start s t e =
+  done_lost format s e = formatted_known p b k e
+  done_lost (read q) s e = absurd (never (read_checks p b q e).tidy off)
+  done_lost (write q) s e = absurd (never (write_checks p b q e).tidy off)
+  done_lost (release c) s e = absurd (never (release_admitted p b c e).tidy off)
+  done_lost (queue m) s e = absurd s
+  done_lost start s e =
       let w = lost_start p fine b lengths k short l in
       unfold done_board in (record { stands = w.0; left = w.1 }, λ a h. unfold learns in refl)
 
@@ -180,7 +177,7 @@ module _ (p : Params) (fine : allowed p ≡ true) (b : Board) (lengths : lengths
   plain_stands : (c : Call) (k : Known) → Believed p b (stands k) → Plainly c (stands k)
   plain_stands c k h =
       rw (hears_known p (plain_leaves p b c) (work_of p b c).parts k)
-      (unfold plain_board plain_known in (after_standing p b k (c ∷ []) h.0, after_agrees p b k (c ∷ []) (one_quiet p b c (orderly_quiet p b (stands_orderly p b h.0.stands) c)) h.1))
+      (unfold plain_board plain_known in (after_standing p b k (c ∷ []) h.0, after_agrees p b k (c ∷ []) h.1))
 
   plain_nothing : (c : Call) → Plainly c nothing
   plain_nothing format = single_known p b format nothing tt tt (done_nothing p b format)
@@ -188,20 +185,18 @@ module _ (p : Params) (fine : allowed p ≡ true) (b : Board) (lengths : lengths
   plain_nothing (write q) = single_known p b (write q) nothing tt tt (done_nothing p b (write q))
   plain_nothing (release c) = single_known p b (release c) nothing tt tt (done_nothing p b (release c))
   plain_nothing start = single_known p b start nothing tt tt (done_nothing p b start)
-  plain_nothing salvage = single_known p b salvage nothing tt tt (done_nothing p b salvage)
   plain_nothing (queue l) = rw (unheard p (plain_leaves p b (queue l)) nothing (deaf_nothing p (plain_leaves p b (queue l))) (work_of p b (queue l)).parts (queue_writes p b l)) tt
 
-  plain_lost : (c : Call) (k : Known) (short : List Request) → Quiet p b c → Believed p b (lost k short) → Plainly c (lost k short)
-  plain_lost format k short t h = single_known p b format (lost k short) tt h (done_lost p fine b lengths k short h.0 h.1 format tt t)
-  plain_lost (read q) k short t h = single_known p b (read q) (lost k short) tt h (done_lost p fine b lengths k short h.0 h.1 (read q) tt t)
-  plain_lost (write q) k short t h = single_known p b (write q) (lost k short) tt h (done_lost p fine b lengths k short h.0 h.1 (write q) tt t)
-  plain_lost (release c) k short t h = single_known p b (release c) (lost k short) tt h (done_lost p fine b lengths k short h.0 h.1 (release c) tt t)
-  plain_lost start k short t h = single_known p b start (lost k short) tt h (done_lost p fine b lengths k short h.0 h.1 start tt t)
-  plain_lost salvage k short t h = single_known p b salvage (lost k short) tt h (done_lost p fine b lengths k short h.0 h.1 salvage tt t)
-  plain_lost (queue l) k short t h =
+  plain_lost : (c : Call) (k : Known) (short : List Request) → Believed p b (lost k short) → Plainly c (lost k short)
+  plain_lost format k short h = single_known p b format (lost k short) tt h (done_lost p fine b lengths k short h.0 h.1 format tt)
+  plain_lost (read q) k short h = single_known p b (read q) (lost k short) tt h (done_lost p fine b lengths k short h.0 h.1 (read q) tt)
+  plain_lost (write q) k short h = single_known p b (write q) (lost k short) tt h (done_lost p fine b lengths k short h.0 h.1 (write q) tt)
+  plain_lost (release c) k short h = single_known p b (release c) (lost k short) tt h (done_lost p fine b lengths k short h.0 h.1 (release c) tt)
+  plain_lost start k short h = single_known p b start (lost k short) tt h (done_lost p fine b lengths k short h.0 h.1 start tt)
+  plain_lost (queue l) k short h =
       rw (unheard p (plain_leaves p b (queue l)) (lost k short) (deaf_lost p (plain_leaves p b (queue l)) k short) (work_of p b (queue l)).parts (queue_writes p b l), queue_still p b l h.0) h
 
-  pub plain_known_lem : (c : Call) (x : Belief) → Quiet p b c → Believed p b x → Plainly c x
-  plain_known_lem c nothing t h = plain_nothing c
-  plain_known_lem c (stands k) t h = plain_stands c k h
-  plain_known_lem c (lost k short) t h = plain_lost c k short t h
+  pub plain_known_lem : (c : Call) (x : Belief) → Believed p b x → Plainly c x
+  plain_known_lem c nothing h = plain_nothing c
+  plain_known_lem c (stands k) h = plain_stands c k h
+  plain_known_lem c (lost k short) h = plain_lost c k short h

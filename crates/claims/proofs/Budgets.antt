@@ -14,7 +14,7 @@ use Rattle.rules.specs.declared.Params.{Params}
 use Rattle.rules.specs.declared.Reply.TheVariants.{Accepted}
 use Rattle.rules.specs.Tables.{Board}
 use Rattle.rules.specs.Traces.{erases_in, programs_in}
-use Rattle.rules.specs.Requests.{Call, format, item_requests, lent, lent_answers, queue, read, release, start, write, salvage}
+use Rattle.rules.specs.Requests.{Call, format, item_requests, lent, lent_answers, queue, read, release, start, write}
 use Rattle.rules.specs.Replies.{is_accepted, reply_of}
 use Rattle.rules.specs.Calls.{Part, answer_of, ops_of, outcome_of, work_of}
 use Rattle.rules.specs.Cuts.{call_of, cut_board, cut_outcome, cut_part, finished, has_budget, is_cut, limited, step_outcome}
@@ -123,7 +123,6 @@ module _ (p : Params) (b : Board) (k : ℕ) (c : Call) where
           let qs = item_requests p l.bytes l.items in
           unfold lent lent_answers in rw (queue_accepted p b l e) (all_bytes p b qs l, all_lent p b qs l)
       go start h e = unfold lent lent_answers done_bytes in done_bytes_lem p b start tt e
-      go salvage h e = absurd (never h (unfold has_budget in refl))
 
   pub cuts : has_budget c ≡ true → reply_of p b c ≡ Accepted → k ≤ length (ops_of parts) → Cuts p b c k parts (step_outcome p b (limited k c))
   cuts h e few =

@@ -3,7 +3,6 @@
 use mathlib.Core.Path.{◌≡◌, refl, sym, ap, ◌∙◌}
 use Prim.Native.Nat.{ℕ, suc, ◌<◌}
 use native.Mathlib.Nat.{mod-lt}
-use native.Mathlib.Omega.{arith}
 use mathlib.Core.Logic.{◌⊎◌, inl, inr}
 use mathlib.Core.Bool.{true, false, not, false≢true}
 use mathlib.Core.List.{List, [], ◌∷◌}
@@ -14,15 +13,14 @@ use Rattle.rules.specs.declared.Item.{Item}
 use borrow.Author.Tests.{not-false, not-true}
 use Rattle.lists.proofs.Tests.{and_left, and_right, never}
 use Rattle.rules.specs.declared.Reply.TheVariants.{Accepted, NoBlockLeft}
-use Rattle.rules.specs.Numbers.{cluster_of, region_of, sector_of}
+use Rattle.rules.specs.Numbers.{region_of}
 use Rattle.rules.specs.Tables.{Board, bst_at, ct_at, none}
 use Rattle.rules.specs.Orderly.{enough}
 use Rattle.rules.specs.Regions.{view}
 use Rattle.rules.specs.Traces.{erases_in, programs_in}
-use Rattle.rules.specs.Requests.{Call, Queue, Request, format, item_requests, lent, lent_answers, queue, read, release, request_cluster, request_region, start, write, salvage}
+use Rattle.rules.specs.Requests.{Call, Queue, Request, format, item_requests, lent, lent_answers, queue, read, release, request_cluster, request_region, start, write}
 use Rattle.rules.specs.Write.{Plan, continues, opens, plan_block, plan_of, reclaims, takes_block}
 use Rattle.rules.specs.Release.{released}
-use Rattle.rules.specs.Salvage.{salvaged}
 use Rattle.rules.specs.Replies.{OrderlyBoard, access_rows, bad_address, bad_count, bad_parameter, block_row, early_rows, is_accepted, lent_rows, no_block_left, not_orderly, order_row, reply_of, row, rows_of, wrong_data, wrong_length}
 use Rattle.rules.specs.Calls.{Work, answer_of, answers_in, outcome_of, over, work_of, write_all, write_work}
 use Rattle.rules.specs.Cuts.{limited, step_outcome}
@@ -30,7 +28,7 @@ use Rattle.rules.proofs.Admitted.{admitted, release_admitted, write_checks, writ
 use Rattle.rules.proofs.Continues.{Makes}
 use Rattle.rules.proofs.Counts.{format_counts, start_counts}
 use Rattle.rules.proofs.FormatPromise.{format_enough}
-use Rattle.rules.proofs.Outcomes.{format_accepted, all_answer, all_bytes, all_lent, call_refused, is_refused, queue_accepted, read_accepted, release_accepted, reply_cases, reply_is, start_accepted, write_accepted, salvage_accepted}
+use Rattle.rules.proofs.Outcomes.{format_accepted, all_answer, all_bytes, all_lent, call_refused, is_refused, queue_accepted, read_accepted, release_accepted, reply_cases, reply_is, start_accepted, write_accepted}
 use Rattle.rules.proofs.RegionFacts.{neat}
 use Rattle.rules.proofs.Releases.{entry_none, release_same}
 use Rattle.rules.proofs.Sizes.{sizes}
@@ -38,16 +36,11 @@ use Rattle.rules.proofs.TableFacts.{marks_in_lem, tables_in}
 use Rattle.rules.proofs.Totals.{blocks_total, used_total}
 use Rattle.rules.proofs.Views.{HasFree}
 use Rattle.rules.proofs.WritePromise.{makes, write_promise}
-use Rattle.salvages.proofs.Accepted.{salvage_admitted, salvage_idle, salvage_order}
-use Rattle.salvages.proofs.Promise.{reads_same, salvage_stamp}
-use Rattle.salvages.proofs.Same.{no_ops, salvage_same}
-use Rattle.salvages.proofs.Tables.{kept_bytes}
-use Rattle.salvages.proofs.TakenOut.{entry_either, kept_entry_lem, kept_kind, kept_wear, out_entry, out_first, out_kind, out_rest, out_worn, salvage_counts}
 use Rattle.starts.proofs.Again.{same_but}
 use Rattle.starts.proofs.StartTables.{swept}
 use Rattle.claims.specs.Runs.{sector_at}
 use Rattle.claims.proofs.PlainRuns.{plain_board, plain_leaves}
-use Rattle.claims.specs.Conditions.{Condition1, Formats, Frees, InOrder, Reads, Serves, Starts, Unchanged, WithBudget, Writes, assigned_blocks, blocks_of, none_applies, Salvages}
+use Rattle.claims.specs.Conditions.{Condition1, Formats, Frees, InOrder, Reads, Serves, Starts, Unchanged, WithBudget, Writes, assigned_blocks, blocks_of, none_applies}
 use Rattle.claims.proofs.Budgets.{cuts, fewer_uncut, no_budget, refused_uncut, unspent_same}
 use Rattle.claims.proofs.Kept.{accepted_orderly, after_orderly, enough_found}
 use Rattle.claims.proofs.Memory.{freed, read_agrees, stored}
@@ -86,7 +79,6 @@ no_queue (write q) n = tt
 no_queue (release c) n = tt
 no_queue (queue l) n = n l refl
 no_queue start n = tt
-no_queue salvage n = tt
 
 -- ---- room for a write
 
@@ -194,28 +186,6 @@ start_starts p b e =
       wear = λ b'' same e''. rw (start_accepted p b'' e'') (same_but p b b'' a (start_admitted p b'' e'') (sym same));
     })
 
--- ---- a salvage
-
-salvage_salvages : (p : Params) (b : Board) → reply_of p b salvage ≡ Accepted → Salvages p b (outcome_of p b salvage)
-unfolding answer_of
-salvage_salvages p b e =
-    let a = salvage_admitted p b e in
-    let k = salvage_counts p b.chip b.bt in
-    rw (salvage_accepted p b e)
-    (record {
-      programs = k.0;
-      erases = k.1;
-      looks = refl;
-      out = λ i h x. (record { first = out_first p b a i h x; rest = out_rest p b a i h x; kind = out_kind p b a i h x; wear = out_worn p b a i h x }, out_entry p b a i h x);
-      stays = kept_entry_lem p b a;
-      others = λ n h x. (kept_bytes p b a n x, kept_kind p b a n h x, kept_wear p b a n x);
-      entries = entry_either p b a;
-      reads = λ l x. unfold sector_at in reads_same p b a (cluster_of p l) x (sector_of p l);
-      stamps = λ r h. rw (salvage_stamp p b a r h) (omega arith);
-      already = λ h. (salvage_same p b h, unfold programs_in erases_in in rw (no_ops p b h) (refl, refl, refl));
-      again = salvage_idle p (salvaged p b) (salvage_order p b a);
-    })
-
 -- ---- a queue
 
 -- an answer for each item
@@ -301,6 +271,5 @@ condition_1 p b c =
       frees = λ n is e. rw is (release_frees p b n (sym (reply_is p b (release n)) ∙ (rw is at e)));
       serves = λ l is. rw is (queue_serves p b l);
       starts = λ is e. rw is (start_starts p b (sym (reply_is p b start) ∙ (rw is at e)));
-      salvages = λ is e. rw is (salvage_salvages p b (sym (reply_is p b salvage) ∙ (rw is at e)));
       budget = with_budget p b c;
     }

@@ -28,9 +28,8 @@ use Rattle.claims.proofs.Condition1.{in_order}
 use Rattle.claims.proofs.CutCalls.{format_known, format_stands}
 use Rattle.claims.proofs.CutTraces.{trace_long, trace_made, trace_once}
 use Rattle.claims.proofs.Memory.{Agrees, read_agrees}
-use Rattle.claims.proofs.Recovery.{found, recovered}
-use Rattle.claims.proofs.Settled.{format_quiet}
-use Rattle.claims.proofs.Standing.{Standing, stands_orderly}
+use Rattle.claims.proofs.Recovery.{found, recovered, stands_orderly}
+use Rattle.claims.proofs.Standing.{Standing}
 use Rattle.starts.proofs.Accepted.{admitted_start}
 
 -- ---- where the tables stand
@@ -68,8 +67,7 @@ pub condition_2 : Condition2
 condition_2 p b e ss =
     let run = plain format ∷ ss in
     let a = format_admitted p b e in
-    let quiet = format_quiet p b e ss in
-    let t = trace_made p b run quiet in
+    let t = trace_made p b run in
     record {
       now = λ x. holds p a.fine (board_after p b run) (trace_long p b run a.lengths) (belief_after p b run x) (format_known p b e ss x);
       intact = format_stands p b e ss;
@@ -77,10 +75,10 @@ condition_2 p b e ss =
       wear = t.wear;
       fits = t.fits;
       erased = t.erased;
-      once = trace_once p b run quiet a.lengths;
+      once = trace_once p b run a.lengths;
       again = format_again p b e run;
-      still_bad = λ n h. run_still p a.fine n h b run quiet a.lengths;
-      new_bad = λ n h. run_new p a.fine n h b run quiet a.lengths;
+      still_bad = λ n h. run_still p a.fine n h b run a.lengths;
+      new_bad = λ n h. run_new p a.fine n h b run a.lengths;
     }
 
 pub read_back_after_cut : ReadBackAfterCut

@@ -20,7 +20,7 @@ use Rattle.rules.specs.Parameters.{allowed}
 use Rattle.rules.specs.Tables.{Board}
 use Rattle.rules.specs.Orderly.{orderly}
 use Rattle.rules.specs.Traces.{Op, replay_chip}
-use Rattle.rules.specs.Requests.{Call, Queue, Request, format, item_requests, queue, read, release, start, write, salvage}
+use Rattle.rules.specs.Requests.{Call, Queue, Request, format, item_requests, queue, read, release, start, write}
 use Rattle.rules.specs.Replies.{is_accepted, lengths_fit, reply_of}
 use Rattle.rules.specs.Start.{start_ops}
 use Rattle.rules.specs.Write.{write_ops, written}
@@ -35,15 +35,13 @@ use Rattle.claims.specs.Runs.{Belief, Known, belief_after, belief_by, blank, boa
 use Rattle.claims.specs.Requests.{disordered_part}
 use Rattle.claims.proofs.Beliefs.{Believed, cut_writes, deaf_lost, deaf_nothing, finished_writes, formatted_known, hears_known, one_heard, plain_known_lem, queue_writes, undoubted, unheard}
 use Rattle.claims.proofs.Budgets.{cut_is}
-use Rattle.claims.proofs.CutTraces.{call_made, cut_disorder, cut_leaves, first_fit}
+use Rattle.claims.proofs.CutTraces.{call_made, cut_disorder, cut_leaves, first_fit, step_long}
 use Rattle.claims.proofs.Kept.{ops_chip}
 use Rattle.claims.proofs.Known.{known_by}
 use Rattle.claims.proofs.Memory.{Agrees, call_agrees, done_agrees}
 use Rattle.claims.proofs.PlainRuns.{learns_all, plain_leaves, plain_parts, plain_writes, first_uncut, uncut_by, uncut_leaves}
 use Rattle.claims.proofs.Queues.{on_disorder}
 use Rattle.claims.proofs.Recovery.{Lost, as_new, as_old, lost_cut}
-use Rattle.claims.proofs.Quiet.{cut_quiet}
-use Rattle.claims.proofs.Settled.{Settled, first_settled, settled_quiet, step_settled}
 use Rattle.claims.proofs.Singles.{Single, queue_parts}
 use Rattle.claims.proofs.Standing.{Standing, call_standing, done_standing}
 use Rattle.claims.proofs.Steps.{accepted_leaves, accepted_ops, done_board, done_ops, its_part, ops_by, part_of, parts_step, refused_ops}
@@ -95,7 +93,7 @@ module _ (p : Params) (b' b : Board) (k : Known) (h : Standing p b k) (reads : A
           pick (inl old) = as_old b old reads h.left
           pick (inr new) =
               as_new (written p b q) q refl (admitted p b q (write_checks p b q e)).asked new
-              (unfold done_board in done_agrees p b k (write q) tt tt e reads) (unfold done_board in (done_standing p b k (write q) tt e h).left)
+              (unfold done_board in done_agrees p b k (write q) tt e reads) (unfold done_board in (done_standing p b k (write q) tt e h).left)
 
   -- it and the parts after it
   abbrev Then : List Part → ℕ → Type 0
@@ -132,7 +130,7 @@ writes_cut p b' [] b k h reads n =
 writes_cut p b' (q ∷ qs) b k h reads n =
     rw (parts_step p b (write q) (map write qs) tt)
     (one_more p b' b k h reads q (plain_parts p (plain_leaves p b (write q)) (map write qs)) n
-    (writes_cut p b' qs (plain_leaves p b (write q)) (known_by p b (write q) k) (call_standing p b k (write q) tt h) (call_agrees p b k (write q) tt tt reads) (n - length (ops_by p b (write q)))))
+    (writes_cut p b' qs (plain_leaves p b (write q)) (known_by p b (write q) k) (call_standing p b k (write q) tt h) (call_agrees p b k (write q) tt reads) (n - length (ops_by p b (write q)))))
 
 -- ---- any call that is cut
 
@@ -213,7 +211,6 @@ module _ (p : Params) (fine : allowed p ≡ true) (b b' : Board) (lengths : leng
   cut_known (release c) x t e few h = absurd (never t refl)
   cut_known (queue l) x t e few h = cut_queue l x e h
   cut_known start x t e few h = cut_start x e few h
-  cut_known salvage x t e few h = absurd (never t refl)
 
 -- ---- any step, and any run
 
@@ -222,37 +219,37 @@ cut_board_lem p b ops off nothing l = tt
 cut_board_lem p b ops off (stands k) l = absurd l
 cut_board_lem p b ops off (lost k short) l = (off, unfold cut_board in l)
 
-pub cut_by : (p : Params) (b : Board) (k : ℕ) (c : Call) (x : Belief) → is_cut p b (limited k c) ≡ true
+cut_by : (p : Params) (b : Board) (k : ℕ) (c : Call) (x : Belief) → is_cut p b (limited k c) ≡ true
     → belief_by p b (limited k c) x ≡ doubts_in (cut_part k (work_of p b c).parts) (hears_all p (leaves p b (limited k c)) (finished k (work_of p b c).parts) x)
 unfolding belief_by parts_by
 cut_by p b k c x e = rw e
 
-pub uncut_heard : (p : Params) (b : Board) (s : Step) (x : Belief) → is_cut p b s ≡ false → belief_by p b s x ≡ hears_all p (plain_leaves p b (call_of s)) (work_of p b (call_of s)).parts x
+uncut_heard : (p : Params) (b : Board) (s : Step) (x : Belief) → is_cut p b s ≡ false → belief_by p b s x ≡ hears_all p (plain_leaves p b (call_of s)) (work_of p b (call_of s)).parts x
 uncut_heard p b (plain c) x e = unfold belief_by in rw (uncut_leaves p b (plain c) e, uncut_by p b (plain c) e)
 uncut_heard p b (limited k c) x e = unfold belief_by in rw (e, uncut_leaves p b (limited k c) e, uncut_by p b (limited k c) e)
 
 module _ (p : Params) (fine : allowed p ≡ true) where
-  whole_known : (b : Board) (s : Step) (x : Belief) → is_cut p b s ≡ false → Settled p b → Believed p b x → Believed p (leaves p b s) (belief_by p b s x)
-  whole_known b s x e t h = rw (uncut_leaves p b s e, uncut_heard p b s x e) (plain_known_lem p fine b t.lengths (call_of s) x (settled_quiet p b t (call_of s)) h)
+  whole_known : (b : Board) (s : Step) (x : Belief) → is_cut p b s ≡ false → lengths_fit p b ≡ true → Believed p b x → Believed p (leaves p b s) (belief_by p b s x)
+  whole_known b s x e long h = rw (uncut_leaves p b s e, uncut_heard p b s x e) (plain_known_lem p fine b long (call_of s) x h)
 
   cut_step : (b : Board) (k : ℕ) (c : Call) (x : Belief) → is_cut p b (limited k c) ≡ true → lengths_fit p b ≡ true → Believed p b x
       → Believed p (leaves p b (limited k c)) (belief_by p b (limited k c) x)
   cut_step b k c x e long h =
       let w = cut_is p b k c e in
       let ops = take k (ops_of (work_of p b c).parts) in
-      let off = cut_disorder p b long ops (first_fit p k (ops_of (work_of p b c).parts) (call_made p b c (cut_quiet p b k c e)).fits) fine in
+      let off = cut_disorder p b long ops (first_fit p k (ops_of (work_of p b c).parts) (call_made p b c).fits) fine in
       let left = cut_board p b ops in
       rw (cut_by p b k c x e, cut_leaves p b k c e)
       (cut_board_lem p b ops off (doubts_in (cut_part k (work_of p b c).parts) (hears_all p left (finished k (work_of p b c).parts) x))
       (cut_known p fine b left long k c x w.0 w.1 w.2 h))
 
-  step_known : (b : Board) (s : Step) (x : Belief) → Settled p b → Believed p b x → Believed p (leaves p b s) (belief_by p b s x)
-  step_known b (plain c) x t h = whole_known b (plain c) x (unfold is_cut in refl) t h
-  step_known b (limited k c) x t h = go (so (is_cut p b (limited k c)))
+  step_known : (b : Board) (s : Step) (x : Belief) → lengths_fit p b ≡ true → Believed p b x → Believed p (leaves p b s) (belief_by p b s x)
+  step_known b (plain c) x long h = whole_known b (plain c) x (unfold is_cut in refl) long h
+  step_known b (limited k c) x long h = go (so (is_cut p b (limited k c)))
     where
       go : (is_cut p b (limited k c) ≡ true) ⊎ (is_cut p b (limited k c) ≡ false) → Believed p (leaves p b (limited k c)) (belief_by p b (limited k c) x)
-      go (inl e) = cut_step b k c x e t.lengths h
-      go (inr e) = whole_known b (limited k c) x e t h
+      go (inl e) = cut_step b k c x e long h
+      go (inr e) = whole_known b (limited k c) x e long h
 
   -- without a cut the tables stand
   uncut_stands : (b : Board) (ss : List Step) (k : Known) → uncut p b ss ≡ true → (j : Known) × (belief_after p b ss (stands k) ≡ stands j)
@@ -265,10 +262,10 @@ module _ (p : Params) (fine : allowed p ≡ true) where
       uncut_heard p b s (stands k) w.0 ∙ hears_known p (plain_leaves p b c) (work_of p b c).parts k in
       rw now (uncut_stands (leaves p b s) ss (learns_all p (plain_leaves p b c) (work_of p b c).parts k) w.1)
 
-  pub run_known : (b : Board) (ss : List Step) (x : Belief) → Settled p b → Believed p b x → Believed p (board_after p b ss) (belief_after p b ss x)
+  pub run_known : (b : Board) (ss : List Step) (x : Belief) → lengths_fit p b ≡ true → Believed p b x → Believed p (board_after p b ss) (belief_after p b ss x)
   unfolding board_after belief_after
-  run_known b [] x t h = h
-  run_known b (s ∷ ss) x t h = run_known (leaves p b s) ss (belief_by p b s x) (step_settled p b t s) (step_known b s x t h)
+  run_known b [] x long h = h
+  run_known b (s ∷ ss) x long h = run_known (leaves p b s) ss (belief_by p b s x) (step_long p b s long) (step_known b s x long h)
 
 -- ---- from an accepted format on, whatever the host believed before it
 
@@ -299,7 +296,7 @@ module _ (p : Params) (b : Board) (e : reply_of p b format ≡ Accepted) where
   unfolding board_after belief_after
   format_known ss x =
       let a = format_admitted p b e in
-      rw (first_heard x) (run_known p a.fine (leaves p b (plain format)) ss (stands fresh) (first_settled p b e) first_known)
+      rw (first_heard x) (run_known p a.fine (leaves p b (plain format)) ss (stands fresh) (step_long p b (plain format) a.lengths) first_known)
 
   pub format_stands : (ss : List Step) → uncut p b (plain format ∷ ss) ≡ true → (x : Belief) → (k : Known) × (belief_after p b (plain format ∷ ss) x ≡ stands k)
   unfolding belief_after

@@ -27,7 +27,6 @@ use Rattle.claims.specs.Runs.{AllFit, board_after, leaves, made_by, NoPageTwice,
 use Rattle.claims.proofs.Budgets.{cut_outcome_lem}
 use Rattle.claims.proofs.Kept.{Replayed, more_made, none_made, run_long, run_made}
 use Rattle.claims.proofs.Once.{clean_once, replay_length}
-use Rattle.claims.proofs.Quiet.{Quiet, StepsQuiet, cut_quiet, one_quiet}
 use Rattle.claims.proofs.PlainRuns.{plain_board, plain_leaves, plain_parts, plain_trace, uncut_leaves, uncut_made}
 
 -- ---- tables all ones
@@ -82,9 +81,9 @@ first_fit p zero os h = tt
 first_fit p (suc k) [] h = tt
 first_fit p (suc k) (o ∷ os) h = (h.0, first_fit p k os h.1)
 
-pub call_made : (p : Params) (b : Board) (c : Call) → Quiet p b c → Replayed p b (plain_leaves p b c) (ops_of (work_of p b c).parts)
+pub call_made : (p : Params) (b : Board) (c : Call) → Replayed p b (plain_leaves p b c) (ops_of (work_of p b c).parts)
 unfolding plain_board plain_trace plain_parts
-call_made p b c q = rw (append-nil (work_of p b c).parts) at (run_made p b (c ∷ []) (one_quiet p b c q))
+call_made p b c = rw (append-nil (work_of p b c).parts) at (run_made p b (c ∷ []))
 
 pub cut_leaves : (p : Params) (b : Board) (k : ℕ) (c : Call) → is_cut p b (limited k c) ≡ true → leaves p b (limited k c) ≡ cut_board p b (take k (ops_of (work_of p b c).parts))
 unfolding leaves cut_outcome
@@ -98,17 +97,16 @@ cut_made : (p : Params) (b : Board) (k : ℕ) (c : Call) → is_cut p b (limited
 unfolding made_by
 cut_made p b k c e = rw e
 
-whole_made : (p : Params) (b : Board) (s : Step) → Quiet p b (call_of s) → is_cut p b s ≡ false → Replayed p b (leaves p b s) (made_by p b s)
-whole_made p b s q e = rw (uncut_leaves p b s e, uncut_made p b s e) (call_made p b (call_of s) q)
+whole_made : (p : Params) (b : Board) (s : Step) → is_cut p b s ≡ false → Replayed p b (leaves p b s) (made_by p b s)
+whole_made p b s e = rw (uncut_leaves p b s e, uncut_made p b s e) (call_made p b (call_of s))
 
-pub step_made : (p : Params) (b : Board) (s : Step) → Quiet p b (call_of s) → Replayed p b (leaves p b s) (made_by p b s)
-unfolding call_of
-step_made p b (plain c) q = whole_made p b (plain c) (unfold call_of in q) (unfold is_cut in refl)
-step_made p b (limited k c) q = go (so (is_cut p b (limited k c)))
+pub step_made : (p : Params) (b : Board) (s : Step) → Replayed p b (leaves p b s) (made_by p b s)
+step_made p b (plain c) = whole_made p b (plain c) (unfold is_cut in refl)
+step_made p b (limited k c) = go (so (is_cut p b (limited k c)))
   where
     go : (is_cut p b (limited k c) ≡ true) ⊎ (is_cut p b (limited k c) ≡ false) → Replayed p b (leaves p b (limited k c)) (made_by p b (limited k c))
-    go (inl e) = rw (cut_leaves p b k c e, cut_made p b k c e) (first_made p b (plain_leaves p b c) k (ops_of (work_of p b c).parts) (call_made p b c q))
-    go (inr e) = whole_made p b (limited k c) (unfold call_of in q) e
+    go (inl e) = rw (cut_leaves p b k c e, cut_made p b k c e) (first_made p b (plain_leaves p b c) k (ops_of (work_of p b c).parts) (call_made p b c))
+    go (inr e) = whole_made p b (limited k c) e
 
 whole_long : (p : Params) (b : Board) (s : Step) → is_cut p b s ≡ false → lengths_fit p b ≡ true → lengths_fit p (leaves p b s) ≡ true
 unfolding plain_board
@@ -119,23 +117,23 @@ step_long p b (plain c) h = whole_long p b (plain c) (unfold is_cut in refl) h
 step_long p b (limited k c) h = go (so (is_cut p b (limited k c)))
   where
     go : (is_cut p b (limited k c) ≡ true) ⊎ (is_cut p b (limited k c) ≡ false) → lengths_fit p (leaves p b (limited k c)) ≡ true
-    go (inl e) = rw (cut_leaves p b k c e) (cut_long p b h (take k (ops_of (work_of p b c).parts)) (first_fit p k (ops_of (work_of p b c).parts) (call_made p b c (cut_quiet p b k c e)).fits))
+    go (inl e) = rw (cut_leaves p b k c e) (cut_long p b h (take k (ops_of (work_of p b c).parts)) (first_fit p k (ops_of (work_of p b c).parts) (call_made p b c).fits))
     go (inr e) = whole_long p b (limited k c) e h
 
 -- ---- a run
 
-pub trace_made : (p : Params) (b : Board) (ss : List Step) → StepsQuiet p b ss → Replayed p b (board_after p b ss) (trace_of p b ss)
+pub trace_made : (p : Params) (b : Board) (ss : List Step) → Replayed p b (board_after p b ss) (trace_of p b ss)
 unfolding board_after trace_of
-trace_made p b [] q = none_made p b
-trace_made p b (s ∷ ss) q = more_made p b (leaves p b s) _ (made_by p b s) (trace_of p (leaves p b s) ss) (step_made p b s q.0) (trace_made p (leaves p b s) ss q.1)
+trace_made p b [] = none_made p b
+trace_made p b (s ∷ ss) = more_made p b (leaves p b s) _ (made_by p b s) (trace_of p (leaves p b s) ss) (step_made p b s) (trace_made p (leaves p b s) ss)
 
 pub trace_long : (p : Params) (b : Board) (ss : List Step) → lengths_fit p b ≡ true → lengths_fit p (board_after p b ss) ≡ true
 unfolding board_after
 trace_long p b [] h = h
 trace_long p b (s ∷ ss) h = trace_long p (leaves p b s) ss (step_long p b s h)
 
-pub trace_once : (p : Params) (b : Board) (ss : List Step) → StepsQuiet p b ss → lengths_fit p b ≡ true → NoPageTwice (trace_of p b ss)
-trace_once p b ss q h = clean_once p b.chip (trace_of p b ss) size (trace_made p b ss q).fits (trace_made p b ss q).erased
+pub trace_once : (p : Params) (b : Board) (ss : List Step) → lengths_fit p b ≡ true → NoPageTwice (trace_of p b ss)
+trace_once p b ss h = clean_once p b.chip (trace_of p b ss) size (trace_made p b ss).fits (trace_made p b ss).erased
   where
     size : length b.chip ≡ chip_bytes p
     size = unfold lengths_fit in eqb-true _ _ (truths _ h).0

@@ -13,13 +13,12 @@ use Rattle.rules.specs.declared.Reply.TheVariants.{Accepted, BadAddress, NoStamp
 use Rattle.rules.specs.Tables.{Board, stamp_at}
 use Rattle.rules.specs.Orderly.{enough}
 use Rattle.rules.specs.Traces.{Op, clean, erase_where, replay_chip, replay_wear}
-use Rattle.rules.specs.Requests.{Call, Request, format, queue, read, release, request_region, start, write, salvage}
+use Rattle.rules.specs.Requests.{Call, Request, format, queue, read, release, request_region, start, write}
 use Rattle.rules.specs.Format.{bad, format_ops, formatted}
 use Rattle.rules.specs.Write.{write_ops, written, written_by}
 use Rattle.rules.specs.Release.{released}
 use Rattle.rules.specs.Start.{left_over, start_ops, started}
 use Rattle.rules.specs.Calls.{ops_of}
-use Rattle.rules.specs.Salvage.{salvaged}
 use Rattle.rules.specs.Replies.{OrderlyBoard, access_rows, bad_cluster, bad_parameter, block_row, early_rows, first_row, is_accepted, lengths_fit, lent_rows, no_block_left, no_stamp_left, not_orderly, order_row, reply_of, row, rows_of, stamp_row, wrong_length}
 use Rattle.rules.proofs.Admitted.{format_admitted, read_checks, release_admitted, write_checks}
 use Rattle.rules.proofs.Chip.{clean_append, replay_append}
@@ -35,12 +34,8 @@ use Rattle.starts.proofs.StartPromise.{start_lengths, start_orderly}
 use Rattle.claims.specs.Runs.{AllFit}
 use Rattle.claims.proofs.PlainRuns.{plain_board, plain_leaves, plain_parts, plain_trace}
 use Rattle.claims.proofs.Once.{fit_append}
-use Rattle.claims.proofs.Quiet.{AllQuiet, Quiet}
 use Rattle.claims.proofs.Programs.{erases_fit, write_fits}
 use Rattle.claims.proofs.Singles.{AllSingle, Single, all_single, board_same, parts_same, refused_leaves, singles_of}
-use Rattle.salvages.proofs.Accepted.{salvage_admitted, salvage_order}
-use Rattle.salvages.proofs.Same.{no_ops}
-use Rattle.salvages.proofs.Tables.{salvage_clean}
 use Rattle.starts.proofs.Accepted.{start_admitted}
 use Rattle.claims.proofs.Steps.{accepted_leaves, accepted_ops, done_board, done_ops, ops_by, refused_ops, trace_step}
 
@@ -57,7 +52,6 @@ done_orderly p b (release c) s e =
     record { fine = a.fine; lengths = release_lengths p b c a.lengths a.tidy; tidy = release_orderly p b c (sizes p a.fine) a.lengths a.tidy }
 done_orderly p b (queue l) s e = absurd s
 done_orderly p b start s e = let a = start_admitted p b e in record { fine = a.fine; lengths = start_lengths p b a; tidy = start_orderly p b a }
-done_orderly p b salvage s e = salvage_order p b (salvage_admitted p b e)
 
 pub accepted_orderly : (p : Params) (b : Board) (c : Call) → Single c → reply_of p b c ≡ Accepted → OrderlyBoard p (plain_leaves p b c)
 accepted_orderly p b c s e = rw (accepted_leaves p b c s e) (done_orderly p b c s e)
@@ -113,44 +107,41 @@ orderly_release p b c h = rw (h.fine, h.lengths, h.tidy)
 
 -- ---- the operations of a call
 
--- they fit the chip, where a salvage is quiet: the mark of a block that it takes out is no page of a cluster
-done_fit : (p : Params) (b : Board) (c : Call) → Single c → Quiet p b c → reply_of p b c ≡ Accepted → AllFit p (done_ops p b c)
+-- they fit the chip
+done_fit : (p : Params) (b : Board) (c : Call) → Single c → reply_of p b c ≡ Accepted → AllFit p (done_ops p b c)
 unfolding done_ops
-done_fit p b format s q e = unfold format_ops in erases_fit p (sizes p (format_admitted p b e).fine) b.wear _
-done_fit p b (read x) s q e = tt
-done_fit p b (write x) s q e = write_fits p b x e
-done_fit p b (release c) s q e = tt
-done_fit p b (queue l) s q e = absurd s
-done_fit p b start s q e = unfold start_ops in erases_fit p (sizes p (start_admitted p b e).fine) b.wear (left_over p b.chip)
-done_fit p b salvage s q e = rw (no_ops p b (q e)) tt
+done_fit p b format s e = unfold format_ops in erases_fit p (sizes p (format_admitted p b e).fine) b.wear _
+done_fit p b (read q) s e = tt
+done_fit p b (write q) s e = write_fits p b q e
+done_fit p b (release c) s e = tt
+done_fit p b (queue l) s e = absurd s
+done_fit p b start s e = unfold start_ops in erases_fit p (sizes p (start_admitted p b e).fine) b.wear (left_over p b.chip)
 
-ops_fit : (p : Params) (b : Board) (c : Call) → Single c → Quiet p b c → AllFit p (ops_by p b c)
-ops_fit p b c s q = go (reply_cases (reply_of p b c))
+ops_fit : (p : Params) (b : Board) (c : Call) → Single c → AllFit p (ops_by p b c)
+ops_fit p b c s = go (reply_cases (reply_of p b c))
   where
     go : (reply_of p b c ≡ Accepted) ⊎ (is_accepted (reply_of p b c) ≡ false) → AllFit p (ops_by p b c)
-    go (inl e) = rw (accepted_ops p b c s e) (done_fit p b c s q e)
+    go (inl e) = rw (accepted_ops p b c s e) (done_fit p b c s e)
     go (inr e) = rw (refused_ops p b c s e) tt
 
 -- the chip and the wear after a call
 done_chip : (p : Params) (b : Board) (c : Call) → (done_board p b c).chip ≡ replay_chip p b.chip (done_ops p b c)
-unfolding done_board done_ops replay_chip formatted written written_by write_ops released started salvaged
+unfolding done_board done_ops replay_chip formatted written written_by write_ops released started
 done_chip p b format = refl
 done_chip p b (read q) = refl
 done_chip p b (write q) = refl
 done_chip p b (release c) = refl
 done_chip p b (queue l) = refl
 done_chip p b start = refl
-done_chip p b salvage = refl
 
 done_wear : (p : Params) (b : Board) (c : Call) → (done_board p b c).wear ≡ replay_wear b.wear (done_ops p b c)
-unfolding done_board done_ops replay_wear formatted written written_by write_ops released started salvaged
+unfolding done_board done_ops replay_wear formatted written written_by write_ops released started
 done_wear p b format = refl
 done_wear p b (read q) = refl
 done_wear p b (write q) = refl
 done_wear p b (release c) = refl
 done_wear p b (queue l) = refl
 done_wear p b start = refl
-done_wear p b salvage = refl
 
 pub ops_chip : (p : Params) (b : Board) (c : Call) → Single c → (plain_leaves p b c).chip ≡ replay_chip p b.chip (ops_by p b c)
 ops_chip p b c s = go (reply_cases (reply_of p b c))
@@ -179,7 +170,6 @@ done_clean p b (queue l) s e = absurd s
 done_clean p b start s e =
     let a = start_admitted p b e in
     erases_clean p (sizes p a.fine) b.wear (left_over p b.chip) b.chip (lengths_in p b a.lengths).chip_length p.N (omega arith)
-done_clean p b salvage s e = salvage_clean p b (salvage_admitted p b e)
 
 ops_clean : (p : Params) (b : Board) (c : Call) → Single c → clean p b.chip (ops_by p b c) ≡ true
 ops_clean p b c s = go (reply_cases (reply_of p b c))
@@ -211,20 +201,20 @@ more_made p b b' b'' xs ys s t =
       fits = fit_append p xs ys s.fits t.fits;
     }
 
-pub one_made : (p : Params) (b : Board) (c : Call) → Single c → Quiet p b c → Replayed p b (plain_leaves p b c) (ops_by p b c)
-one_made p b c s q = record { chip = ops_chip p b c s; wear = ops_wear p b c s; erased = ops_clean p b c s; fits = ops_fit p b c s q }
+pub one_made : (p : Params) (b : Board) (c : Call) → Single c → Replayed p b (plain_leaves p b c) (ops_by p b c)
+one_made p b c s = record { chip = ops_chip p b c s; wear = ops_wear p b c s; erased = ops_clean p b c s; fits = ops_fit p b c s }
 
-singles_made : (p : Params) (b : Board) (cs : List Call) → AllSingle cs → AllQuiet p b cs → Replayed p b (plain_board p b cs) (plain_trace p b cs)
+singles_made : (p : Params) (b : Board) (cs : List Call) → AllSingle cs → Replayed p b (plain_board p b cs) (plain_trace p b cs)
 unfolding plain_board
-singles_made p b [] s q = unfold plain_board plain_trace plain_parts ops_of in none_made p b
-singles_made p b (c ∷ cs) s q =
+singles_made p b [] s = unfold plain_board plain_trace plain_parts ops_of in none_made p b
+singles_made p b (c ∷ cs) s =
     rw (trace_step p b c cs)
-    (more_made p b (plain_leaves p b c) _ (ops_by p b c) (plain_trace p (plain_leaves p b c) cs) (one_made p b c s.0 q.0) (singles_made p (plain_leaves p b c) cs s.1 q.1))
+    (more_made p b (plain_leaves p b c) _ (ops_by p b c) (plain_trace p (plain_leaves p b c) cs) (one_made p b c s.0) (singles_made p (plain_leaves p b c) cs s.1))
 
 -- ---- any call
 
-pub run_made : (p : Params) (b : Board) (run : List Call) → AllQuiet p b (singles_of p b run) → Replayed p b (plain_board p b run) (plain_trace p b run)
-run_made p b run q = rw (board_same p b run) (unfold plain_trace in rw (parts_same p b run) (unfold plain_trace in singles_made p b (singles_of p b run) (all_single p b run) q))
+pub run_made : (p : Params) (b : Board) (run : List Call) → Replayed p b (plain_board p b run) (plain_trace p b run)
+run_made p b run = rw (board_same p b run) (unfold plain_trace in rw (parts_same p b run) (unfold plain_trace in singles_made p b (singles_of p b run) (all_single p b run)))
 
 -- its lengths stay right
 singles_long : (p : Params) (b : Board) (cs : List Call) → AllSingle cs → lengths_fit p b ≡ true → lengths_fit p (plain_board p b cs) ≡ true

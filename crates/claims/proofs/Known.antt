@@ -8,7 +8,7 @@ use Rattle.rules.specs.declared.Params.{Params}
 use Rattle.rules.specs.declared.Reply.{Reply}
 use Rattle.rules.specs.declared.Reply.TheVariants.{Accepted}
 use Rattle.rules.specs.Tables.{Board}
-use Rattle.rules.specs.Requests.{Call, Request, format, item_requests, queue, read, release, salvage, start, write}
+use Rattle.rules.specs.Requests.{Call, Request, format, item_requests, queue, read, release, start, write}
 use Rattle.rules.specs.Replies.{is_accepted, reply_of}
 use Rattle.rules.specs.Calls.{Part, queue_work, work_of}
 use Rattle.rules.proofs.Outcomes.{reply_cases, reply_is}
@@ -65,7 +65,6 @@ one_known p b (read q) k = refl
 one_known p b (write q) k = refl
 one_known p b (release c) k = refl
 one_known p b start k = refl
-one_known p b salvage k = refl
 one_known p b (queue l) k = go (reply_cases (reply_of p b (queue l)))
   where
     go : (reply_of p b (queue l) ≡ Accepted) ⊎ (is_accepted (reply_of p b (queue l)) ≡ false)

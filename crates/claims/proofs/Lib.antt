@@ -2,7 +2,6 @@ pub mod ReplyTable
 pub mod PlainRuns
 pub mod Singles
 pub mod Steps
-pub mod Quiet
 pub mod Once
 pub mod BadRuns
 pub mod Programs
@@ -13,7 +12,6 @@ pub mod Freed
 pub mod Stamps
 pub mod Budgets
 pub mod CutTraces
-pub mod Settled
 pub mod Again
 pub mod Condition1
 pub mod Standing
@@ -30,4 +28,3 @@ pub mod Unique
 pub mod Queues
 pub mod OldForm
 pub mod Frames
-pub mod Salvaged

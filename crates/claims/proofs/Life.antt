@@ -42,7 +42,6 @@ use Rattle.claims.proofs.Again.{run_new}
 use Rattle.claims.proofs.Beliefs.{Believed}
 use Rattle.claims.proofs.Condition1.{row_ten}
 use Rattle.claims.proofs.CutCalls.{format_known}
-use Rattle.claims.proofs.Settled.{first_settled, format_quiet, steps_quiet}
 use Rattle.claims.proofs.CutTraces.{step_long, trace_made}
 use Rattle.claims.proofs.Steps.{format_leaves}
 use Rattle.claims.proofs.PlainRuns.{first_plain}
@@ -177,14 +176,14 @@ module _ (p : Params) (b : Board) (e : reply_of p b format ≡ Accepted) (ss : L
       now_bad = st.marked n h (else_reserved p after q st ten n h (not-true _ (and_right (not (bad p b.chip n)) both)))
 
       worn_out_lem : p.E ≤ wear_at after.wear n
-      worn_out_lem = go (run_new p st.fine n h b (plain format ∷ ss) (format_quiet p b e ss) (format_admitted p b e).lengths now_bad)
+      worn_out_lem = go (run_new p st.fine n h b (plain format ∷ ss) (format_admitted p b e).lengths now_bad)
         where
           go : (bad p b.chip n ≡ true) ⊎ (p.E ≤ wear_at after.wear n) → p.E ≤ wear_at after.wear n
           go (inl y) = absurd (never y good)
           go (inr y) = y
 
       wears : wear_at after.wear n ≤ wear_at first.wear n + erases_of n later
-      wears = unfold board_after in rw (trace_made p first ss (steps_quiet p first ss (first_settled p b e))).wear (wear_most n later first.wear (rw first_long h))
+      wears = unfold board_after in rw (trace_made p first ss).wear (wear_most n later first.wear (rw first_long h))
 
   few_used : count_below p.N (λ n. not (bad p b.chip n) && eqb (bst_at after.bst n) 1) ≤ p.mu * p.gamma
   few_used =

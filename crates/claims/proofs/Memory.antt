@@ -19,7 +19,7 @@ use Rattle.rules.specs.declared.Reply.TheVariants.{Accepted}
 use Rattle.rules.specs.Numbers.{cluster_of, sector_of}
 use Rattle.rules.specs.Tables.{Board}
 use Rattle.rules.specs.Regions.{sector}
-use Rattle.rules.specs.Requests.{Call, Request, format, queue, read, release, request_cluster, start, write, salvage}
+use Rattle.rules.specs.Requests.{Call, Request, format, queue, read, release, request_cluster, start, write}
 use Rattle.rules.specs.Format.{formatted}
 use Rattle.rules.specs.Write.{written}
 use Rattle.rules.specs.Release.{released}
@@ -35,8 +35,6 @@ use Rattle.rules.proofs.WritePromise.{Promise, write_promise}
 use Rattle.claims.specs.Runs.{Known, Memory, blank, cleared, given, learns, sector_at}
 use Rattle.claims.proofs.PlainRuns.{plain_board, plain_known, plain_leaves}
 use Rattle.claims.proofs.Known.{known_same, known_step, known_by}
-use Rattle.salvages.proofs.Same.{salvage_same}
-use Rattle.claims.proofs.Quiet.{AllQuiet, Quiet}
 use Rattle.claims.proofs.Singles.{AllSingle, Single, all_single, board_same, refused_leaves, singles_of}
 use Rattle.claims.proofs.Steps.{accepted_leaves, done_board}
 
@@ -142,34 +140,33 @@ unfolding sector_at blank
 format_agrees p b e a h = format_reads p b e (cluster_of p a) (sector_of p a)
 
 -- an accepted call changes both alike; what a start finds is what is then read
-pub done_agrees : (p : Params) (b : Board) (k : Known) (c : Call) → Single c → Quiet p b c → reply_of p b c ≡ Accepted → Agrees p b k.memory
+pub done_agrees : (p : Params) (b : Board) (k : Known) (c : Call) → Single c → reply_of p b c ≡ Accepted → Agrees p b k.memory
     → Agrees p (done_board p b c) (learns p (done_board p b c) c k).memory
 unfolding learns done_board
-done_agrees p b k format s t e h a low = format_agrees p b e a low
-done_agrees p b k (read q) s t e h a low = h a low
-done_agrees p b k (release c) s t e h a low = freed p b c a ∙ cleared_same p c (sector_at p b) k.memory a (h a low)
-done_agrees p b k (write q) s t e h a low = stored p b q e a low ∙ given_same p q (sector_at p b) k.memory a (h a low)
-done_agrees p b k (queue l) s t e h a low = absurd s
-done_agrees p b k start s t e h a low = refl
-done_agrees p b k salvage s t e h a low = rw (salvage_same p b (t e)) (h a low)
+done_agrees p b k format s e h a low = format_agrees p b e a low
+done_agrees p b k (read q) s e h a low = h a low
+done_agrees p b k (release c) s e h a low = freed p b c a ∙ cleared_same p c (sector_at p b) k.memory a (h a low)
+done_agrees p b k (write q) s e h a low = stored p b q e a low ∙ given_same p q (sector_at p b) k.memory a (h a low)
+done_agrees p b k (queue l) s e h a low = absurd s
+done_agrees p b k start s e h a low = refl
 
 -- so does any call that is no queue
-pub call_agrees : (p : Params) (b : Board) (k : Known) (c : Call) → Single c → Quiet p b c → Agrees p b k.memory → Agrees p (plain_leaves p b c) (known_by p b c k).memory
+pub call_agrees : (p : Params) (b : Board) (k : Known) (c : Call) → Single c → Agrees p b k.memory → Agrees p (plain_leaves p b c) (known_by p b c k).memory
 unfolding known_by
-call_agrees p b k c s t h = go (reply_cases (reply_of p b c))
+call_agrees p b k c s h = go (reply_cases (reply_of p b c))
   where
     go : (reply_of p b c ≡ Accepted) ⊎ (is_accepted (reply_of p b c) ≡ false) → Agrees p (plain_leaves p b c) (cond (is_accepted (reply_of p b c)) (learns p (plain_leaves p b c) c k) k).memory
-    go (inl e) = rw (accepted_leaves p b c s e, e) (unfold is_accepted in done_agrees p b k c s t e h)
+    go (inl e) = rw (accepted_leaves p b c s e, e) (unfold is_accepted in done_agrees p b k c s e h)
     go (inr e) = rw (e, refused_leaves p b c e) h
 
 -- a run of such calls, and any run
-run_agrees : (p : Params) (b : Board) (k : Known) (cs : List Call) → AllSingle cs → AllQuiet p b cs → Agrees p b k.memory → Agrees p (plain_board p b cs) (plain_known p b cs k).memory
+run_agrees : (p : Params) (b : Board) (k : Known) (cs : List Call) → AllSingle cs → Agrees p b k.memory → Agrees p (plain_board p b cs) (plain_known p b cs k).memory
 unfolding plain_board
-run_agrees p b k [] s t h = unfold plain_known in h
-run_agrees p b k (c ∷ cs) s t h = rw (known_step p b c cs k s.0) (run_agrees p (plain_leaves p b c) (known_by p b c k) cs s.1 t.1 (call_agrees p b k c s.0 t.0 h))
+run_agrees p b k [] s h = unfold plain_known in h
+run_agrees p b k (c ∷ cs) s h = rw (known_step p b c cs k s.0) (run_agrees p (plain_leaves p b c) (known_by p b c k) cs s.1 (call_agrees p b k c s.0 h))
 
-pub after_agrees : (p : Params) (b : Board) (k : Known) (run : List Call) → AllQuiet p b (singles_of p b run) → Agrees p b k.memory → Agrees p (plain_board p b run) (plain_known p b run k).memory
-after_agrees p b k run t h = rw (board_same p b run, known_same p b run k) (run_agrees p b k (singles_of p b run) (all_single p b run) t h)
+pub after_agrees : (p : Params) (b : Board) (k : Known) (run : List Call) → Agrees p b k.memory → Agrees p (plain_board p b run) (plain_known p b run k).memory
+after_agrees p b k run h = rw (board_same p b run, known_same p b run k) (run_agrees p b k (singles_of p b run) (all_single p b run) h)
 
 -- ---- the read
 

@@ -17,7 +17,7 @@ use Rattle.rules.specs.declared.Reply.TheVariants.{Accepted}
 use Rattle.rules.specs.Tables.{Board, bst_at, bt_at, none, wear_at}
 use Rattle.rules.specs.Regions.{view}
 use Rattle.rules.specs.Traces.{Op, erase, erases_in, frame_ops, frames_ops, is_erase, mark, program, replay_wear, worn}
-use Rattle.rules.specs.Requests.{Call, Request, format, queue, read, release, request_cluster, request_region, start, write, salvage}
+use Rattle.rules.specs.Requests.{Call, Request, format, queue, read, release, request_cluster, request_region, start, write}
 use Rattle.rules.specs.Format.{bad, format_ops, formatted}
 use Rattle.rules.specs.Release.{released}
 use Rattle.rules.specs.Replies.{is_accepted, reply_of}
@@ -43,10 +43,8 @@ use Rattle.claims.proofs.Again.{erases_append, frame_programs, frames_programs, 
 use Rattle.claims.proofs.Known.{known_by}
 use Rattle.claims.proofs.Life.{format_once, wear_most}
 use Rattle.claims.proofs.PlainRuns.{format_board, plain_board, plain_leaves}
-use Rattle.salvages.proofs.Same.{salvage_same}
-use Rattle.claims.proofs.Settled.{format_quiet}
 use Rattle.claims.proofs.Singles.{AllSingle, Single, all_single, board_same, refused_leaves, singles_of}
-use Rattle.claims.proofs.Standing.{Standing, after_standing, call_standing, first_standing, stands_orderly}
+use Rattle.claims.proofs.Standing.{Standing, after_standing, call_standing, first_standing}
 use Rattle.claims.proofs.Steps.{accepted_leaves, done_board, format_leaves}
 
 -- block n is reserved, or has had fewer than E erases
@@ -169,7 +167,6 @@ module _ (p : Params) (n : ℕ) (low : n < p.N) where
   done_rated b (release c) s e st h = unfold released in h
   done_rated b (queue l) s e st h = absurd s
   done_rated b start s e st h = let k = start_keeps p b st in rw (k.bst, k.wear) h
-  done_rated b salvage s e st h = rw (salvage_same p b (stands_orderly p b st)) h
 
   call_rated : (b : Board) (c : Call) → Single c → Stands p b → Rated p b n → Rated p (plain_leaves p b c) n
   call_rated b c s st h = go (reply_cases (reply_of p b c))
@@ -205,7 +202,7 @@ module _ (p : Params) (b : Board) (e : reply_of p b format ≡ Accepted) (cs : L
 
 pub worn_over_runs : WornOverRuns
 worn_over_runs p b e ss u n low = (
-  λ two. run_new p st.fine n low b (plain format ∷ ss) (format_quiet p b e ss) (format_admitted p b e).lengths (st.marked n low two),
+  λ two. run_new p st.fine n low b (plain format ∷ ss) (format_admitted p b e).lengths (st.marked n low two),
   λ w. go w (ℕ_discrete (bst_at (board_after p b (plain format ∷ ss)).bst n) 2),
 )
   where
@@ -219,6 +216,6 @@ worn_over_runs p b e ss u n low = (
         → bst_at (board_after p b (plain format ∷ ss)).bst n ≡ 2
     go w (yes two) = two
     go (inl h) (no ne) =
-        absurd (never (run_still p st.fine n low b (plain format ∷ ss) (format_quiet p b e ss) (format_admitted p b e).lengths h)
+        absurd (never (run_still p st.fine n low b (plain format ∷ ss) (format_admitted p b e).lengths h)
         (unreserved_good p (board_after p b (plain format ∷ ss)) (record { fine = st.fine; lengths = st.lengths; tidy = st.order }) n low ne))
     go (inr h) (no ne) = absurd (omega (arith, h, rated ne))

@@ -41,7 +41,7 @@ use Rattle.claims.proofs.Budgets.{cut_is}
 use Rattle.claims.proofs.Condition1.{in_order}
 use Rattle.claims.proofs.CutTraces.{cut_leaves, step_long}
 use Rattle.claims.proofs.Memory.{Agrees, given_else}
-use Rattle.claims.proofs.Standing.{Left, stands_orderly}
+use Rattle.claims.proofs.Standing.{Left}
 use Rattle.starts.proofs.Accepted.{admitted_start}
 use Rattle.claims.proofs.Steps.{accepted_ops, done_ops, ops_by}
 
@@ -50,6 +50,9 @@ pub data Lost (p : Params) (k : Known) (short : List Request) (chip : List ℕ) 
   as_old : (b : Board) → ReadsOld p b chip → Agrees p b k.memory → Left p b k → Lost p k short chip
   as_new : (b : Board) (q : Request) → short ≡ q ∷ [] → Asked p q → ReadsOld p b chip
       → Agrees p b (learns p b (write q) k).memory → Left p b (learns p b (write q) k) → Lost p k short chip
+
+pub stands_orderly : (p : Params) (b : Board) → Stands p b → OrderlyBoard p b
+stands_orderly p b st = record { fine = st.fine; lengths = st.lengths; tidy = st.order }
 
 -- so a start on it gives that board back
 back : (p : Params) → allowed p ≡ true → (b₀ : Board) → lengths_fit p b₀ ≡ true → (k : Known) (short : List Request) → Lost p k short b₀.chip → (b : Board) × Recovers p b₀ b

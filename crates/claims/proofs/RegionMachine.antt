@@ -18,7 +18,7 @@ use Rattle.rules.specs.Tables.{Board, stamp_at}
 use Rattle.rules.specs.Orderly.{enough}
 use Rattle.rules.specs.Regions.{View, looks_at, looks_in, sector, sector_in, view}
 use Rattle.rules.specs.Traces.{erases_in, programs_in}
-use Rattle.rules.specs.Requests.{Call, Request, format, queue, read, release, request_cluster, request_of, request_region, salvage, start, write}
+use Rattle.rules.specs.Requests.{Call, Request, format, queue, read, release, request_cluster, request_of, request_region, start, write}
 use Rattle.rules.specs.Write.{copies, next_stamp, plan_erases, plan_of}
 use Rattle.rules.specs.Machine.{view_after, without}
 use Rattle.rules.specs.Replies.{OrderlyBoard, access_rows, bad_count, is_accepted, reply_of, wrong_data}
@@ -33,7 +33,7 @@ use Rattle.claims.proofs.Kept.{cluster_reply, orderly_kept, orderly_read, orderl
 use Rattle.claims.proofs.Roomy.{plain_roomy}
 use Rattle.claims.proofs.Singles.{AllSingle, Single, refused_leaves}
 use Rattle.claims.proofs.Stamps.{other_stamp, released_stamp, written_stamp}
-use Rattle.claims.proofs.Steps.{part_of, parts_step, read_leaves, release_leaves, write_leaves, salvage_leaves}
+use Rattle.claims.proofs.Steps.{part_of, parts_step, read_leaves, release_leaves, write_leaves}
 
 -- what the caller of a call is told
 unfoldable pub told_by : Outcome → Told
@@ -68,7 +68,6 @@ answer_by p st (write q) =
 answer_by p st (release c) = tells (cluster_reply p c) 0 0 0 []
 answer_by p st (queue l) = tells Accepted 0 0 0 []
 answer_by p st start = tells Accepted 0 0 0 []
-answer_by p st salvage = tells Accepted 0 0 0 []
 
 -- its next state
 state_by : Params → State → Call → State
@@ -78,7 +77,6 @@ state_by p st (release c) = cond (is_accepted (cluster_reply p c)) (record { vw 
 state_by p st (write q) = cond (is_accepted (write_reply p st.stamp q)) (record { vw = view_after p st.vw (st.stamp + 1) q; stamp = st.stamp + 1 }) st
 state_by p st (queue l) = st
 state_by p st start = st
-state_by p st salvage = st
 
 -- over a list of requests
 pub state_run : Params → State → List Call → State
@@ -203,7 +201,6 @@ asked_state p st (write q) = refl
 asked_state p st (release c) = refl
 asked_state p st (queue l) = refl
 asked_state p st start = refl
-asked_state p st salvage = refl
 
 asked_answer : (p : Params) (st : State) (c : Call) → answer_by p st (asked c) ≡ answer_by p st c
 unfolding asked answer_by
@@ -213,7 +210,6 @@ asked_answer p st (write q) = refl
 asked_answer p st (release c) = refl
 asked_answer p st (queue l) = refl
 asked_answer p st start = refl
-asked_answer p st salvage = refl
 
 -- ---- a call more in the requests to a region, and in what is told of them
 
@@ -244,7 +240,6 @@ turn p b r low h room (release c) s n =
     record { own = λ e. (release_own p b h room r c, release_told p b h room c (state_of p b r)); else = λ e. release_else p b h room r c (eqb-false _ _ e) }
 turn p b r low h room (queue l) s n = absurd s
 turn p b r low h room start s n = absurd (false≢true (sym n))
-turn p b r low h room salvage s n = record { own = λ e. absurd (false≢true e); else = λ e. rw (salvage_leaves p b h) }
 
 -- what a run of single calls without a format or a start leaves a region and tells it
 pub record Gives (p : Params) (b : Board) (r : ℕ) (cs : List Call) : Type 0 where

@@ -10,7 +10,7 @@ use Rattle.lists.proofs.Tests.{and_left, and_right}
 use Rattle.rules.specs.declared.Params.{Params}
 use Rattle.rules.specs.declared.Reply.TheVariants.{Accepted}
 use Rattle.rules.specs.Tables.{Board}
-use Rattle.rules.specs.Requests.{Call, format, queue, read, release, salvage, start, write}
+use Rattle.rules.specs.Requests.{Call, format, queue, read, release, start, write}
 use Rattle.rules.specs.Replies.{Row, access_rows, block_row, early_rows, first_row, lent_rows, number_of, order_row, queue_rows, reply_of, rows_of, stamp_row}
 use Rattle.claims.specs.Conditions.{ByTable, none_applies}
 
@@ -113,7 +113,6 @@ rows_distinct p b (write q) = refl
 rows_distinct p b (release c) = refl
 rows_distinct p b (queue l) = refl
 rows_distinct p b start = refl
-rows_distinct p b salvage = refl
 
 pub reply_by_table : (p : Params) (b : Board) (c : Call) → ByTable Accepted (rows_of p b c) (reply_of p b c)
 unfolding reply_of

@@ -9,7 +9,7 @@ use Rattle.rules.specs.declared.Params.{Params}
 use Rattle.rules.specs.declared.Reply.TheVariants.{Accepted}
 use Rattle.rules.specs.Tables.{Board}
 use Rattle.rules.specs.Orderly.{enough}
-use Rattle.rules.specs.Requests.{Call, Request, format, item_requests, queue, read, release, salvage, start, write}
+use Rattle.rules.specs.Requests.{Call, Request, format, item_requests, queue, read, release, start, write}
 use Rattle.rules.specs.Replies.{is_accepted, reply_of}
 use Rattle.rules.specs.Calls.{outcome_of, work_of, write_work}
 use Rattle.rules.specs.Cuts.{Step, call_of}
@@ -49,7 +49,6 @@ one_roomy p b (read q) h = and-true (enough p b) ∙ h
 one_roomy p b (write q) h = and-true (enough p b) ∙ h
 one_roomy p b (release c) h = and-true (enough p b) ∙ h
 one_roomy p b start h = and-true (enough p b) ∙ h
-one_roomy p b salvage h = and-true (enough p b) ∙ h
 one_roomy p b (queue l) h = go (reply_cases (reply_of p b (queue l)))
   where
     go : (reply_of p b (queue l) ≡ Accepted) ⊎ (is_accepted (reply_of p b (queue l)) ≡ false) → plain_roomy p b (cond (is_accepted (reply_of p b (queue l))) (plain_writes p l) []) ≡ true

@@ -8,7 +8,7 @@ use Rattle.lists.proofs.Tests.{and_intro, and_left, and_right}
 use Rattle.rules.specs.declared.Params.{Params}
 use Rattle.rules.specs.declared.Reply.TheVariants.{Accepted}
 use Rattle.rules.specs.Tables.{Board}
-use Rattle.rules.specs.Requests.{Call, Queue, Request, format, item_requests, queue, read, release, salvage, start, write}
+use Rattle.rules.specs.Requests.{Call, Queue, Request, format, item_requests, queue, read, release, start, write}
 use Rattle.rules.specs.Replies.{is_accepted, reply_of}
 use Rattle.rules.specs.Calls.{Outcome, Part, outcome_of, queue_work, work_of, write_all, write_work}
 use Rattle.rules.specs.Cuts.{plain}
@@ -62,7 +62,6 @@ Single (write q) = Unit {0}
 Single (release c) = Unit {0}
 Single (queue l) = ⊥
 Single start = Unit {0}
-Single salvage = Unit {0}
 
 abbrev pub AllSingle : List Call → Type 0
 AllSingle [] = Unit {0}
@@ -75,7 +74,6 @@ singles p b (read q) = read q ∷ []
 singles p b (write q) = write q ∷ []
 singles p b (release c) = release c ∷ []
 singles p b start = start ∷ []
-singles p b salvage = salvage ∷ []
 singles p b (queue l) = cond (is_accepted (reply_of p b (queue l))) (plain_writes p l) []
 
 unfoldable pub singles_of : Params → Board → List Call → List Call
@@ -108,7 +106,6 @@ one_parts p b (read q) = sym (append-nil _)
 one_parts p b (write q) = sym (append-nil _)
 one_parts p b (release c) = sym (append-nil _)
 one_parts p b start = sym (append-nil _)
-one_parts p b salvage = sym (append-nil _)
 one_parts p b (queue l) = go (reply_cases (reply_of p b (queue l)))
   where
     go : (reply_of p b (queue l) ≡ Accepted) ⊎ (is_accepted (reply_of p b (queue l)) ≡ false) → (work_of p b (queue l)).parts ≡ plain_parts p b (cond (is_accepted (reply_of p b (queue l))) (plain_writes p l) [])
@@ -122,7 +119,6 @@ one_board p b (read q) = refl
 one_board p b (write q) = refl
 one_board p b (release c) = refl
 one_board p b start = refl
-one_board p b salvage = refl
 one_board p b (queue l) = go (reply_cases (reply_of p b (queue l)))
   where
     go : (reply_of p b (queue l) ≡ Accepted) ⊎ (is_accepted (reply_of p b (queue l)) ≡ false) → plain_leaves p b (queue l) ≡ plain_board p b (cond (is_accepted (reply_of p b (queue l))) (plain_writes p l) [])
@@ -164,7 +160,6 @@ one_single p b (read q) = (tt, tt)
 one_single p b (write q) = (tt, tt)
 one_single p b (release c) = (tt, tt)
 one_single p b start = (tt, tt)
-one_single p b salvage = (tt, tt)
 one_single p b (queue l) = go (reply_cases (reply_of p b (queue l)))
   where
     go : (reply_of p b (queue l) ≡ Accepted) ⊎ (is_accepted (reply_of p b (queue l)) ≡ false) → AllSingle (cond (is_accepted (reply_of p b (queue l))) (plain_writes p l) [])
@@ -194,7 +189,6 @@ one_undisturbed p b (read q) h = refl
 one_undisturbed p b (write q) h = refl
 one_undisturbed p b (release c) h = refl
 one_undisturbed p b start h = h
-one_undisturbed p b salvage h = h
 one_undisturbed p b (queue l) h = go (reply_cases (reply_of p b (queue l)))
   where
     go : (reply_of p b (queue l) ≡ Accepted) ⊎ (is_accepted (reply_of p b (queue l)) ≡ false) → plain_undisturbed (cond (is_accepted (reply_of p b (queue l))) (plain_writes p l) []) ≡ true

@@ -13,10 +13,9 @@ use Rattle.lists.proofs.Tests.{never}
 use Rattle.rules.specs.declared.Params.{Params}
 use Rattle.rules.specs.declared.Reply.TheVariants.{Accepted}
 use Rattle.rules.specs.Tables.{Board}
-use Rattle.rules.specs.Requests.{Call, format, queue, read, release, request_cluster, salvage, start, write}
-use Rattle.rules.specs.Replies.{OrderlyBoard, is_accepted, reply_of}
+use Rattle.rules.specs.Requests.{Call, format, queue, read, release, request_cluster, start, write}
+use Rattle.rules.specs.Replies.{is_accepted, reply_of}
 use Rattle.rules.proofs.Outcomes.{reply_cases}
-use Rattle.salvages.proofs.Same.{salvage_same}
 use Rattle.starts.specs.Stands.{Clear, Stands}
 use Rattle.starts.proofs.Keeps.{start_keeps}
 use Rattle.starts.proofs.Stands.{formatted_clear, formatted_stands, released_clear, released_stands, written_stands}
@@ -34,9 +33,6 @@ Left p b k = (c : ℕ) → c < p.C → k.released c ≡ false → Clear p b c
 pub record Standing (p : Params) (b : Board) (k : Known) : Type 0 where
   pub stands : Stands p b
   pub left : Left p b k
-
-pub stands_orderly : (p : Params) (b : Board) → Stands p b → OrderlyBoard p b
-stands_orderly p b st = record { fine = st.fine; lengths = st.lengths; tidy = st.order }
 
 -- ---- an accepted call
 
@@ -57,7 +53,6 @@ done_standing p b k format s e h = format_standing p b k e
 done_standing p b k (read q) s e h = h
 done_standing p b k (queue l) s e h = absurd s
 done_standing p b k start s e h = start_standing p b k h.stands
-done_standing p b k salvage s e h = rw (salvage_same p b (stands_orderly p b h.stands)) h
 done_standing p b k (write q) s e h =
     let w = written_stands p b h.stands q e in
     record { stands = w.0; left = λ c low x. go c low x (ℕ_discrete c (request_cluster p q)) }

@@ -11,16 +11,14 @@ use Rattle.rules.specs.declared.Answer.{Answer}
 use Rattle.rules.specs.Tables.{Board}
 use Rattle.rules.specs.Regions.{looks_at}
 use Rattle.rules.specs.Traces.{Op}
-use Rattle.rules.specs.Requests.{Call, Request, format, queue, read, release, request_cluster, salvage, start, write}
+use Rattle.rules.specs.Requests.{Call, Request, format, queue, read, release, request_cluster, start, write}
 use Rattle.rules.specs.Format.{format_ops, formatted}
 use Rattle.rules.specs.Write.{write_ops, written}
 use Rattle.rules.specs.Release.{released}
 use Rattle.rules.specs.Start.{start_ops, started}
-use Rattle.rules.specs.Replies.{is_accepted, reply_of, OrderlyBoard}
-use Rattle.rules.specs.Salvage.{salvage_ops, salvaged}
-use Rattle.rules.specs.Calls.{Part, Work, does, ops_of, outcome_of, read_bytes, refuses, single, work_of, write_work, Outcome}
+use Rattle.rules.specs.Replies.{is_accepted, reply_of}
+use Rattle.rules.specs.Calls.{Part, Work, does, ops_of, outcome_of, read_bytes, refuses, single, work_of, write_work}
 use Rattle.rules.proofs.Outcomes.{reply_cases, work_accepted, work_refused}
-use Rattle.salvages.proofs.Accepted.{salvage_idle}
 use Rattle.claims.proofs.PlainRuns.{ops_append, plain_leaves, plain_parts, plain_trace}
 use Rattle.claims.proofs.Singles.{Single, refused_leaves}
 
@@ -34,7 +32,6 @@ done_ops p b (write q) = write_ops p b q
 done_ops p b (release c) = []
 done_ops p b (queue l) = []
 done_ops p b start = start_ops p b.chip b.wear
-done_ops p b salvage = salvage_ops p b.chip b.bt
 
 unfoldable pub done_bytes : Params → Board → Call → List ℕ
 done_bytes p b format = []
@@ -43,7 +40,6 @@ done_bytes p b (write q) = q.bytes
 done_bytes p b (release c) = []
 done_bytes p b (queue l) = []
 done_bytes p b start = []
-done_bytes p b salvage = []
 
 unfoldable pub done_board : Params → Board → Call → Board
 done_board p b format = formatted p b
@@ -52,7 +48,6 @@ done_board p b (write q) = written p b q
 done_board p b (release c) = released p b c
 done_board p b (queue l) = b
 done_board p b start = started p b
-done_board p b salvage = salvaged p b
 
 done_looks : Params → Board → Call → ℕ
 done_looks p b format = 0
@@ -61,7 +56,6 @@ done_looks p b (write q) = looks_at p b (request_cluster p q)
 done_looks p b (release c) = 0
 done_looks p b (queue l) = 0
 done_looks p b start = 0
-done_looks p b salvage = 0
 
 is_done : (p : Params) (b : Board) (c : Call) → Single c → work_of p b c ≡ does p b c (done_ops p b c) (done_looks p b c) (done_bytes p b c) (done_board p b c)
 unfolding work_of write_work done_ops done_looks done_bytes done_board
@@ -71,7 +65,6 @@ is_done p b (write q) s = refl
 is_done p b (release c) s = refl
 is_done p b (queue l) s = absurd s
 is_done p b start s = refl
-is_done p b salvage s = refl
 
 -- its one part
 unfoldable pub ops_by : Params → Board → Call → List Op
@@ -143,8 +136,3 @@ release_leaves p b c e = accepted_leaves p b (release c) tt e
 pub start_leaves : (p : Params) (b : Board) → reply_of p b start ≡ Accepted → plain_leaves p b start ≡ started p b
 unfolding done_board
 start_leaves p b e = accepted_leaves p b start tt e
-
--- on an orderly board a salvage leaves all as it is
-pub salvage_leaves : (p : Params) (b : Board) → OrderlyBoard p b → plain_leaves p b salvage ≡ b
-unfolding plain_leaves
-salvage_leaves p b h = ap (λ (o : Outcome). o.board) (salvage_idle p b h)

@@ -1,22 +1,21 @@
 -- The tender's conditions 1 to 3 as statements, with what document 02's landed requests make of them: for all parameters and boards, over every call,
 -- with a budget or without, and over every run of calls. proofs/ has the theorems.
 -- Assumes nothing.
-use Rattle.std.specs.Prelude.{ℕ, ◌+◌, ◌*◌, ◌≤◌, ◌<◌, min, ◌≡◌, ◌↔◌, ◌⊎◌, Bool, true, false, not, ◌&&◌, ◌||◌, cond, List, [], ◌∷◌, ◌++◌, length, drop, replicate, take, eqb}
+use Rattle.std.specs.Prelude.{ℕ, ◌+◌, ◌*◌, ◌≤◌, ◌<◌, ◌≡◌, ◌↔◌, ◌⊎◌, Bool, true, false, not, ◌&&◌, ◌||◌, cond, List, [], ◌∷◌, ◌++◌, length, drop, replicate, take, eqb}
 use Rattle.lists.specs.Below.{count_below, join_below}
 use Rattle.rules.specs.declared.Params.{Params}
 use Rattle.rules.specs.declared.Answer.{Answer}
 use Rattle.rules.specs.declared.Reply.TheVariants.{Accepted, NoBlockLeft, TooFewBlocks}
 use Rattle.rules.specs.Parameters.{frames, pages}
 use Rattle.rules.specs.Numbers.{cluster_of, region_of, sector_of}
-use Rattle.rules.specs.Pages.{block, erased, held, page}
+use Rattle.rules.specs.Pages.{block, held}
 use Rattle.rules.specs.Tables.{Board, none, ct_at, bt_entry, bst_at, mark_index, marks_length, wear_at, word_at, stamp_at}
 use Rattle.rules.specs.Regions.{looks_at, view}
 use Rattle.rules.specs.Orderly.{enough, orderly}
-use Rattle.rules.specs.Traces.{mark_page, replay_chip, replay_wear, clean}
-use Rattle.rules.specs.Requests.{Request, request_cluster, request_region, Queue, Call, format, read, write, release, queue, start, lent, lent_answers, salvage}
+use Rattle.rules.specs.Traces.{replay_chip, replay_wear, clean}
+use Rattle.rules.specs.Requests.{Request, request_cluster, request_region, Queue, Call, format, read, write, release, queue, start, lent, lent_answers}
 use Rattle.rules.specs.Format.{bad}
 use Rattle.rules.specs.Start.{left_over, start_ops}
-use Rattle.rules.specs.Salvage.{breaks, taken_out}
 use Rattle.rules.specs.Write.{Plan, reclaims, plan_of, takes_block, plan_erases, plan_frame, plan_block, copies}
 use Rattle.rules.specs.Replies.{OrderlyBoard, Row, reply_of, rows_of, too_few_blocks}
 use Rattle.rules.specs.Calls.{Outcome, Part, answers_in, ops_of, outcome_of, over, work_of}
@@ -126,30 +125,6 @@ pub record Starts (p : Params) (b : Board) (o : Outcome) : Type 0 where
   pub again : outcome_of p o.board start ≡ record { answer = record { reply = Accepted; programs = 0; erases = 0; looks = 0 }; bytes = []; answers = []; board = o.board }
   pub wear : (b'' : Board) → b''.chip ≡ b.chip → reply_of p b'' start ≡ Accepted → SameBut p (left_over p b.chip) o.board (outcome_of p b'' start).board
 
--- T-11, block n, which a salvage takes out: "it is erased, its first page gets a zero in spare byte 5 .. it becomes reserved"; its wear counts the erase
-pub record TakenOut (p : Params) (b : Board) (n : ℕ) (b' : Board) : Type 0 where
-  pub first : page p (block p b'.chip n) 0 ≡ mark_page p
-  pub rest : (q : ℕ) → (q ≡ 0 → ⊥) → erased (page p (block p b'.chip n) q) ≡ true
-  pub kind : bst_at b'.bst n ≡ 2
-  pub wear : wear_at b'.wear n ≡ min (wear_at b.wear n + 1) 4294967295
-
--- T-11, an accepted salvage, on any content. "each used block whose pages break the orderly rule", by the entry of BT that names it, is taken out, "and its virtual block unassigned", with "one erase and one
--- program reported"; every other block keeps its bytes, its kind and its wear, and every other entry of BT stays. An entry of CT stays or becomes none; "A cluster whose CT entry was not cleared reads as the
--- validity rule said before". No stamp is lowered. "an orderly board gets no change", and so a second salvage changes nothing
-pub record Salvages (p : Params) (b : Board) (o : Outcome) : Type 0 where
-  pub programs : o.answer.programs ≡ count_below (p.mu * p.gamma) (breaks p b.chip b.bt)
-  pub erases : o.answer.erases ≡ count_below (p.mu * p.gamma) (breaks p b.chip b.bt)
-  pub looks : o.answer.looks ≡ 0
-  pub out : (i : ℕ) → i < p.mu * p.gamma → breaks p b.chip b.bt i ≡ true → TakenOut p b (bt_entry b.bt i) o.board × (bt_entry o.board.bt i ≡ none)
-  pub stays : (i : ℕ) → i < p.mu * p.gamma → breaks p b.chip b.bt i ≡ false → bt_entry o.board.bt i ≡ bt_entry b.bt i
-  pub others : (n : ℕ) → n < p.N → taken_out p b.chip b.bt n ≡ false
-      → (block p o.board.chip n ≡ block p b.chip n) × (bst_at o.board.bst n ≡ bst_at b.bst n) × (wear_at o.board.wear n ≡ wear_at b.wear n)
-  pub entries : (c : ℕ) → (ct_at o.board.ct c ≡ ct_at b.ct c) ⊎ (ct_at o.board.ct c ≡ none)
-  pub reads : (a : ℕ) → (ct_at o.board.ct (cluster_of p a) ≡ none → ⊥) → sector_at p o.board a ≡ sector_at p b a
-  pub stamps : (r : ℕ) → r < p.mu → stamp_at b.stamps r ≤ stamp_at o.board.stamps r
-  pub already : OrderlyBoard p b → (o.board ≡ b) × Idle o.answer
-  pub again : outcome_of p o.board salvage ≡ record { answer = record { reply = Accepted; programs = 0; erases = 0; looks = 0 }; bytes = []; answers = []; board = o.board }
-
 -- T-07, which parts of a call are finished once k operations are made: the first ones, which make fewer than k, and with the one that is cut, if one is, there are k
 pub record Finishes (k : ℕ) (parts : List Part) : Type 0 where
   pub first : (rest : List Part) × (parts ≡ finished k parts ++ (cut_part k parts ++ rest))
@@ -173,8 +148,8 @@ pub record Cuts (p : Params) (b : Board) (c : Call) (k : ℕ) (parts : List Part
   pub marks : o.board.marks ≡ replicate (marks_length p) 18446744073709551615
   pub stamps : o.board.stamps ≡ replicate p.mu 4294967295
 
--- T-07, a call of these parts whose outcome is o, and o' with a budget of k. Refused it changes nothing. "format, write, queue and start also come with a budget", a read, a
--- release and a salvage do not. "A plain call equals one whose budget is never spent". "Once past its refusals such a call stops when that many are made", at its very last one too
+-- T-07, a call of these parts whose outcome is o, and o' with a budget of k. Refused it changes nothing. "format, write, queue and start also come with a budget", a read and a
+-- release do not. "A plain call equals one whose budget is never spent". "Once past its refusals such a call stops when that many are made", at its very last one too
 pub record WithBudget (p : Params) (b : Board) (c : Call) (k : ℕ) (parts : List Part) (o o' : Outcome) : Type 0 where
   pub refused : (o.answer.reply ≡ Accepted → ⊥) → Unchanged b c o'
   pub without : has_budget c ≡ false → o' ≡ o
@@ -196,7 +171,6 @@ pub record OfCall (p : Params) (b : Board) (c : Call) (o : Outcome) : Type 0 whe
   pub frees : (n : ℕ) → c ≡ release n → o.answer.reply ≡ Accepted → Frees p b n o
   pub serves : (l : Queue) → c ≡ queue l → Serves l o
   pub starts : c ≡ start → o.answer.reply ≡ Accepted → Starts p b o
-  pub salvages : c ≡ salvage → o.answer.reply ≡ Accepted → Salvages p b o
   pub budget : (k : ℕ) → WithBudget p b c k (work_of p b c).parts o (step_outcome p b (limited k c))
 
 abbrev pub Condition1 : Type 0

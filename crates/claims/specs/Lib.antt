@@ -5,4 +5,3 @@ pub mod OldForm
 pub mod Life
 pub mod Frames
 pub mod Stamps
-pub mod Salvaged

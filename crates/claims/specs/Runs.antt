@@ -12,7 +12,7 @@ use Rattle.rules.specs.Tables.{Board}
 use Rattle.rules.specs.Regions.{sector}
 use Rattle.rules.specs.Orderly.{enough}
 use Rattle.rules.specs.Traces.{Op, program, erase, mark}
-use Rattle.rules.specs.Requests.{Request, item_requests, request_of, request_cluster, request_region, Call, format, read, write, release, queue, start, salvage}
+use Rattle.rules.specs.Requests.{Request, item_requests, request_of, request_cluster, request_region, Call, format, read, write, release, queue, start}
 use Rattle.rules.specs.Replies.{is_accepted}
 use Rattle.rules.specs.Calls.{Part, ops_of, work_of, write_work}
 use Rattle.rules.specs.Cuts.{Step, plain, limited, call_of, cut_part, finished, is_cut, step_outcome}
@@ -41,7 +41,6 @@ resets (write q) = false
 resets (release c) = false
 resets (queue l) = false
 resets start = true
-resets salvage = false
 
 unfoldable pub undisturbed : Params → Board → List Step → Bool
 undisturbed p b [] = true
@@ -59,7 +58,6 @@ roomy_call p b (write q) = enough p b
 roomy_call p b (release c) = enough p b
 roomy_call p b (queue l) = roomy_items p b (item_requests p l.bytes l.items)
 roomy_call p b start = enough p b
-roomy_call p b salvage = enough p b
 
 unfoldable pub roomy : Params → Board → List Step → Bool
 roomy p b [] = true
@@ -85,7 +83,6 @@ to_region p r (write q) = eqb (request_region p q) r
 to_region p r (release c) = eqb (region_of p c) r
 to_region p r (queue l) = false
 to_region p r start = false
-to_region p r salvage = false
 
 unfoldable pub parts_to : Params → ℕ → List Part → List Part
 parts_to p r [] = []
@@ -99,7 +96,6 @@ asked (write q) = write q
 asked (release c) = release c
 asked (queue l) = queue l
 asked start = start
-asked salvage = salvage
 
 -- what the caller is told: the reply with the three counts, and where it is 0 the data
 pub record Told : Type 0 where
@@ -196,7 +192,6 @@ learns p b' (write q) k = known (given p q k.memory) (updated k.released (reques
 learns p b' (release c) k = known (cleared p c k.memory) (updated k.released c true)
 learns p b' (queue l) k = k
 learns p b' start k = known (sector_at p b') (λ c. false)
-learns p b' salvage k = k
 
 -- where it stands with the tables. `stands`: they are there. `lost`: a cut took them, and perhaps cut a write short. `nothing`: a format was cut, and "after a cut format a
 -- format" is due
@@ -212,7 +207,6 @@ is_format (write q) = false
 is_format (release c) = false
 is_format (queue l) = false
 is_format start = false
-is_format salvage = false
 
 -- what an accepted request makes of that. "The next call after a cut is a start, after a cut format a format": until then nothing is learnt
 unfoldable pub hears : Params → Board → Call → Belief → Belief
@@ -239,7 +233,6 @@ doubts (write q) x = losing (q ∷ []) x
 doubts (release c) x = x
 doubts (queue l) x = x
 doubts start x = losing [] x
-doubts salvage x = x
 
 -- by the part that is cut, if one is: an item that is refused, or none, is no write cut short
 unfoldable pub doubts_in : List Part → Belief → Belief

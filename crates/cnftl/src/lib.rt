@@ -3,13 +3,10 @@ ghost use Rattle.std.specs.Prelude.{◌≡◌, []};
 ghost use Rattle.rules.specs.Lent.{entry_board, exit_board};
 ghost use Rattle.rules.specs.Calls.{outcome_of};
 ghost use Rattle.rules.specs.Cuts.{limited, step_outcome};
-ghost use Rattle.rules.specs.Requests.{format, read, write, release, salvage, start, request_of};
+ghost use Rattle.rules.specs.Requests.{format, read, write, release, start, request_of};
 ghost use Rattle.c_queue.specs.Flat.{flat_call, flat_outcome};
 ghost use Rattle.c_queue_cut.specs.Cut.{flat_cut};
-ghost use Rattle.ledger_rules.specs.Records.{box_of};
-ghost use Rattle.ledger_rules.specs.Calls.{address_for, entered, entry_of, lookup_of};
 ghost use Rattle.c_answer.specs.Packed.{params_of};
-ghost use Rattle.c_ledger.specs.Packed.{packed_entry, packed_lookup};
 ghost use Rattle.cnftl.specs.Packed.{Given};
 ghost use Rattle.cnftl.specs.Listed.{Listed};
 
@@ -129,33 +126,6 @@ pub extern "C" fn cnftl_start_cut(
 {
     let p = c_answer::params(s, alpha, beta, d, mu, gamma, c, n, e);
     c_answer::pack(calls::start_cut(p, chip, ct, bt, fst, bst, wear, marks, stamps, budget))
-}
-
-// Document 02's salvage.
-#[unsafe(no_mangle)]
-pub extern "C" fn cnftl_salvage(
-    s: u32,
-    alpha: u32,
-    beta: u32,
-    d: u32,
-    mu: u32,
-    gamma: u32,
-    c: u32,
-    n: u32,
-    e: u32,
-    chip: &mut [u8],
-    ct: &mut [u16],
-    bt: &mut [u16],
-    fst: &mut [u16],
-    bst: &mut [u8],
-    wear: &mut [u32],
-    marks: &mut [u64],
-    stamps: &mut [u32],
-) -> u64
-    ensures { Given (outcome_of (params_of s alpha beta d mu gamma c n e) (entry_board chip ct bt fst bst wear marks stamps) salvage) result [] (exit_board chip ct bt fst bst wear marks stamps) }
-{
-    let p = c_answer::params(s, alpha, beta, d, mu, gamma, c, n, e);
-    c_answer::pack(calls::salvage(p, chip, ct, bt, fst, bst, wear, marks, stamps))
 }
 
 // Document 01's read.
@@ -389,92 +359,4 @@ pub extern "C" fn cnftl_why(
         call_why::explain(p, chip, ct, bt, fst, bst, wear, marks, stamps, lba),
         list,
     )
-}
-
-// Document 02's ledger: entry of a box.
-#[unsafe(no_mangle)]
-pub extern "C" fn cnftl_enter(
-    s: u32,
-    alpha: u32,
-    beta: u32,
-    d: u32,
-    mu: u32,
-    gamma: u32,
-    c: u32,
-    n: u32,
-    e: u32,
-    chip: &mut [u8],
-    ct: &mut [u16],
-    bt: &mut [u16],
-    fst: &mut [u16],
-    bst: &mut [u8],
-    wear: &mut [u32],
-    marks: &mut [u64],
-    stamps: &mut [u32],
-    region: u32,
-    serial: u64,
-    address: &[u8],
-) -> u64
-    ensures value { result ≡ packed_entry (entry_of (params_of s alpha beta d mu gamma c n e) (entry_board chip ct bt fst bst wear marks stamps) region (box_of serial address.now)) }
-    ensures stamps_value { exit_board chip ct bt fst bst wear marks stamps ≡ entered (params_of s alpha beta d mu gamma c n e) (entry_board chip ct bt fst bst wear marks stamps) region (box_of serial address.now) }
-{
-    let p = c_answer::params(s, alpha, beta, d, mu, gamma, c, n, e);
-    c_ledger::pack_entry(ledger_enter::enter(
-        p,
-        chip,
-        ct,
-        bt,
-        fst,
-        bst,
-        wear,
-        marks,
-        stamps,
-        region as usize,
-        serial,
-        address,
-    ))
-}
-
-// Document 02's ledger: lookup of a box by its serial.
-#[unsafe(no_mangle)]
-pub extern "C" fn cnftl_lookup(
-    s: u32,
-    alpha: u32,
-    beta: u32,
-    d: u32,
-    mu: u32,
-    gamma: u32,
-    c: u32,
-    n: u32,
-    e: u32,
-    chip: &[u8],
-    ct: &[u16],
-    bt: &[u16],
-    fst: &[u16],
-    bst: &[u8],
-    wear: &[u32],
-    marks: &[u64],
-    stamps: &[u32],
-    region: u32,
-    serial: u64,
-    address: &mut [u8],
-) -> u64
-    ensures value { result ≡ packed_lookup (lookup_of (params_of s alpha beta d mu gamma c n e) (entry_board chip ct bt fst bst wear marks stamps) region serial address.old) }
-    ensures address_after { address.new ≡ address_for (params_of s alpha beta d mu gamma c n e) (entry_board chip ct bt fst bst wear marks stamps) region serial address.old }
-{
-    let p = c_answer::params(s, alpha, beta, d, mu, gamma, c, n, e);
-    c_ledger::pack_lookup(ledger_lookup::lookup(
-        p,
-        chip,
-        ct,
-        bt,
-        fst,
-        bst,
-        wear,
-        marks,
-        stamps,
-        region as usize,
-        serial,
-        address,
-    ))
 }

@@ -13,7 +13,7 @@ use Rattle.rules.specs.declared.Params.{Params}
 use Rattle.rules.specs.declared.Reply.TheVariants.{Accepted}
 use Rattle.rules.specs.Tables.{Board}
 use Rattle.rules.specs.Regions.{view}
-use Rattle.rules.specs.Requests.{Call, Request, format, queue, read, release, request_region, start, write, salvage}
+use Rattle.rules.specs.Requests.{Call, Request, format, queue, read, release, request_region, start, write}
 use Rattle.rules.specs.Replies.{is_accepted, reply_of}
 use Rattle.rules.specs.Calls.{Part, outcome_of}
 use Rattle.rules.specs.Cuts.{call_of}
@@ -27,8 +27,8 @@ use Rattle.claims.proofs.PlainRuns.{format_parts, plain_leaves, plain_parts}
 use Rattle.claims.proofs.Condition1.{condition_1}
 use Rattle.claims.proofs.Known.{known_by}
 use Rattle.claims.proofs.Singles.{AllSingle, Single, all_single, parts_same, refused_leaves, singles_of}
-use Rattle.claims.proofs.Standing.{Standing, call_standing, first_standing, stands_orderly}
-use Rattle.claims.proofs.Steps.{format_leaves, part_of, parts_step, read_leaves, release_leaves, start_leaves, write_leaves, salvage_leaves}
+use Rattle.claims.proofs.Standing.{Standing, call_standing, first_standing}
+use Rattle.claims.proofs.Steps.{format_leaves, part_of, parts_step, read_leaves, release_leaves, start_leaves, write_leaves}
 use Rattle.erases.specs.Erases.{ErasesPerRegion, accepted_writes, erases_by, is_write, spare_share}
 use Rattle.erases.proofs.Room.{format_room, release_room, room, start_room, write_turn}
 use Rattle.erases.proofs.Rows.{Spaced, Turn, few_erases, less_room}
@@ -127,7 +127,6 @@ module _ (p : Params) (r : ℕ) (low : r < p.mu) (b : Board) (es : List ℕ) whe
   one_call (write q) one st s = write_call q s
   one_call (release c) one st s = release_call c s
   one_call start one st s = start_call st s
-  one_call salvage one st s = aside salvage (rw (salvage_leaves p b (stands_orderly p b st)) (omega arith)) s
   one_call (queue l) one st s = absurd one
 
 -- ---- a run

@@ -7,7 +7,7 @@ use Rattle.rules.specs.declared.Reply.TheVariants.{Accepted}
 use Rattle.rules.specs.Parameters.{frames}
 use Rattle.rules.specs.Numbers.{region_of}
 use Rattle.rules.specs.Tables.{Board}
-use Rattle.rules.specs.Requests.{Call, format, read, write, release, queue, start, salvage}
+use Rattle.rules.specs.Requests.{Call, format, read, write, release, queue, start}
 use Rattle.rules.specs.Replies.{is_accepted, reply_of}
 use Rattle.rules.specs.Calls.{Part}
 use Rattle.rules.specs.Cuts.{Step, plain}
@@ -37,7 +37,6 @@ is_write (write q) = true
 is_write (release c) = false
 is_write (queue l) = false
 is_write start = false
-is_write salvage = false
 
 -- "accepted writes", in order: reads, releases and refused writes may stand between them
 unfoldable pub accepted_writes : List Part → List Part

@@ -18,7 +18,7 @@ use Rattle.rules.proofs.Admitted.{Admitted}
 use Rattle.lists.proofs.Joins.{join_cong}
 use Rattle.read_work.specs.Lookup.{Lookup, Stands}
 use Rattle.read_work.specs.Sectors.{sector_from, RunAsked, ReadAsked}
-use Rattle.read_work.proofs.Views.{lookup_of_lem, source, sector_same}
+use Rattle.read_work.proofs.Views.{lookup_of, source, sector_same}
 
 -- ---- an accepted read
 
@@ -28,7 +28,7 @@ lookup_admitted p b q a =
     let c = request_cluster p q in
     let r = region_of p c in
     let t = a.tables in
-    lookup_of_lem p b.chip b.ct b.bt b.fst c a.fine t.chip_length t.ct_length t.bt_length a.asked.cluster t.names
+    lookup_of p b.chip b.ct b.bt b.fst c a.fine t.chip_length t.ct_length t.bt_length a.asked.cluster t.names
     ((neat p r (view p b r) (a.tidy r (mod-lt c a.sized.regions))).entries c a.asked.cluster)
 
 pub read_asked : (p : Params) (b : Board) (q : Request) → Admitted p b q → ReadAsked p b.chip b.ct b.bt q.lba q.count q.bytes

@@ -62,9 +62,9 @@ module _ (p : Params) (chip ct bt fst : List ℕ) (c : ℕ) where
     leads : Leads p chip ct bt c
     leads = record { vblock = vblock_low_lem; block = block_low_lem; held = unfold last_for in rw (seg_is, body_some vblock_low_lem has) at e.held }
 
-  pub lookup_of_lem : allowed p ≡ true → length chip ≡ p.N * block_bytes p → length ct ≡ p.C → length bt ≡ p.mu * p.gamma → c < p.C
+  pub lookup_of : allowed p ≡ true → length chip ≡ p.N * block_bytes p → length ct ≡ p.C → length bt ≡ p.mu * p.gamma → c < p.C
       → ((i : ℕ) → i < p.mu * p.gamma → (bt_entry bt i ≡ none) ⊎ (bt_entry bt i < p.N)) → (vw.seg_of c ≡ none) ⊎ Entry p vw c → Lookup p chip ct bt c
-  lookup_of_lem fine chip_length ct_length bt_length low names entry =
+  lookup_of fine chip_length ct_length bt_length low names entry =
       record { fine = fine; chip_length = chip_length; ct_length = ct_length; bt_length = bt_length; low = low; leads = go entry }
     where
       go : (vw.seg_of c ≡ none) ⊎ Entry p vw c → (ct_at ct c ≡ none → ⊥) → Leads p chip ct bt c

@@ -2,7 +2,7 @@
 -- propositions (RegionFacts) are read as the listed ones and back.
 -- Assumes nothing.
 use mathlib.Core.Path.{◌≡◌, refl, sym, ap, ◌∙◌}
-use mathlib.Core.Logic.{◌⊎◌, ◌↔◌, inl, inr}
+use mathlib.Core.Logic.{◌⊎◌, inl, inr}
 use Prim.Native.Nat.{ℕ, zero, suc, ◌-◌, ◌/◌, ◌≤◌, ◌<◌}
 use native.Mathlib.Nat.{div-lt_iff_lt-mul}
 use native.Mathlib.Omega.{arith}
@@ -20,13 +20,12 @@ use Rattle.rules.specs.Numbers.{place_of, region_of, segment_of, vblock_of}
 use Rattle.rules.specs.Tables.{Board, bst_at, none, not_found}
 use Rattle.rules.specs.Pages.{filled, frame, held, holds, last_in, page, page_used, programmed, spare, spare_bytes, whole, stamp_of}
 use Rattle.rules.specs.Regions.{View, assigned, view}
-use Rattle.rules.specs.Orderly.{block_rule, orderly, used_pages}
+use Rattle.rules.specs.Orderly.{orderly, used_pages}
 use Rattle.rules.specs.Replies.{lengths_fit}
 use Rattle.rules.specs.Words.{BlockListed, EntryListed, FrameListed, OpenListed, OrderlyExactly, OrderlyListed, RegionListed, SpareListed}
 use Rattle.rules.proofs.Admitted.{orderly_all, orderly_region}
 use Rattle.rules.proofs.Continues.{open_low, segs_out}
 use Rattle.rules.proofs.Frames.{right_stamp, erased_not, right_held, right_programmed, right_used, page_not, seg_low, seg_place, seg_vblock}
-use Rattle.rules.proofs.RegionFacts as facts
 use Rattle.rules.proofs.RegionFacts.{good_stamp, Entry, GoodFrame, Neat, Open, UpTo, filled_le, good_holds, good_used, neat, neat_none, neat_out, region_orderly, up_to_filled, neat_fronts}
 use Rattle.rules.proofs.Sizes.{Sizes, sizes}
 use Rattle.rules.proofs.Stamps.{stamps_in, stamps_out}
@@ -114,10 +113,6 @@ block_filled p z r v blk l = up_to_filled p z r v l.k blk (unfold frames in l.mo
 
 block_out : (p : Params) (z : Sizes p) (r v : ℕ) (blk : List ℕ) → BlockListed p r v blk → (0 < filled p blk) × UpTo p r v (filled p blk) blk
 block_out p z r v blk l = rw (block_filled p z r v blk l) (l.some, block_upto p z r v blk l)
-
--- so the rule is the listing
-pub block_listed : (p : Params) → Sizes p → (r v : ℕ) (blk : List ℕ) → (block_rule p r v blk ≡ true) ↔ BlockListed p r v blk
-block_listed p z r v blk = (λ h. block_in p z r v blk (facts.block_in p r v blk h), λ l. facts.block_out p r v blk (block_out p z r v blk l))
 
 -- a frame below `filled` is programmed, one from there on is erased
 front_written : (p : Params) (z : Sizes p) (r v : ℕ) (blk : List ℕ) → UpTo p r v (filled p blk) blk → (f : ℕ) → f < filled p blk → f < frames p → programmed p (frame p blk f) ≡ true
@@ -283,13 +278,13 @@ module _ (p : Params) (z : Sizes p) (r : ℕ) (vw : View) (l : RegionListed p r 
 
 -- ---- the whole state
 
-pub three : (x : ℕ) → x ≤ 2 → (x ≡ 0) ⊎ ((x ≡ 1) ⊎ (x ≡ 2))
+three : (x : ℕ) → x ≤ 2 → (x ≡ 0) ⊎ ((x ≡ 1) ⊎ (x ≡ 2))
 three zero h = inl refl
 three (suc zero) h = inr (inl refl)
 three (suc (suc zero)) h = inr (inr refl)
 three (suc (suc (suc x))) h = absurd (omega arith)
 
-pub low_kind : (x : ℕ) → (x ≡ 0) ⊎ ((x ≡ 1) ⊎ (x ≡ 2)) → x ≤ 2
+low_kind : (x : ℕ) → (x ≡ 0) ⊎ ((x ≡ 1) ⊎ (x ≡ 2)) → x ≤ 2
 low_kind x (inl e) = omega arith
 low_kind x (inr (inl e)) = omega arith
 low_kind x (inr (inr e)) = omega arith

@@ -15,11 +15,10 @@ use Rattle.rules.specs.declared.Answer.{Answer}
 use Rattle.rules.specs.Tables.{Board}
 use Rattle.rules.specs.Regions.{looks_at}
 use Rattle.rules.specs.Traces.{Op}
-use Rattle.rules.specs.Requests.{Call, Queue, Request, format, item_requests, lent, lent_answers, queue, read, release, request_cluster, salvage, start, write}
+use Rattle.rules.specs.Requests.{Call, Queue, Request, format, item_requests, lent, lent_answers, queue, read, release, request_cluster, start, write}
 use Rattle.rules.specs.Format.{format_ops, formatted}
 use Rattle.rules.specs.Write.{write_ops, written}
 use Rattle.rules.specs.Release.{released}
-use Rattle.rules.specs.Salvage.{salvage_ops, salvaged}
 use Rattle.rules.specs.Start.{start_ops, started}
 use Rattle.rules.specs.Replies.{is_accepted, number_of, reply_of}
 use Rattle.rules.specs.Calls.{answer_of, answers_in, does, outcome_of, over, queue_work, read_bytes, refuses, single, work_of, write_all, write_work}
@@ -131,11 +130,6 @@ pub start_accepted : (p : Params) (b : Board) → reply_of p b start ≡ Accepte
 unfolding work_of
 start_accepted p b e = one_outcome p b start _ _ _ _ (work_accepted p b start _ _ _ _ e)
 
-pub salvage_accepted : (p : Params) (b : Board) → reply_of p b salvage ≡ Accepted
-    → outcome_of p b salvage ≡ record { answer = answer_of Accepted (salvage_ops p b.chip b.bt) 0; bytes = []; answers = []; board = salvaged p b }
-unfolding work_of
-salvage_accepted p b e = one_outcome p b salvage _ _ _ _ (work_accepted p b salvage _ _ _ _ e)
-
 -- a refusal, of any call
 pub call_refused : (p : Params) (b : Board) (c : Call) → is_accepted (reply_of p b c) ≡ false
     → outcome_of p b c ≡ record { answer = answer_of (reply_of p b c) [] 0; bytes = lent c; answers = lent_answers c; board = b }
@@ -146,7 +140,6 @@ call_refused p b (write q) e = one_outcome p b (write q) _ _ _ _ (work_refused p
 call_refused p b (release c) e = one_outcome p b (release c) _ _ _ _ (work_refused p b (release c) _ _ _ _ e)
 call_refused p b (queue l) e = unfold outcome_of queue_work over answers_in lent in rw e
 call_refused p b start e = one_outcome p b start _ _ _ _ (work_refused p b start _ _ _ _ e)
-call_refused p b salvage e = one_outcome p b salvage _ _ _ _ (work_refused p b salvage _ _ _ _ e)
 
 -- a queue that is accepted
 pub queue_accepted : (p : Params) (b : Board) (l : Queue) → reply_of p b (queue l) ≡ Accepted → work_of p b (queue l) ≡ write_all p b (item_requests p l.bytes l.items) l
@@ -163,7 +156,6 @@ reply_is p b c = go (reply_cases (reply_of p b c))
     taken (write q) e = rw (write_accepted p b q e, e) (unfold answer_of in refl)
     taken (release n) e = rw (release_accepted p b n e, e) (unfold answer_of in refl)
     taken start e = rw (start_accepted p b e, e) (unfold answer_of in refl)
-    taken salvage e = rw (salvage_accepted p b e, e) (unfold answer_of in refl)
     taken (queue l) e =
         unfold outcome_of in rw (queue_accepted p b l e, all_answer p b (item_requests p l.bytes l.items) l, e) (unfold answer_of in refl)
 

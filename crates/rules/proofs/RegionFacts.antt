@@ -185,7 +185,7 @@ pub block_out : (p : Params) (r v : ℕ) (blk : List ℕ) → (0 < filled p blk)
 unfolding block_rule
 block_out p r v blk k = and_intro (lt-ltb _ _ k.0) (up_to_back p r v _ blk k.1)
 
-pub entry_in : (p : Params) (vw : View) (c : ℕ) → entry_rule p vw c ≡ true → Entry p vw c
+entry_in : (p : Params) (vw : View) (c : ℕ) → entry_rule p vw c ≡ true → Entry p vw c
 unfolding entry_rule
 entry_in p vw c h = let t = truths _ h in record { low = ltb-true _ _ t.0; has = t.1.0; held = ltb-true _ _ t.1.1.0 }
 
@@ -228,7 +228,7 @@ open_in p vw h = go (so (all_below p.gamma (λ v. not (assigned vw v))))
     go (inr a) = let w = some_fails p.gamma _ a in inr ((w.0, w.1, not-false _ w.2), last_in_lem p vw (rw a at h))
 
 -- a region with a block and an open one passes
-pub open_out : (p : Params) (vw : View) → (v : ℕ) → v < p.gamma → assigned vw v ≡ true → Open p vw → region_fst p vw ≡ true
+open_out : (p : Params) (vw : View) → (v : ℕ) → v < p.gamma → assigned vw v ≡ true → Open p vw → region_fst p vw ≡ true
 unfolding region_fst
 open_out p vw v k a o = go (so (all_below p.gamma (λ v. not (assigned vw v))))
   where
@@ -251,7 +251,7 @@ neat p r vw h =
     entry c (inr e) = inr (entry_in p vw c e)
 
 -- a CT entry that is none or leads to a frame of its cluster passes
-pub entry_passes : (p : Params) (vw : View) (c : ℕ) → (vw.seg_of c ≡ none) ⊎ Entry p vw c → cluster_rule p vw c ≡ true
+entry_passes : (p : Params) (vw : View) (c : ℕ) → (vw.seg_of c ≡ none) ⊎ Entry p vw c → cluster_rule p vw c ≡ true
 unfolding cluster_rule
 entry_passes p vw c (inl e) = rw (eq-eqb (vw.seg_of c) none e)
 entry_passes p vw c (inr e) = or_right (eqb (vw.seg_of c) none) (entry_out p vw c e)

@@ -169,12 +169,11 @@ orderly_is p b = simp (and_assoc, and-true)
 pub eight_in : (p : Params) (b : Board) → orderly p b ≡ true → eight_rules p b ≡ true
 eight_in p b h = and_left (eight_rules p b) _ (sym (orderly_is p b) ∙ h)
 
--- of which the first five are about BT, BST and the free blocks
-pub tables_five : (p : Params) (b : Board) → lengths_fit p b ≡ true → bst_rule p b.bst ≡ true → bt_rule p b.bt ≡ true → once_rule p b.bt ≡ true
-    → used_rule p b.bt b.bst ≡ true → free_rule p b.chip b.bst ≡ true → Tables p b
-unfolding bst_rule
-tables_five p b l kinds names once used free =
+pub tables_eight : (p : Params) (b : Board) → lengths_fit p b ≡ true → eight_rules p b ≡ true → Tables p b
+unfolding eight_rules rules_of bst_rule
+tables_eight p b l h =
     let a = lengths_in p b l in
+    let t = truths _ h in
     record {
       chip_length = a.chip_length;
       ct_length = a.ct_length;
@@ -183,17 +182,13 @@ tables_five p b l kinds names once used free =
       bst_length = a.bst_length;
       wear_length = a.wear_length;
       stamps_length = a.stamps_length;
-      kinds = λ n k. leb-true _ _ (all_at p.N (λ n. leb (bst_at b.bst n) 2) kinds n k);
-      names = names_in p b names;
-      once = once_in p b once;
-      used = λ n k e. named_in p b n (sym (used_in p b used n k) ∙ eq-eqb _ _ e);
-      used_back = λ i k n m e. eqb-true _ _ (used_in p b used n m ∙ named_out p b n i k e);
-      free = free_in p b free;
+      kinds = λ n k. leb-true _ _ (all_at p.N (λ n. leb (bst_at b.bst n) 2) t.0 n k);
+      names = names_in p b t.1.0;
+      once = once_in p b t.1.1.0;
+      used = λ n k e. named_in p b n (sym (used_in p b t.1.1.1.0 n k) ∙ eq-eqb _ _ e);
+      used_back = λ i k n m e. eqb-true _ _ (used_in p b t.1.1.1.0 n m ∙ named_out p b n i k e);
+      free = free_in p b t.1.1.1.1.0;
     }
-
-pub tables_eight : (p : Params) (b : Board) → lengths_fit p b ≡ true → eight_rules p b ≡ true → Tables p b
-unfolding eight_rules rules_of
-tables_eight p b l h = let t = truths _ h in tables_five p b l t.0 t.1.0 t.1.1.0 t.1.1.1.0 t.1.1.1.1.0
 
 pub tables_in : (p : Params) (b : Board) → lengths_fit p b ≡ true → orderly p b ≡ true → Tables p b
 tables_in p b l h = tables_eight p b l (eight_in p b h)
@@ -217,17 +212,23 @@ lengths_out p b t m =
       ),
     )
 
--- and back
-pub five_out : (p : Params) (b : Board) → Tables p b
-    → (bst_rule p b.bst ≡ true) × (bt_rule p b.bt ≡ true) × (once_rule p b.bt ≡ true) × (used_rule p b.bt b.bst ≡ true) × (free_rule p b.chip b.bst ≡ true)
-unfolding bst_rule
-five_out p b t =
-    (all_below_intro p.N _ (λ n k. le-leb _ _ (t.kinds n k)), names_out p b t.names, once_out p b t.once, used_out p b t.used t.used_back, free_out p b t.free)
-
 -- the tables' rules, and those of the used blocks, FST and CT, are the eight rules
 pub eight_out : (p : Params) (b : Board) → Tables p b → blocks_rule p b ≡ true → fst_rule p b ≡ true → ct_rule p b ≡ true → eight_rules p b ≡ true
-unfolding eight_rules rules_of
-eight_out p b t u f c = let five = five_out p b t in all_true_lem _ (five.0, (five.1, (five.2, (five.3, (five.4, (u, (f, (c, tt))))))))
+unfolding eight_rules rules_of bst_rule
+eight_out p b t u f c =
+    all_true_lem _ (
+      all_below_intro p.N _ (λ n k. le-leb _ _ (t.kinds n k)),
+      (
+        names_out p b t.names,
+        (
+          once_out p b t.once,
+          (
+            used_out p b t.used t.used_back,
+            (free_out p b t.free, (u, (f, (c, tt)))),
+          ),
+        ),
+      ),
+    )
 
 -- with marks that are the board's own, and the stamps' rule, they make an orderly state
 pub orderly_eight : (p : Params) (b : Board) → eight_rules p b ≡ true → b.marks ≡ marks_of p b → stamp_rule p b ≡ true → orderly p b ≡ true

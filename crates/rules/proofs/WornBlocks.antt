@@ -147,7 +147,7 @@ wear_out_long p wear n = go (worn p wear n)
 -- ---- the word
 
 -- the wear of the block once it is erased
-pub erased_wear : (wear : List ℕ) (n : ℕ) → n < length wear → wear_at (on_wear wear (erase n)) n ≡ min (wear_at wear n + 1) 4294967295
+erased_wear : (wear : List ℕ) (n : ℕ) → n < length wear → wear_at (on_wear wear (erase n)) n ≡ min (wear_at wear n + 1) 4294967295
 unfolding on_wear wear_at
 erased_wear wear n low = get_or-set_same wear n (min (get_or wear n 0 + 1) 4294967295) 0 low
 

@@ -11,12 +11,11 @@ use Rattle.rules.specs.Numbers.{sector_of}
 use Rattle.rules.specs.Tables.{Board}
 use Rattle.rules.specs.Regions.{sector, looks_at}
 use Rattle.rules.specs.Traces.{Op, programs_in, erases_in}
-use Rattle.rules.specs.Requests.{Request, request_cluster, Queue, item_requests, Call, format, read, write, release, queue, start, salvage, lent}
+use Rattle.rules.specs.Requests.{Request, request_cluster, Queue, item_requests, Call, format, read, write, release, queue, start, lent}
 use Rattle.rules.specs.Format.{format_ops, formatted}
 use Rattle.rules.specs.Start.{start_ops, started}
 use Rattle.rules.specs.Write.{write_ops, written}
 use Rattle.rules.specs.Release.{released}
-use Rattle.rules.specs.Salvage.{salvage_ops, salvaged}
 use Rattle.rules.specs.Replies.{is_accepted, reply_of}
 
 -- "An answer is one record that holds the reply, with its number, and both counts", and T-08's "third count"
@@ -77,8 +76,7 @@ queue_work p b l =
     (record { answer = answer_of (reply_of p b (queue l)) [] 0; bytes = l.bytes; answers = l.answers; parts = []; left = b })
 
 -- "a format reports 0 programs and one erase for each block not bad"; "A read reports 0 and 0 and writes only its data buffer"; T-03: "It reports 0 and 0".
--- T-08: "Read and write now report how many", 0 "from other calls". T-07: "The start reports its erases". T-11: "one erase and one program
--- reported" for each block taken out
+-- T-08: "Read and write now report how many", 0 "from other calls". T-07: "The start reports its erases"
 unfoldable pub work_of : Params → Board → Call → Work
 work_of p b format = does p b format (format_ops p b.chip b.wear) 0 [] (formatted p b)
 work_of p b (read q) = does p b (read q) [] (looks_at p b (request_cluster p q)) (read_bytes p b q) b
@@ -86,7 +84,6 @@ work_of p b (write q) = write_work p b q
 work_of p b (release c) = does p b (release c) [] 0 [] (released p b c)
 work_of p b (queue l) = queue_work p b l
 work_of p b start = does p b start (start_ops p b.chip b.wear) 0 [] (started p b)
-work_of p b salvage = does p b salvage (salvage_ops p b.chip b.bt) 0 [] (salvaged p b)
 
 -- the operations of its parts, in order
 unfoldable pub ops_of : List Part → List Op

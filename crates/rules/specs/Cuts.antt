@@ -6,7 +6,7 @@ use Rattle.rules.specs.declared.Params.{Params}
 use Rattle.rules.specs.declared.Reply.TheVariants.{Accepted}
 use Rattle.rules.specs.Tables.{Board, marks_length, none}
 use Rattle.rules.specs.Traces.{Op, made}
-use Rattle.rules.specs.Requests.{Call, format, read, write, release, queue, start, salvage}
+use Rattle.rules.specs.Requests.{Call, format, read, write, release, queue, start}
 use Rattle.rules.specs.Replies.{is_accepted}
 use Rattle.rules.specs.Calls.{Outcome, Part, answer_of, answers_in, ops_of, outcome_of, over, work_of}
 
@@ -18,7 +18,6 @@ has_budget (write q) = true
 has_budget (release c) = false
 has_budget (queue l) = true
 has_budget start = true
-has_budget salvage = false
 
 -- a call as it is, or with a budget
 pub data Step : Type 0 where

@@ -12,7 +12,6 @@ pub mod Format
 pub mod Start
 pub mod Write
 pub mod Release
-pub mod Salvage
 pub mod Replies
 pub mod Refusals
 pub mod Calls

@@ -10,10 +10,9 @@ use Rattle.rules.specs.Numbers.{sector_of}
 use Rattle.rules.specs.Tables.{Board, marks_length, not_found, stamp_at}
 use Rattle.rules.specs.Regions.{view}
 use Rattle.rules.specs.Orderly.{orderly}
-use Rattle.rules.specs.Requests.{Request, request_region, Call, format, read, write, release, queue, start, salvage}
+use Rattle.rules.specs.Requests.{Request, request_region, Call, format, read, write, release, queue, start}
 use Rattle.rules.specs.Format.{good_blocks}
 use Rattle.rules.specs.Start.{startable}
-use Rattle.rules.specs.Salvage.{salvageable}
 use Rattle.rules.specs.Write.{free_block, plan_of, takes_block}
 
 -- the documents' number of each reply; 8 is T-01's, 9 T-07's, 10 T-12's
@@ -91,10 +90,6 @@ not_orderly p b = not (orderly p b)
 unfoldable pub not_startable : Params → Board → Bool
 not_startable p b = not (startable p b.chip)
 
--- T-11: 7 of a salvage, by that list
-unfoldable pub not_salvageable : Params → Board → Bool
-not_salvageable p b = not (salvageable p b)
-
 -- 8: "when the answer list is shorter than the request list"
 unfoldable pub too_few_answers : ℕ → ℕ → Bool
 too_few_answers items answers = ltb answers items
@@ -147,7 +142,7 @@ early_rows p b q = lent_rows p b ++ (access_rows p q ++ (order_row p b ++ stamp_
 unfoldable pub queue_rows : Params → Board → ℕ → ℕ → List (Row Reply)
 queue_rows p b items answers = lent_rows p b ++ (row (too_few_answers items answers) TooFewAnswers ∷ [])
 
--- the rows of a call. T-03: "1, 2, then 4 for a cluster not below C, then 7". T-07: "1, 2, 6 and 7 for the start", and T-12: it "no longer" gives 6. T-11: "1, 2, 7 .."
+-- the rows of a call. T-03: "1, 2, then 4 for a cluster not below C, then 7". T-07: "1, 2, 6 and 7 for the start", and T-12: it "no longer" gives 6
 unfoldable pub rows_of : Params → Board → Call → List (Row Reply)
 rows_of p b format = lent_rows p b ++ (row (too_few_blocks p b) TooFewBlocks ∷ [])
 rows_of p b (read q) = lent_rows p b ++ (access_rows p q ++ order_row p b)
@@ -155,7 +150,6 @@ rows_of p b (write q) = early_rows p b q ++ block_row p b (request_region p q)
 rows_of p b (release c) = lent_rows p b ++ (row (bad_cluster p c) BadAddress ∷ order_row p b)
 rows_of p b (queue l) = queue_rows p b (length l.items) (length l.answers)
 rows_of p b start = lent_rows p b ++ (row (not_startable p b) NotOrderly ∷ [])
-rows_of p b salvage = lent_rows p b ++ (row (not_salvageable p b) NotOrderly ∷ [])
 
 unfoldable pub reply_of : Params → Board → Call → Reply
 reply_of p b c = first_row Accepted (rows_of p b c)

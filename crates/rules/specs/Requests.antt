@@ -56,7 +56,6 @@ pub data Call : Type 0 where
   release : ℕ → Call
   queue : Queue → Call
   start : Call
-  salvage : Call
 
 -- the data that is lent with a call
 unfoldable pub lent : Call → List ℕ
@@ -66,7 +65,6 @@ lent (write q) = q.bytes
 lent (release c) = []
 lent (queue l) = l.bytes
 lent start = []
-lent salvage = []
 
 -- and the answer list
 unfoldable pub lent_answers : Call → List Answer
@@ -76,4 +74,3 @@ lent_answers (write q) = []
 lent_answers (release c) = []
 lent_answers (queue l) = l.answers
 lent_answers start = []
-lent_answers salvage = []

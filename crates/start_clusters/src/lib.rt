@@ -139,7 +139,7 @@ fn larger_stamp(p: Params, chip: &[u8], bt: &[u16], r: usize, i: usize, last: u3
 }
 
 // The largest stamp on the frames of region r, 0 if it has none.
-pub fn last_stamp(p: Params, chip: &[u8], bt: &[u16], r: usize) -> u32
+fn last_stamp(p: Params, chip: &[u8], bt: &[u16], r: usize) -> u32
     requires found { Found p chip.now bt.now }
     requires r_lt_mu { r < p.mu }
     ensures { result ≡ largest_stamp p (found_view p chip.now bt.now r) }

@@ -88,7 +88,7 @@ fn last_segment(p: Params, chip: &[u8], bt: &[u16], r: usize, v: VBlock) -> Segm
 }
 
 // What FST has for region r, none if the region has no block.
-pub fn segment_of(p: Params, chip: &[u8], bt: &[u16], r: usize) -> Segment
+fn segment_of(p: Params, chip: &[u8], bt: &[u16], r: usize) -> Segment
     requires found { Found p chip.now bt.now }
     requires r_lt_mu { r < p.mu }
     ensures result_value { result.0 ≡ found_fst p (found_view p chip.now bt.now r) }

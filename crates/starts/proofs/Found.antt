@@ -125,30 +125,29 @@ module _ (p : Params) (z : Sizes p) (vw : View) where
               let d : stamp_in p vw i ≡ frame_stamp p vw (i / frames p) (i % frames p) = unfold stamp_in frame_in in refl in
               omega (arith, k, stamp_number u g a.low, d)
 
-  -- an entry that names the segment of a whole frame of its cluster leads to one
-  pub whole_entry : (c v f : ℕ) → WholeAt p vw c v f → vw.seg_of c ≡ segment_of p v f → Entry p vw c
-  whole_entry c v f w s =
-      let a : vblock_of p (vw.seg_of c) ≡ v = ap (vblock_of p) s ∙ seg_vblock p z v f w.low in
-      let k : place_of p (vw.seg_of c) ≡ f / p.beta = ap (place_of p) s ∙ seg_place p z v f w.low in
-      record {
-        low = rw s (seg_low p z v f w.low w.block);
-        has = rw a (whole_has p vw c v f w);
-        held =
-            rw (a, k) (unfold last_in in (
-            last_found not_found (frames p) (λ g. eqb (g / p.beta) (f / p.beta) && holds p (frame p (vw.body v) g) c) f w.low
-            (and_intro (eq-eqb (f / p.beta) (f / p.beta) refl) w.whole)
-            ).1);
-      }
-
-  -- so an entry that is as found does so
+  -- so an entry that is as found leads to a whole frame of its cluster
   pub entry_found : (c : ℕ) → vw.seg_of c ≡ found_segment p vw c → (vw.seg_of c ≡ none) ⊎ Entry p vw c
   entry_found c e = go (found_frame c)
     where
+      named : (v f : ℕ) → WholeAt p vw c v f → vw.seg_of c ≡ segment_of p v f → Entry p vw c
+      named v f w s =
+          let a : vblock_of p (vw.seg_of c) ≡ v = ap (vblock_of p) s ∙ seg_vblock p z v f w.low in
+          let k : place_of p (vw.seg_of c) ≡ f / p.beta = ap (place_of p) s ∙ seg_place p z v f w.low in
+          record {
+            low = rw s (seg_low p z v f w.low w.block);
+            has = rw a (whole_has p vw c v f w);
+            held =
+                rw (a, k) (unfold last_in in (
+                last_found not_found (frames p) (λ g. eqb (g / p.beta) (f / p.beta) && holds p (frame p (vw.body v) g) c) f w.low
+                (and_intro (eq-eqb (f / p.beta) (f / p.beta) refl) w.whole)
+                ).1);
+          }
+
       go : ((found_segment p vw c ≡ none) × ((v f : ℕ) → WholeAt p vw c v f → ⊥))
           ⊎ ((v : ℕ) × (f : ℕ) × WholeAt p vw c v f × (found_segment p vw c ≡ segment_of p v f) × ((u g : ℕ) → WholeAt p vw c u g → frame_stamp p vw u g ≤ frame_stamp p vw v f))
           → (vw.seg_of c ≡ none) ⊎ Entry p vw c
       go (inl w) = inl (e ∙ w.0)
-      go (inr (v, f, a, s, most)) = inr (whole_entry c v f a (e ∙ s))
+      go (inr (v, f, a, s, most)) = inr (named v f a (e ∙ s))
 
 -- ---- FST
 

@@ -56,14 +56,6 @@ one_open p vw o full = le-leb _ _ (one_passes p.gamma (is_open p vw) (λ i j hi 
             let f : is_full p (vw.body i) ≡ true = unfold is_full in eq-eqb _ _ (full i h (unfold is_open in and_left (assigned vw i) _ a) e) in
             absurd (never f (not-true _ (unfold is_open in and_right (assigned vw i) a)))
 
--- so it is in a region that obeys its rules
-pub neat_once : (p : Params) (r : ℕ) (vw : View) → Neat p r vw → open_once p vw ≡ true
-neat_once p r vw n = go n.opened
-  where
-    go : (((v : ℕ) → v < p.gamma → assigned vw v ≡ false) × (vw.last_seg ≡ none)) ⊎ (((v : ℕ) × (v < p.gamma) × (assigned vw v ≡ true)) × Open p vw) → open_once p vw ≡ true
-    go (inl w) = one_open p vw 0 (λ u k a ne. absurd (never a (w.0 u k)))
-    go (inr w) = one_open p vw (vblock_of p vw.last_seg) (λ u k a ne. w.1.full u k ne a)
-
 module _ (p : Params) (b : Board) (st : Stands p b) where
   pub stands_tables : Tables p b
   stands_tables = tables_in p b st.lengths st.order
@@ -71,13 +63,21 @@ module _ (p : Params) (b : Board) (st : Stands p b) where
   pub stands_neat : (r : ℕ) → r < p.mu → Neat p r (view p b r)
   stands_neat r h = neat p r (view p b r) (orderly_region p b st.order r h)
 
+  stands_once : (r : ℕ) → r < p.mu → open_once p (view p b r) ≡ true
+  stands_once r h = go (stands_neat r h).opened
+    where
+      go : (((v : ℕ) → v < p.gamma → assigned (view p b r) v ≡ false) × ((view p b r).last_seg ≡ none))
+          ⊎ (((v : ℕ) × (v < p.gamma) × (assigned (view p b r) v ≡ true)) × Open p (view p b r)) → open_once p (view p b r) ≡ true
+      go (inl w) = one_open p (view p b r) 0 (λ u k a ne. absurd (never a (w.0 u k)))
+      go (inr w) = one_open p (view p b r) (vblock_of p (view p b r).last_seg) (λ u k a ne. w.1.full u k ne a)
+
   pub stands_steady : Steady p b
   stands_steady =
       record {
         tables = stands_tables;
         marked = st.marked;
         blocks = λ r v h k a. (stands_neat r h).blocks v k a;
-        once = λ r h. neat_once p r (view p b r) (stands_neat r h);
+        once = stands_once;
         entries = λ r h. (stands_neat r h).entries;
         timely = st.timely;
       }

@@ -14,7 +14,7 @@ use lib.ListN.{length, take, set, replicate}
 use Rattle.lists.proofs.Joins.{join_cong}
 use Rattle.chip_frames.specs.Frame.{host_page, host_frame, sectors_of}
 use Rattle.read_work.specs.Lookup.{block_for, last_for, frame_for, Lookup, Stands}
-use Rattle.read_work.proofs.Views.{lookup_of_lem}
+use Rattle.read_work.proofs.Views.{lookup_of}
 use Rattle.write_cluster.specs.Clusters.{Standing, PagesAsked, PagesPut, ClusterPut}
 use Rattle.lists.specs.Parts.{all_are, part}
 use Rattle.lists.proofs.Tests.{never}
@@ -89,7 +89,7 @@ module _ (p : Params) (b : Board) (q : Request) (v f : ℕ) (t : Standing p b q 
   entry = t.base.entries c t.asked.cluster
 
   pub lookup : Lookup p b.chip b.ct b.bt c
-  lookup = lookup_of_lem p b.chip b.ct b.bt b.fst c t.fine t.chip_length t.ct_length t.bt_length t.asked.cluster t.names entry
+  lookup = lookup_of p b.chip b.ct b.bt b.fst c t.fine t.chip_length t.ct_length t.bt_length t.asked.cluster t.names entry
 
   -- ---- the frame that is written
 
