@@ -1,4 +1,5 @@
 // Document 02, T-05: why a sector reads so, and what a write of it would do; with T-06's table of marks.
+#![tactic(auto)]
 ghost use Rattle.std.specs.Prelude.{◌≡◌, true, List, [], ℕ, ◌<◌, eqb, length};
 ghost use Rattle.rules.specs.Regions.{view, view_of};
 ghost use Rattle.rules.specs.Tables.{Board, board_of, not_found, stamp_at};
@@ -16,7 +17,7 @@ use rules::{Cluster, PBlock, Params, Reply, Segment, VBlock};
 use write_plan::Planned;
 
 // Where a cluster is held: its region, its segment, the virtual and the physical block, and the frame of that block.
-#[derive(Drop)]
+#[derive(Clone, Copy)]
 pub struct Place {
     pub region: usize,
     pub segment: Segment,
@@ -27,7 +28,7 @@ pub struct Place {
 
 // What a write would do: take this frame of the open virtual block; open a virtual block; reclaim one that has so many valid frames; or be refused, as its region
 // has no stamp left, or as it needs a free block and there is none.
-#[derive(Drop)]
+#[derive(Clone, Copy)]
 pub enum Forecast {
     Continues(VBlock, usize),
     Opens(VBlock),
@@ -38,7 +39,7 @@ pub enum Forecast {
 
 // Why a sector reads so: the call is refused, or the state or its marks are not in order, by the first broken rule; or no frame is held, or one is held there,
 // which a read or a write finds with so many looks at spare areas.
-#[derive(Drop)]
+#[derive(Clone, Copy)]
 pub enum Why {
     Refused(Reply),
     Disordered(Rule),

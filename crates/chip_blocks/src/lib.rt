@@ -1,4 +1,5 @@
 // One block of the chip, read: its frames, the clusters that they hold, and whether it is as its region wants it.
+#![tactic(auto)]
 ghost use Rattle.std.specs.Prelude.{◌≡◌, ◌&&◌, cond, false, not, true, ℕ, ◌*◌, ◌-◌, ◌≤◌, ◌<◌, eqb, drop, length};
 ghost use Rattle.lists.specs.Below.{all_below};
 ghost use Rattle.lists.specs.Parts.{all_are, same_list};
@@ -235,7 +236,7 @@ pub fn block_ok(p: Params, r: usize, v: VBlock, blk: &[u8]) -> bool
 }
 
 // Where a search ended, and how many spare areas of programmed frames it looked at on its way.
-#[derive(Drop)]
+#[derive(Clone, Copy)]
 pub struct Search {
     pub frame: usize,
     pub looks: u32,

@@ -1,4 +1,5 @@
 // Whether a lent part of the chip is erased, that is 255 throughout.
+#![tactic(auto)]
 ghost use Rattle.std.specs.Prelude.{◌≡◌, ◌&&◌, length};
 ghost use Rattle.lists.specs.Parts.{all_are};
 ghost use Rattle.chip_erased.specs.Full.{full};
@@ -7,7 +8,7 @@ ghost use Rattle.chip_erased.specs.Full.{full};
 const ONES: usize = 18446744073709551615;
 
 // Eight words side by side: the bits that all rows of 64 bytes have.
-#[derive(Drop)]
+#[derive(Clone, Copy)]
 struct Eight {
     a: usize,
     b: usize,

@@ -1,4 +1,5 @@
 // What the first page of a block says of it, on a chip whose blocks in use are sound: one look at a block, not at its bytes.
+#![tactic(auto)]
 ghost use Rattle.std.specs.Prelude.{◌≡◌, false, true, ◌<◌, length};
 ghost use Rattle.rules.specs.Parameters.{allowed, block_bytes, chip_bytes};
 ghost use Rattle.rules.specs.Pages.{block};
@@ -8,7 +9,7 @@ ghost use Rattle.chip_heads.specs.Heads.{HeadOf, Names};
 use rules::{PBlock, Params, VBlock};
 
 // Whether a block is in use; if so, whether it is full, and the region and the virtual block that it names.
-#[derive(Drop)]
+#[derive(Clone, Copy)]
 pub struct Head {
     pub used: bool,
     pub full: bool,

@@ -1,5 +1,6 @@
 // Document 02, T-07, cuts, of a write on a state that is known to be orderly. How many operations it will make is known before the first; where the budget
 // has more, it is the plain write, and else as many are made as the budget has, and the tables are lost.
+#![tactic(auto)]
 ghost use Rattle.std.specs.Prelude.{◌≡◌, true, List, [], ◌++◌, ℕ, ◌-◌, ◌≤◌, ◌<◌, length, take};
 ghost use Rattle.rules.specs.Parameters.{allowed};
 ghost use Rattle.rules.specs.Pages.{block};
@@ -23,7 +24,7 @@ use rules::{Answer, PBlock, Params, Reply, VBlock};
 use write_plan::Planned;
 
 // What a call with a budget answers, and what is left of the budget: 0 where it was cut.
-#[derive(Drop)]
+#[derive(Clone, Copy)]
 pub struct Limited {
     pub answer: Answer,
     pub left: u64,

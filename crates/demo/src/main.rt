@@ -1,4 +1,5 @@
 // The bench program: formats Board T, then answers each line of standard input with a line on standard output.
+#![tactic(auto)]
 use demo_lines::Held;
 use libc::STDIN_FILENO;
 

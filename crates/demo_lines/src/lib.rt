@@ -1,11 +1,12 @@
 // The bench program's input: a line, cut out of a stream of bytes, and what it asks.
+#![tactic(auto)]
 ghost use Rattle.std.specs.Prelude.{◌≡◌, cond, List, [], ◌∷◌, ◌++◌, ℕ, ◌+◌, ◌-◌, ◌*◌, ◌≤◌, ◌<◌, eqb, ltb, length, take, drop};
 ghost use Rattle.lists.specs.Parts.{same_list};
 ghost use Rattle.demo_lines.specs.Grammar.{first_field, fields, field_at, is_digit, Found, line_of};
 ghost use Rattle.demo_lines.specs.Held.{Holds};
 
 // What a line asks: a write of a count of sectors from an LBA on, all bytes of one value; a read; or nothing that is known.
-#[derive(Drop)]
+#[derive(Clone, Copy)]
 pub enum Line {
     Write(u32, u32, u8),
     Read(u32, u32),
@@ -13,14 +14,14 @@ pub enum Line {
 }
 
 // A field read as a number: whether it is one, and its value.
-#[derive(Drop)]
+#[derive(Clone, Copy)]
 pub struct Number {
     pub ok: bool,
     pub value: u32,
 }
 
 // The line that is being read: its first 64 bytes, and its length, 65 for any that is longer.
-#[derive(Drop)]
+#[derive(Clone, Copy)]
 pub struct Held {
     pub bytes: [u8; 64],
     pub count: usize,

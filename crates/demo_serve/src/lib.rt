@@ -1,4 +1,5 @@
 // What the bench program does for a line, and for the format before them all: the call on Board T, and the line that it prints.
+#![tactic(auto)]
 ghost use Rattle.std.specs.Prelude.{◌≡◌, ◌≤◌, length};
 ghost use Rattle.rules.specs.Lent.{entry_board, exit_board};
 ghost use Rattle.demo_serve.specs.Turned.{Started, Turned};

@@ -1,1 +1,2 @@
 // No code: `proofs/` has what one turn of a loop adds, and what a lent part is, as laws of `lists`.
+#![tactic(auto)]

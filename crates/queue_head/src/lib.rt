@@ -1,12 +1,13 @@
 // Document 02, T-01: the head of a queue of writes, which is what the call is answered as a whole, before its items. It looks at lengths and state once,
 // for all of them.
+#![tactic(auto)]
 ghost use Rattle.rules.specs.Lent.{entry_board};
 ghost use Rattle.queue_head.specs.Heads.{FlatHead, HeadIs};
 
 use rules::{Params, Reply};
 
 // What the head found: the reply of the call itself, whether the state is orderly, and how many items are to be served.
-#[derive(Drop)]
+#[derive(Clone, Copy)]
 pub struct Head {
     pub reply: Reply,
     pub ordered: bool,

@@ -1,4 +1,5 @@
 // A queue of two writes with plain parameters, so that the queue of crate `queue_list` can be run by a test.
+#![tactic(auto)]
 ghost use Rattle.std.specs.Prelude.{◌≡◌, [], ◌∷◌};
 ghost use Rattle.rules.specs.Lent.{entry_board, exit_board};
 ghost use Rattle.rules.specs.Requests.{item_of, queue, queue_of};
@@ -10,7 +11,7 @@ ghost use Rattle.queue_test.specs.Two.{Two, placed, unset};
 use rules::{Answer, Item, Params, Reply};
 
 // What two writes as one queue gave: the call's own answer and each item's.
-#[derive(Drop)]
+#[derive(Clone, Copy)]
 pub struct Pair {
     pub own: Answer,
     pub first: Answer,

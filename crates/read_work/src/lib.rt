@@ -1,4 +1,5 @@
 // Document 01, "Read", on a state that is known to be orderly: the lookup of a cluster's valid frame, and the sectors read from it.
+#![tactic(auto)]
 ghost use Rattle.std.specs.Prelude.{◌≡◌, List, ℕ, ◌+◌};
 ghost use Rattle.lists.specs.Below.{join_below};
 ghost use Rattle.lists.specs.Parts.{put_part};
@@ -13,7 +14,7 @@ use rules::{Cluster, Params, VBlock};
 
 // Where a cluster stands: whether it is kept at all, and then its valid frame, counted over the chip, its virtual block, and the frame within that; and how
 // many spare areas were looked at until it was found.
-#[derive(Drop)]
+#[derive(Clone, Copy)]
 pub struct Found {
     pub kept: bool,
     pub frame: usize,

@@ -1,4 +1,6 @@
 // Document 01's types: the parameters, one type for each kind of number, the reply and the answer; and its number rules as code.
+#![tactic(auto)]
+
 ghost use Rattle.std.specs.Prelude.{◌≡◌, true, ◌<◌};
 ghost use Rattle.rules.specs.Parameters.{allowed};
 ghost use Rattle.rules.specs.Numbers.{cluster_of, sector_of, region_of, vblock_of, place_of, segment_of};
@@ -6,7 +8,7 @@ ghost use Rattle.rules.specs.Replies.{number_of};
 
 // The nine parameters of a board: s bytes of a sector, α sectors in a cluster, β frames in a segment, d segments in a block,
 // μ regions, γ virtual blocks in a region, C clusters, N physical blocks, E rated erases of a block.
-#[derive(Drop)]
+#[derive(Clone, Copy)]
 pub struct Params {
     pub s: usize,
     pub alpha: usize,
@@ -41,23 +43,23 @@ pub const USED: u8 = 1;
 pub const RESERVED: u8 = 2;
 
 // A cluster number: an index of CT.
-#[derive(Drop)]
+#[derive(Clone, Copy)]
 pub struct Cluster(pub usize);
 
 // A segment number, counted within its region: what CT and FST hold.
-#[derive(Drop)]
+#[derive(Clone, Copy)]
 pub struct Segment(pub usize);
 
 // A virtual block number, counted within its region: with the region, an index of BT.
-#[derive(Drop)]
+#[derive(Clone, Copy)]
 pub struct VBlock(pub usize);
 
 // A physical block number: what BT holds, an index of BST and of the wear.
-#[derive(Drop)]
+#[derive(Clone, Copy)]
 pub struct PBlock(pub usize);
 
 // What the spare bytes of a frame's pages say beside the place of each: the cluster, the stamp, and the virtual block.
-#[derive(Drop)]
+#[derive(Clone, Copy)]
 pub struct Label {
     pub cluster: Cluster,
     pub stamp: u32,
@@ -65,7 +67,7 @@ pub struct Label {
 }
 
 // Why a call is refused, or that it is accepted. `number_of` gives the number of each: document 01's, and 8, 9 and 10, which are document 02's.
-#[derive(Drop)]
+#[derive(Clone, Copy)]
 pub enum Reply {
     Accepted,
     BadParameter,
@@ -81,7 +83,7 @@ pub enum Reply {
 }
 
 // One record that holds the reply, both counts of document 01, and T-08's third: how many spare areas the search for the cluster's valid frame looks at.
-#[derive(Drop)]
+#[derive(Clone, Copy)]
 pub struct Answer {
     pub reply: Reply,
     pub programs: u32,
@@ -90,7 +92,7 @@ pub struct Answer {
 }
 
 // One write of a queue: its LBA, its count of sectors, and where its first byte stands in the data part that all items share.
-#[derive(Drop)]
+#[derive(Clone, Copy)]
 pub struct Item {
     pub lba: u32,
     pub count: u32,

@@ -1,4 +1,5 @@
 // Document 01, "Write", on a state that is known to be orderly: where the write goes.
+#![tactic(auto)]
 ghost use Rattle.std.specs.Prelude.{◌≡◌, List, [], ℕ, length};
 ghost use Rattle.rules.specs.Tables.{board_of, marks_length};
 ghost use Rattle.rules.specs.Regions.{view_of};
@@ -9,7 +10,7 @@ ghost use Rattle.write_plan.specs.Plans.{PlanAsked, next_in, plan_is};
 use rules::{Params, VBlock};
 
 // Where a write goes: frame f of the open virtual block; a virtual block that takes a free block; a virtual block that is reclaimed.
-#[derive(Drop)]
+#[derive(Clone, Copy)]
 pub enum Planned {
     Continues(VBlock, usize),
     Opens(VBlock),

@@ -1,4 +1,5 @@
 // Document 01, "Write", on a state that is known to be orderly: the room that its plan makes.
+#![tactic(auto)]
 ghost use Rattle.std.specs.Prelude.{◌≡◌, List, ℕ};
 ghost use Rattle.rules.specs.Tables.{board_of, bt_at};
 ghost use Rattle.rules.specs.Pages.{block};
@@ -12,7 +13,7 @@ use rules::{PBlock, Params, VBlock};
 use write_plan::Planned;
 
 // The frame that a plan has made room for, how many frames it copied, and how many blocks it erased.
-#[derive(Drop)]
+#[derive(Clone, Copy)]
 pub struct Room {
     pub vblock: VBlock,
     pub frame: usize,
