@@ -21,7 +21,7 @@ use Rattle.rules.specs.Regions.{looks_at, view}
 use Rattle.rules.specs.Replies.{access_rows, bad_count, bad_parameter, first_row, is_accepted, lent_rows, no_block_left, not_orderly, number_of, order_row, reply_of, rows_of, why_reply, wrong_data, wrong_length}
 use Rattle.rules.specs.Requests.{Request, read, request_region}
 use Rattle.rules.specs.Tables.{Board, bt_at, ct_at, none, stamp_at, marks_length}
-use Rattle.rules.specs.Write.{Plan, has_room, plan_block, plan_frame, plan_of, plan_vBlock}
+use Rattle.rules.specs.Write.{Plan, has_room, plan_block, plan_frame, plan_of, plan_vblock}
 use Rattle.rules.proofs.Admitted.{Admitted, Checks, admitted, read_checks}
 use Rattle.rules.proofs.RegionFacts.{neat}
 use Rattle.rules.proofs.Sizes.{sizes}
@@ -100,7 +100,7 @@ module _ (p : Params) (b : Board) (lba : ℕ) (h : Answered p b lba) where
   checks = read_checks p b request accepted
 
   -- the plan of a write to its region names a virtual block and a frame that are there
-  vblock_fits : plan_vBlock (plan_of p (view p b (request_region p request))) < p.gamma
+  vblock_fits : plan_vblock (plan_of p (view p b (request_region p request))) < p.gamma
   vblock_fits = (block_asked p b request checks (request_region p request) refl (plan_of p (view p b (request_region p request))) refl).low
 
   frame_fits : plan_frame p (view p b (request_region p request)) (plan_of p (view p b (request_region p request))) < frames p

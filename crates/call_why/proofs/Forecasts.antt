@@ -10,7 +10,7 @@ use Rattle.rules.specs.declared.Params.{Params}
 use Rattle.rules.specs.Parameters.{allowed}
 use Rattle.rules.specs.Regions.{valid_frames, view, view_of}
 use Rattle.rules.specs.Tables.{Board, board_of, marks_length}
-use Rattle.rules.specs.Write.{Plan, continues, opens, plan_of, plan_vBlock, reclaims}
+use Rattle.rules.specs.Write.{Plan, continues, opens, plan_of, plan_vblock, reclaims}
 use Rattle.rules.specs.Marks.{Marks, marks_in, marks_of, marks_on, table_of}
 use Rattle.marks.proofs.Counted.{marks_counted}
 use Rattle.rules.proofs.MarkFacts.{table_length}
@@ -23,17 +23,17 @@ module _ (p : Params) (chip bt fst bst wear marks : List ℕ) (r : ℕ) (a : For
 
   -- the plan that was found, on the board with any CT that has these marks
   module _ (pl : Plan) (found : (ct : List ℕ) → marks ≡ marks_of p (board_of chip ct bt fst [] [] [] []) → pl ≡ plan_of p (view_of p chip ct bt fst r)) where
-    low : plan_vBlock pl < p.gamma
+    low : plan_vblock pl < p.gamma
     low = rw (found a.ct a.right) a.low
 
     pub block_asked : BlockAsked p bt bst wear r pl
     block_asked = record { pool = a.pool; bt_length = a.plan.bt_length; region = a.plan.low; low = low }
 
     pub victim_asked : VictimAsked p marks r pl
-    unfolding plan_vBlock
+    unfolding plan_vblock
     victim_asked = go pl low
       where
-        go : (l : Plan) → plan_vBlock l < p.gamma → VictimAsked p marks r l
+        go : (l : Plan) → plan_vblock l < p.gamma → VictimAsked p marks r l
         go (continues v f) h = tt
         go (opens v) h = tt
         go (reclaims v) h = record { fine = a.plan.fine; long = marks_long_lem; region = a.plan.low; vblock = h }

@@ -18,7 +18,7 @@ use Rattle.rules.specs.Parameters.{frames}
 use Rattle.rules.specs.Regions.{View, looks_at, view}
 use Rattle.rules.specs.Replies.{no_block_left, no_stamp_left, number_of}
 use Rattle.rules.specs.Tables.{Board, ct_at, none, stamp_at}
-use Rattle.rules.specs.Write.{Plan, continues, opens, plan_frame, plan_of, plan_vBlock, reclaims}
+use Rattle.rules.specs.Write.{Plan, continues, opens, plan_frame, plan_of, plan_vblock, reclaims}
 use Rattle.rules.specs.Words.{LooksListed}
 use Rattle.rules.proofs.LooksWords.{looks_exactly}
 use Rattle.rules.proofs.Sizes.{Sizes}
@@ -60,8 +60,8 @@ broken_small k = (omega arith, (low k, omega arith))
 
 -- ---- a plan
 
-pub plan_small : (p : Params) (vw : View) (pl : Plan) → plan_vBlock pl < 256 → plan_frame p vw pl < 65536 → Small (plan_numbers p vw pl)
-unfolding plan_vBlock plan_frame plan_numbers
+pub plan_small : (p : Params) (vw : View) (pl : Plan) → plan_vblock pl < 256 → plan_frame p vw pl < 65536 → Small (plan_numbers p vw pl)
+unfolding plan_vblock plan_frame plan_numbers
 plan_small p vw (continues v f) h k = (omega arith, (omega arith, (omega arith, (omega arith, tt))))
 plan_small p vw (opens v) h k = (omega arith, (omega arith, (omega arith, (omega arith, tt))))
 plan_small p vw (reclaims v) h k = (omega arith, (omega arith, (omega arith, (omega arith, tt))))
@@ -90,7 +90,7 @@ module _ (p : Params) (z : Sizes p) (b : Board) (h : OrderlyBoard p b) (c : ℕ)
       go (inl w) = omega (arith, w.1)
       go (inr w) = omega (arith, w.1.most, z.beta_high)
 
-  pub found_small : plan_vBlock (plan_of p (view p b (region_of p c))) < p.gamma → plan_frame p (view p b (region_of p c)) (plan_of p (view p b (region_of p c))) < frames p → Small (found_of p b c)
+  pub found_small : plan_vblock (plan_of p (view p b (region_of p c))) < p.gamma → plan_frame p (view p b (region_of p c)) (plan_of p (view p b (region_of p c))) < frames p → Small (found_of p b c)
   unfolding found_of forecast_of forecast_in
   found_small v f =
       small_append (cond (eqb (ct_at b.ct c) none) (replicate 8 0) (0 ∷ 0 ∷ 1 ∷ holder_of p b c)) _ (go (ℕ_discrete (ct_at b.ct c) none))

@@ -5,7 +5,7 @@ use Rattle.rules.specs.declared.Params.{Params}
 use Rattle.rules.specs.Parameters.{allowed}
 use Rattle.rules.specs.Regions.{view_of}
 use Rattle.rules.specs.Tables.{board_of}
-use Rattle.rules.specs.Write.{Plan, continues, opens, plan_of, plan_vBlock, reclaims}
+use Rattle.rules.specs.Write.{Plan, continues, opens, plan_of, plan_vblock, reclaims}
 use Rattle.rules.specs.Marks.{marks_of}
 use Rattle.chip_marks.specs.Asked.{WordsAsked}
 use Rattle.write_choose.specs.Search.{Pool}
@@ -17,7 +17,7 @@ pub record ForecastAsked (p : Params) (chip bt fst bst wear marks : List ℕ) (r
   pub pool : Pool p bst wear
   pub ct : List ℕ
   pub right : marks ≡ marks_of p (board_of chip ct bt fst [] [] [] [])
-  pub low : plan_vBlock (plan_of p (view_of p chip ct bt fst r)) < p.gamma
+  pub low : plan_vblock (plan_of p (view_of p chip ct bt fst r)) < p.gamma
 
 -- the marks of the virtual block that a plan reclaims, by the plan
 abbrev pub VictimAsked : Params → List ℕ → ℕ → Plan → Type 0

@@ -22,7 +22,7 @@ use Rattle.rules.specs.Traces.{Op, erase, erase_ops, erase_where, frame_ops, fra
 use Rattle.rules.specs.Requests.{Call, Request, format, queue, read, release, request_cluster, request_region, start, write}
 use Rattle.rules.specs.Format.{bad, format_ops}
 use Rattle.rules.specs.Start.{in_use, left_over, start_ops}
-use Rattle.rules.specs.Write.{Plan, copies, new_frame, next_stamp, plan_block, plan_frame, plan_of, plan_ops, plan_vBlock, room_ops, victim_ops, write_ops}
+use Rattle.rules.specs.Write.{Plan, copies, new_frame, next_stamp, plan_block, plan_frame, plan_of, plan_ops, plan_vblock, room_ops, victim_ops, write_ops}
 use Rattle.rules.specs.Replies.{OrderlyBoard, bad_parameter, first_row, is_accepted, lengths_fit, lent_rows, reply_of, rows_of, too_few_blocks, wrong_length}
 use Rattle.rules.specs.Calls.{ops_of, work_of}
 use Rattle.rules.specs.Cuts.{Step, is_cut, limited, plain}
@@ -196,8 +196,8 @@ module _ (p : Params) (b : Board) (q : Request) (e : reply_of p b (write q) ≡ 
       let w = victim_sparing pl (plan_case p acc.sized r (view p b r) (neat p r (view p b r) (acc.tidy r region))) in
       let copying = frames_ops p (plan_block p b r pl) 0 (copies p (view p b r) pl) in
       let are = frames_programs p (plan_block p b r pl) 0 (copies p (view p b r) pl) in
-      let new = frame_ops p (plan_block p b r pl) (plan_frame p (view p b r) pl) (new_frame p (view p b r) q (next_stamp b r) (plan_vBlock pl)) p.alpha in
-      let adding = frame_programs p (plan_block p b r pl) (plan_frame p (view p b r) pl) (new_frame p (view p b r) q (next_stamp b r) (plan_vBlock pl)) p.alpha in
+      let new = frame_ops p (plan_block p b r pl) (plan_frame p (view p b r) pl) (new_frame p (view p b r) q (next_stamp b r) (plan_vblock pl)) p.alpha in
+      let adding = frame_programs p (plan_block p b r pl) (plan_frame p (view p b r) pl) (new_frame p (view p b r) q (next_stamp b r) (plan_vblock pl)) p.alpha in
       record {
         spares = λ h. erases_append n (copying ++ victim_ops p b r pl) _ (erases_append n copying (victim_ops p b r pl) (programs_spare n copying are) (w.0 h)) (programs_spare n new adding);
         worns =

@@ -26,7 +26,7 @@ use Rattle.rules.specs.Tables.{Board, bt_at, none}
 use Rattle.rules.specs.Pages.{filled, frame, held, page, programmed, spare, spare_bytes, stamp_of}
 use Rattle.rules.specs.Regions.{assigned, valid, valid_frames, view}
 use Rattle.rules.specs.Traces.{erase_ops, erase_where, frame_ops, frames_ops, mark, program, worn}
-use Rattle.rules.specs.Write.{plan_erases, Plan, continues, copies, victim_ops, has_room, lowest_unassigned, new_frame, opens, plan_block, plan_frame, plan_of, plan_ops, plan_vBlock, reclaims, room_ops, write_ops, next_stamp}
+use Rattle.rules.specs.Write.{plan_erases, Plan, continues, copies, victim_ops, has_room, lowest_unassigned, new_frame, opens, plan_block, plan_frame, plan_of, plan_ops, plan_vblock, reclaims, room_ops, write_ops, next_stamp}
 use Rattle.rules.specs.Replies.{reply_of}
 use Rattle.rules.specs.Words.{SpareListed}
 use Rattle.rules.specs.Requests.{Request, write, request_cluster}
@@ -177,7 +177,7 @@ module _ (p : Params) (z : Sizes p) (b : Board) (t : Tables p b) (r : ℕ) (regi
       (one_fits_block p z b.wear (bt_at p b.bt r v) (block_low_lem p z b t r v region mine (has_block p z b t r v region mine (all_assigned v is v mine))))
     where
       mine : v < p.gamma
-      mine = unfold plan_vBlock in m.base.ready.mine
+      mine = unfold plan_vblock in m.base.ready.mine
 
       few : 0 + length (copies p (view p b r) (reclaims v)) ≤ frames p
       few = unfold copies plan_frame in omega (arith, m.base.ready.low, length-map (valid_frames p (view p b r) v) (frame p ((view p b r).body v)))
@@ -191,18 +191,18 @@ write_fits p b q e =
     let nt = neat p r (view p b r) (acc.tidy r region) in
     let pl = plan_of p (view p b r) in
     let m : Makes p b r pl = makes p acc.sized b acc.tables r region nt (write_free p b q e) in
-    let sh : Sheet p (plan_vBlock pl) (request_cluster p q) (new_frame p (view p b r) q (next_stamp b r) (plan_vBlock pl)) =
+    let sh : Sheet p (plan_vblock pl) (request_cluster p q) (new_frame p (view p b r) q (next_stamp b r) (plan_vblock pl)) =
     host_sheet p acc.sized (view p b r) (λ v h a. body_size p acc.sized b acc.tables r v region h a) q acc.asked (nt.entries (request_cluster p q) acc.asked.cluster)
-    (next_stamp b r) (plan_vBlock pl) (stamp_left p b q e) in
+    (next_stamp b r) (plan_vblock pl) (stamp_left p b q e) in
     fit_append p (room_ops p b r pl) _ (room_fits p acc.sized b acc.tables r region nt pl refl m)
-    (frame_fits p acc.sized (plan_block p b r pl) m.room.low (plan_frame p (view p b r) pl) (new_frame p (view p b r) q (next_stamp b r) (plan_vBlock pl)) m.base.ready.low
+    (frame_fits p acc.sized (plan_block p b r pl) m.room.low (plan_frame p (view p b r) pl) (new_frame p (view p b r) q (next_stamp b r) (plan_vblock pl)) m.base.ready.low
     (record {
       whole = sh.whole;
       cluster = request_cluster p q;
       low = acc.asked.cluster;
       stamp = sh.stamp;
       early = sh.early;
-      vblock = plan_vBlock pl;
+      vblock = plan_vblock pl;
       mine = m.base.ready.mine;
       spares = sh.spares;
     }))

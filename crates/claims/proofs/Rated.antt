@@ -23,7 +23,7 @@ use Rattle.rules.specs.Release.{released}
 use Rattle.rules.specs.Replies.{is_accepted, reply_of}
 use Rattle.rules.specs.Cuts.{call_of, plain}
 use Rattle.rules.specs.Words.{PlanListed, erases_of}
-use Rattle.rules.specs.Write.{Plan, continues, copies, new_frame, next_stamp, opens, plan_block, plan_bst, plan_frame, plan_of, plan_ops, plan_vBlock, reclaims, room_ops, takes_block, victim_ops, write_ops, written, written_by}
+use Rattle.rules.specs.Write.{Plan, continues, copies, new_frame, next_stamp, opens, plan_block, plan_bst, plan_frame, plan_of, plan_ops, plan_vblock, reclaims, room_ops, takes_block, victim_ops, write_ops, written, written_by}
 use Rattle.rules.proofs.Admitted.{Admitted, admitted, format_admitted, write_checks, write_free}
 use Rattle.rules.proofs.BadBlocks.{unreserved_good, write_keeps_reserved}
 use Rattle.rules.proofs.Continues.{Makes}
@@ -128,17 +128,17 @@ module _ (p : Params) (b : Board) (q : Request) (e : reply_of p b (write q) ≡ 
       new = unfold plan_block bt_at in free_unnamed p acc.sized b acc.tables (m.found (unfold takes_block in refl)) (r * p.gamma + v) (index_low p r v region w.low)
 
       go : Dec (n ≡ bt_at p b.bt r v) → (erases_block n (victim_ops p b r (reclaims v)) ≡ false) ⊎ (bst_at (plan_bst p b r (reclaims v)) n ≡ cond (worn p b.wear n) 2 0)
-      go (yes y) = inr (rw y (unfold bst_at plan_vBlock in m.kind_old new some))
+      go (yes y) = inr (rw y (unfold bst_at plan_vblock in m.kind_old new some))
       go (no y) = inl (one_spare p b.wear n (bt_at p b.bt r v) (λ x. y (sym x)))
 
   spares : (pl : Plan) → erases_block n (victim_ops p b r pl) ≡ false → erases_block n (plan_ops p b r q pl) ≡ false
   unfolding plan_ops room_ops
   spares pl h =
       let copying = frames_ops p (plan_block p b r pl) 0 (copies p (view p b r) pl) in
-      let new = frame_ops p (plan_block p b r pl) (plan_frame p (view p b r) pl) (new_frame p (view p b r) q (next_stamp b r) (plan_vBlock pl)) p.alpha in
+      let new = frame_ops p (plan_block p b r pl) (plan_frame p (view p b r) pl) (new_frame p (view p b r) q (next_stamp b r) (plan_vblock pl)) p.alpha in
       erases_append n (copying ++ victim_ops p b r pl) new
       (erases_append n copying (victim_ops p b r pl) (programs_spare n copying (frames_programs p (plan_block p b r pl) 0 (copies p (view p b r) pl))) h)
-      (programs_spare n new (frame_programs p (plan_block p b r pl) (plan_frame p (view p b r) pl) (new_frame p (view p b r) q (next_stamp b r) (plan_vBlock pl)) p.alpha))
+      (programs_spare n new (frame_programs p (plan_block p b r pl) (plan_frame p (view p b r) pl) (new_frame p (view p b r) q (next_stamp b r) (plan_vblock pl)) p.alpha))
 
   wears : wear_at (written p b q).wear n ≤ wear_at b.wear n + erases_of n (write_ops p b q)
   unfolding written written_by write_ops

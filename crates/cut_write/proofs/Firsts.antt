@@ -14,7 +14,7 @@ use Rattle.rules.specs.Pages.{block}
 use Rattle.rules.specs.Marks.{Marks, marks_of, marks_on, table_of}
 use Rattle.rules.specs.Regions.{view}
 use Rattle.rules.specs.Traces.{Op, erase, erase_ops, frame_ops, frames_ops, on_chip, on_wear, replay_chip, replay_wear}
-use Rattle.rules.specs.Write.{Plan, continues, opens, reclaims, copies, new_frame, next_stamp, plan_block, plan_frame, plan_of, plan_ops, plan_vBlock, room_ops, victim_ops, write_ops}
+use Rattle.rules.specs.Write.{Plan, continues, opens, reclaims, copies, new_frame, next_stamp, plan_block, plan_frame, plan_of, plan_ops, plan_vblock, room_ops, victim_ops, write_ops}
 use Rattle.rules.specs.Requests.{Request, request_region}
 use Rattle.rules.proofs.Chip.{replay_append}
 use Rattle.starts.proofs.Prefixes.{frame_length, take_frame}
@@ -83,7 +83,7 @@ module _ (p : Params) (b : Board) (q : Request) (pl : Plan) (ep : pl ≡ plan_of
 
   -- the first m pages of the new frame
   abbrev pub pages : ℕ → List Op
-  pages m = frame_ops p (plan_block p b r pl) (plan_frame p (view p b r) pl) (new_frame p (view p b r) q (next_stamp b r) (plan_vBlock pl)) m
+  pages m = frame_ops p (plan_block p b r pl) (plan_frame p (view p b r) pl) (new_frame p (view p b r) q (next_stamp b r) (plan_vblock pl)) m
 
   ops_are : write_ops p b q ≡ room_ops p b r pl ++ pages p.alpha
   unfolding write_ops

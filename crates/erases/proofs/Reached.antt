@@ -16,9 +16,9 @@ use Rattle.claims.specs.Runs.{leaves, parts_by, parts_of, parts_to, to_region}
 use Rattle.erases.specs.Erases.{accepted_writes, clusters_in, erases_by, is_write, rounded_up, spare_share, total}
 use Rattle.erases.specs.Reached.{BoundReached, FiguresT, blank_small, figures, mixed, mixed_erases, puts, small}
 
-pub figures_T : FiguresT
+pub figures_t : FiguresT
 unfolding figures clusters_in spare_share rounded_up all_rules board_t params_t
-figures_T = record { first = refl; second = refl }
+figures_t = record { first = refl; second = refl }
 
 first_test : same_list (mixed_erases 0) (replicate 6 0 ++ (1 ∷ 0 ∷ 1 ∷ [])) ≡ true
 unfolding all_rules mixed_erases mixed puts blank_small small erases_by accepted_writes is_write parts_of parts_by parts_to to_region leaves step_outcome

@@ -26,7 +26,7 @@ use Rattle.rules.specs.Requests.{Request, format, request_cluster, request_regio
 use Rattle.rules.specs.Format.{formatted}
 use Rattle.rules.specs.Release.{released}
 use Rattle.rules.specs.Start.{started}
-use Rattle.rules.specs.Write.{Plan, has_room, lowest_unassigned, new_frame, plan_erases, plan_frame, plan_of, plan_vBlock, victim, written, next_stamp}
+use Rattle.rules.specs.Write.{Plan, has_room, lowest_unassigned, new_frame, plan_erases, plan_frame, plan_of, plan_vblock, victim, written, next_stamp}
 use Rattle.rules.specs.Machine.{view_after, with_frame, with_room, without}
 use Rattle.rules.specs.Replies.{reply_of}
 use Rattle.rules.specs.Words.{OpensListed, PlanListed, ReclaimsListed}
@@ -67,11 +67,11 @@ bare_none p (x ∷ blk) h = absurd (omega (arith, ltb-false 0 (length (x ∷ blk
 -- that its block has as many programmed frames as the number of the frame that it writes; or, to reclaim, that every block is full, and few frames to copy
 abbrev Found : Params → ℕ → View → Plan → Type 0
 Found p r vw pl =
-    ((plan_erases pl ≡ 0) × (filled p (vw.body (plan_vBlock pl)) ≡ plan_frame p vw pl))
+    ((plan_erases pl ≡ 0) × (filled p (vw.body (plan_vblock pl)) ≡ plan_frame p vw pl))
     ⊎ ((plan_erases pl ≡ 1) × ((u : ℕ) → u < p.gamma → filled p (vw.body u) ≡ frames p) × (p.gamma * plan_frame p vw pl ≤ clusters_in p r))
 
 found : (p : Params) → Sizes p → (r : ℕ) (vw : View) → Neat p r vw → PlanListed p vw (plan_of p vw) → Found p r vw (plan_of p vw)
-unfolding plan_of plan_erases plan_vBlock plan_frame assigned
+unfolding plan_of plan_erases plan_vblock plan_frame assigned
 found p z r vw neat = go (so (has_room p vw)) (so (eqb (lowest_unassigned p vw) none))
   where
     go : (has_room p vw ≡ true) ⊎ (has_room p vw ≡ false) → (eqb (lowest_unassigned p vw) none ≡ true) ⊎ (eqb (lowest_unassigned p vw) none ≡ false)
@@ -101,7 +101,7 @@ module _ (p : Params) (b : Board) (q : Request) (e : reply_of p b (write q) ≡ 
   plan = plan_of p before
 
   abbrev v : ℕ
-  v = plan_vBlock plan
+  v = plan_vblock plan
 
   abbrev f : ℕ
   f = plan_frame p before plan

@@ -11,7 +11,7 @@ use Rattle.rules.specs.declared.Reply.TheVariants.{Accepted}
 use Rattle.rules.specs.Regions.{View, view}
 use Rattle.rules.specs.Replies.{reply_of}
 use Rattle.rules.specs.Tables.{Board}
-use Rattle.rules.specs.Write.{Plan, new_frame, plan_frame, plan_of, plan_vBlock, written, next_stamp}
+use Rattle.rules.specs.Write.{Plan, new_frame, plan_frame, plan_of, plan_vblock, written, next_stamp}
 use Rattle.rules.proofs.Admitted.{Admitted, admitted, stamp_left, write_checks, write_free}
 use Rattle.rules.proofs.Continues.{Makes}
 use Rattle.rules.proofs.FramePut.{Sheet}
@@ -51,9 +51,9 @@ module _ (p : Params) (b : Board) (q : Request) (e : reply_of p b (write q) ≡ 
   makes_room : Makes p b r pl
   makes_room = makes p acc.sized b acc.tables r region tidy (write_free p b q e)
 
-  sheet : Sheet p (plan_vBlock pl) (request_cluster p q) (new_frame p vw q (next_stamp b r) (plan_vBlock pl))
+  sheet : Sheet p (plan_vblock pl) (request_cluster p q) (new_frame p vw q (next_stamp b r) (plan_vblock pl))
   sheet = host_sheet p acc.sized vw (λ v h a. body_size p acc.sized b acc.tables r v region h a) q acc.asked (tidy.entries (request_cluster p q) acc.asked.cluster)
-      (next_stamp b r) (plan_vBlock pl) (stamp_left p b q e)
+      (next_stamp b r) (plan_vblock pl) (stamp_left p b q e)
 
   mark_at : (r' v f : ℕ) → r' < p.mu → v < p.gamma → marks_on p (written p b q) r' v f ≡ written_marks p b q (marks_on p b) r' v f
   unfolding marks_in written_marks put_mark
@@ -66,10 +66,10 @@ module _ (p : Params) (b : Board) (q : Request) (e : reply_of p b (write q) ≡ 
             (write_promise p b q e).own,
             eq-eqb r r refl,
             old_cleared p acc.sized (with_room p vw pl) r (request_cluster p q) (room_marks p vw r pl (marks_on p b))
-                (base_fronts p acc.sized r (with_room p vw pl) (plan_vBlock pl) (plan_frame p vw pl) makes_room.base) (makes_room.base.entries (request_cluster p q) acc.asked.cluster) v f low
+                (base_fronts p acc.sized r (with_room p vw pl) (plan_vblock pl) (plan_frame p vw pl) makes_room.base) (makes_room.base.entries (request_cluster p q) acc.asked.cluster) v f low
                 (room_marks_lem p acc.sized b acc.tables r region tidy (marks_on p b) v f refl),
           )
-          (unfold view_after in frame_marks p acc.sized (with_room p vw pl) (plan_vBlock pl) (plan_frame p vw pl) (request_cluster p q) (new_frame p vw q (next_stamp b r) (plan_vBlock pl)) makes_room.base.ready sheet v f)
+          (unfold view_after in frame_marks p acc.sized (with_room p vw pl) (plan_vblock pl) (plan_frame p vw pl) (request_cluster p q) (new_frame p vw q (next_stamp b r) (plan_vblock pl)) makes_room.base.ready sheet v f)
       go (no k) =
           rw ((write_promise p b q e).isolated r' h k, ne_eqb r' r k)
           (sym (old_elsewhere p acc.sized (with_room p vw pl) r (request_cluster p q) (room_marks p vw r pl (marks_on p b)) r' v f k ∙ room_elsewhere p vw r pl (marks_on p b) r' v f k))

@@ -6,7 +6,7 @@ use Rattle.rules.specs.Numbers.{place_of, vblock_of}
 use Rattle.rules.specs.Pages.{last_in}
 use Rattle.rules.specs.Regions.{View, valid_frames, view}
 use Rattle.rules.specs.Tables.{Board, none}
-use Rattle.rules.specs.Write.{Plan, continues, opens, plan_frame, plan_of, plan_vBlock, reclaims}
+use Rattle.rules.specs.Write.{Plan, continues, opens, plan_frame, plan_of, plan_vblock, reclaims}
 use Rattle.rules.specs.Marks.{Marks}
 use Rattle.rules.specs.Requests.{Request, request_cluster, request_region}
 use Rattle.rules.specs.Machine.{with_room}
@@ -37,4 +37,4 @@ written_marks p b q m =
     let r = request_region p q in
     let vw = view p b r in
     let pl = plan_of p vw in
-    put_mark (without_old p (with_room p vw pl) r (request_cluster p q) (room_marks p vw r pl m)) r (plan_vBlock pl) (plan_frame p vw pl) true
+    put_mark (without_old p (with_room p vw pl) r (request_cluster p q) (room_marks p vw r pl m)) r (plan_vblock pl) (plan_frame p vw pl) true

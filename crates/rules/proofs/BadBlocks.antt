@@ -18,7 +18,7 @@ use Rattle.rules.specs.Tables.{Board, bst_at, bt_at, bt_entry, none}
 use Rattle.rules.specs.Pages.{block, spare}
 use Rattle.rules.specs.Regions.{assigned, view}
 use Rattle.rules.specs.Format.{bad, formatted}
-use Rattle.rules.specs.Write.{Plan, plan_block, plan_of, plan_vBlock, written}
+use Rattle.rules.specs.Write.{Plan, plan_block, plan_of, plan_vblock, written}
 use Rattle.rules.specs.Traces.{worn}
 use Rattle.rules.specs.Replies.{OrderlyBoard, reply_of}
 use Rattle.rules.specs.Requests.{Request, format, request_cluster, request_region, write}
@@ -133,17 +133,17 @@ module _ (p : Params) (b : Board) (q : Request) (e : reply_of p b (write q) ≡ 
 
   -- one that becomes bad is the victim's, worn out
   pub write_bad_new : (n : ℕ) → n < p.N → bad p (written p b q).chip n ≡ true → bad p b.chip n ≡ false
-      → (n ≡ bt_at p b.bt (request_region p q) (plan_vBlock plan)) × (worn p b.wear n ≡ true) × (n ≡ plan_block p b (request_region p q) plan → ⊥)
+      → (n ≡ bt_at p b.bt (request_region p q) (plan_vblock plan)) × (worn p b.wear n ≡ true) × (n ≡ plan_block p b (request_region p q) plan → ⊥)
   unfolding written
   write_bad_new n h x was = go (ℕ_discrete (bst_at (written p b q).bst n) 2)
     where
       pick : (bst_at b.bst n ≡ 2)
-          ⊎ ((n ≡ bt_at p b.bt (request_region p q) (plan_vBlock plan)) × (worn p b.wear (bt_at p b.bt (request_region p q) (plan_vBlock plan)) ≡ true) × (n ≡ plan_block p b (request_region p q) plan → ⊥))
-          → (n ≡ bt_at p b.bt (request_region p q) (plan_vBlock plan)) × (worn p b.wear n ≡ true) × (n ≡ plan_block p b (request_region p q) plan → ⊥)
+          ⊎ ((n ≡ bt_at p b.bt (request_region p q) (plan_vblock plan)) × (worn p b.wear (bt_at p b.bt (request_region p q) (plan_vblock plan)) ≡ true) × (n ≡ plan_block p b (request_region p q) plan → ⊥))
+          → (n ≡ bt_at p b.bt (request_region p q) (plan_vblock plan)) × (worn p b.wear n ≡ true) × (n ≡ plan_block p b (request_region p q) plan → ⊥)
       pick (inl k) = absurd (never x (bytes_bad p b.chip (written p b q).chip n (reserved_bytes p b q acc (request_region p q) refl plan room (stamp_left p b q e) n h k) ∙ was))
       pick (inr w) = (w.0, ap (worn p b.wear) w.0 ∙ w.1, w.2)
 
       go : Dec (bst_at (written p b q).bst n ≡ 2)
-          → (n ≡ bt_at p b.bt (request_region p q) (plan_vBlock plan)) × (worn p b.wear n ≡ true) × (n ≡ plan_block p b (request_region p q) plan → ⊥)
+          → (n ≡ bt_at p b.bt (request_region p q) (plan_vblock plan)) × (worn p b.wear n ≡ true) × (n ≡ plan_block p b (request_region p q) plan → ⊥)
       go (yes k) = pick (write_reserves p b q acc (request_region p q) refl plan room (stamp_left p b q e) n h k)
       go (no k) = absurd (never x (unreserved_good p (written p b q) after n h k))

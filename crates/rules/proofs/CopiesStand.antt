@@ -23,7 +23,7 @@ use Rattle.rules.specs.Pages.{block, frame, page}
 use Rattle.rules.specs.Regions.{View, assigned, valid_frames, view}
 use Rattle.rules.specs.Traces.{Op, erase_ops, frame_ops, frames_ops, on_chip, program, replay_chip}
 use Rattle.rules.specs.Requests.{Request, request_cluster, request_region}
-use Rattle.rules.specs.Write.{copies, victim_ops, free_block, has_room, new_frame, next_stamp, plan_block, plan_erases, plan_frame, plan_of, plan_ops, plan_vBlock, reclaims, room_ops, takes_block, write_ops}
+use Rattle.rules.specs.Write.{copies, victim_ops, free_block, has_room, new_frame, next_stamp, plan_block, plan_erases, plan_frame, plan_of, plan_ops, plan_vblock, reclaims, room_ops, takes_block, write_ops}
 use Rattle.rules.specs.Machine.{with_room}
 use Rattle.rules.specs.Words.{CopiesStand, PlanListed}
 use Rattle.rules.proofs.Admitted.{admitted, stamp_left, write_checks, write_free}
@@ -164,7 +164,7 @@ module _ (p : Params) (z : Sizes p) (b : Board) (t : Tables p b) (r : ℕ) (regi
 
   -- the victim is one of the region's virtual blocks, has fewer valid frames than a block has frames, and like the others is whole
   low : v < p.gamma
-  low = unfold plan_vBlock in m.base.ready.mine
+  low = unfold plan_vblock in m.base.ready.mine
 
   few : length (valid_frames p (view p b r) v) < frames p
   few = unfold plan_frame in m.base.ready.low
@@ -193,7 +193,7 @@ module _ (p : Params) (z : Sizes p) (b : Board) (t : Tables p b) (r : ℕ) (regi
   making_is = refl
 
   all_is : plan_ops p b r q (reclaims v) ≡ making ++ adding
-  unfolding making adding new plan_ops plan_block plan_frame plan_vBlock
+  unfolding making adding new plan_ops plan_block plan_frame plan_vblock
   all_is = refl
 
   -- valid frame i of the victim stands on a chip, where it was or as its copy
@@ -235,7 +235,7 @@ module _ (p : Params) (z : Sizes p) (b : Board) (t : Tables p b) (r : ℕ) (regi
 
   copied_here : block p copied new ≡ (with_room p (view p b r) (reclaims v)).body v
   copied_here =
-      sym ((wear_out_ran p z copied old old_fits b.wear).else new (λ e. differ (sym e))) ∙ rw (← made_is) (unfold making new plan_block plan_vBlock in m.room.here)
+      sym ((wear_out_ran p z copied old old_fits b.wear).else new (λ e. differ (sym e))) ∙ rw (← made_is) (unfold making new plan_block plan_vblock in m.room.here)
 
   stands_in : (chip : List ℕ) (i : ℕ) → i < length (valid_frames p (view p b r) v) → frame p (block p chip new) i ≡ frame p (block p copied new) i
       → frame p (block p chip new) i ≡ frame p (block p b.chip old) (get_or (valid_frames p (view p b r) v) i 0)

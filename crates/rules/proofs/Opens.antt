@@ -21,7 +21,7 @@ use Rattle.rules.specs.Tables.{Board, bst_at, bt_at, ct_at, none}
 use Rattle.rules.specs.Pages.{block, filled, frame, held, programmed}
 use Rattle.rules.specs.Regions.{View, assigned, frame_of, sector_in, view}
 use Rattle.rules.specs.Traces.{clean, frames_ops, replay_chip}
-use Rattle.rules.specs.Write.{copies, victim_ops, follow_ct, free_block, has_room, opens, plan_block, plan_bst, plan_frame, plan_vBlock, room_ops}
+use Rattle.rules.specs.Write.{copies, victim_ops, follow_ct, free_block, has_room, opens, plan_block, plan_bst, plan_frame, plan_vblock, room_ops}
 use Rattle.rules.specs.Machine.{erased_block, with_room}
 use Rattle.rules.proofs.Continues.{Makes, frames_pos, segs_in, segs_out}
 use Rattle.rules.proofs.Sizes.{Sizes}
@@ -140,7 +140,7 @@ module _ (p : Params) (z : Sizes p) (b : Board) (t : Tables p b) (r : ℕ) (regi
   unnamed = no_block p z b t r v region low (frames_pos p z) lacks
 
   pub open_makes : Makes p b r (opens v)
-  unfolding plan_vBlock plan_block plan_frame room_ops frames_ops victim_ops copies follow_ct replay_chip plan_bst clean
+  unfolding plan_vblock plan_block plan_frame room_ops frames_ops victim_ops copies follow_ct replay_chip plan_bst clean
   open_makes =
       record {
         room =

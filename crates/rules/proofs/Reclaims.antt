@@ -15,7 +15,7 @@ use Rattle.rules.specs.Tables.{Board, bst_at, bt_at, bt_entry, ct_at, none}
 use Rattle.rules.specs.Pages.{block, held}
 use Rattle.rules.specs.Regions.{assigned, valid_frames, view}
 use Rattle.rules.specs.Traces.{Op, clean, erase, erase_ops, erased_state, frames_ops, mark, replay_chip, worn}
-use Rattle.rules.specs.Write.{copies, victim_ops, free_block, has_room, plan_block, plan_bst, plan_frame, plan_vBlock, reclaims, room_ops}
+use Rattle.rules.specs.Write.{copies, victim_ops, free_block, has_room, plan_block, plan_bst, plan_frame, plan_vblock, reclaims, room_ops}
 use Rattle.rules.specs.Machine.{follow, put_frames, with_room}
 use Rattle.rules.proofs.Chip.{clean_append, replay_append}
 use Rattle.rules.proofs.Continues.{Makes, MakesOn, segs_in, segs_out}
@@ -116,7 +116,7 @@ module _ (p : Params) (z : Sizes p) (b : Board) (t₀ : Tables p b) (r : ℕ) (r
       (wear_out_clean p z _ (bt_at p b.bt r v) old_fits b.wear)
 
   pub gone_makes : (t : Bool) → MakesOn p b r (reclaims v) (gone_chip t) (gone_bst t) t
-  unfolding plan_vBlock plan_block plan_frame
+  unfolding plan_vblock plan_block plan_frame
   gone_makes t =
       record {
         room =
@@ -152,4 +152,4 @@ module _ (p : Params) (z : Sizes p) (b : Board) (t₀ : Tables p b) (r : ℕ) (r
       }
 
   pub reclaim_makes : Makes p b r (reclaims v)
-  reclaim_makes = unfold room_ops victim_ops plan_block plan_bst erase_ops erased_state plan_vBlock in gone_makes (worn p b.wear (bt_at p b.bt r v))
+  reclaim_makes = unfold room_ops victim_ops plan_block plan_bst erase_ops erased_state plan_vblock in gone_makes (worn p b.wear (bt_at p b.bt r v))

@@ -32,7 +32,7 @@ use Rattle.rules.specs.Write.{
   plan_frame,
   plan_of,
   plan_ops,
-  plan_vBlock,
+  plan_vblock,
   reclaims,
   room_ops,
   takes_block,
@@ -113,7 +113,7 @@ unfolding plan_ops room_ops
 counts p b r q pl =
     let a = frames_programs p (plan_block p b r pl) 0 (copies p (view p b r) pl) in
     let e = erase_counts p b r pl in
-    let f = frame_programs p (plan_block p b r pl) (plan_frame p (view p b r) pl) (new_frame p (view p b r) q (next_stamp b r) (plan_vBlock pl)) p.alpha in
+    let f = frame_programs p (plan_block p b r pl) (plan_frame p (view p b r) pl) (new_frame p (view p b r) q (next_stamp b r) (plan_vblock pl)) p.alpha in
     (simp (programs_append, a.0, e.0, f.0) (omega arith), simp (erases_append, a.1, e.1, f.1) (omega arith))
 
 pub copies_few : (p : Params) (vw : View) (pl : Plan) → length (copies p vw pl) ≤ plan_frame p vw pl

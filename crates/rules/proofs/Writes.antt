@@ -23,7 +23,7 @@ use Rattle.rules.specs.Orderly.{orderly, stamp_rule}
 use Rattle.rules.specs.Marks.{marks_of}
 use Rattle.rules.specs.Traces.{Op, clean, erase, mark, on_wear, program, replay_chip, replay_wear, worn}
 use Rattle.rules.specs.Format.{bad}
-use Rattle.rules.specs.Write.{Plan, copies, follow_ct, new_frame, new_sector, next_stamp, plan_block, plan_frame, plan_ops, plan_vBlock, room_ops, written_by}
+use Rattle.rules.specs.Write.{Plan, copies, follow_ct, new_frame, new_sector, next_stamp, plan_block, plan_frame, plan_ops, plan_vblock, room_ops, written_by}
 use Rattle.rules.specs.Requests.{Request, request_cluster, request_region}
 use Rattle.rules.specs.Machine.{with_frame, with_room}
 use Rattle.rules.proofs.Admitted.{Admitted, orderly_all}
@@ -74,15 +74,15 @@ module _ (p : Params) (b : Board) (q : Request) (acc : Admitted p b q) (r : ℕ)
   sized_r : (v : ℕ) → v < p.gamma → assigned (view p b r) v ≡ true → length ((view p b r).body v) ≡ block_bytes p
   sized_r v h a = body_size p acc.sized b acc.tables r v region h a
 
-  pub sheet : Sheet p (plan_vBlock pl) (request_cluster p q) (new_frame p (view p b r) q (next_stamp b r) (plan_vBlock pl))
-  sheet = host_sheet p acc.sized (view p b r) sized_r q acc.asked (neat_r.entries (request_cluster p q) acc.asked.cluster) (next_stamp b r) (plan_vBlock pl) left
+  pub sheet : Sheet p (plan_vblock pl) (request_cluster p q) (new_frame p (view p b r) q (next_stamp b r) (plan_vblock pl))
+  sheet = host_sheet p acc.sized (view p b r) sized_r q acc.asked (neat_r.entries (request_cluster p q) acc.asked.cluster) (next_stamp b r) (plan_vblock pl) left
 
   pub sheet_is : sheet.stamp ≡ next_stamp b r
   unfolding sheet
-  sheet_is = host_stamp p acc.sized (view p b r) sized_r q acc.asked (neat_r.entries (request_cluster p q) acc.asked.cluster) (next_stamp b r) (plan_vBlock pl) left
+  sheet_is = host_stamp p acc.sized (view p b r) sized_r q acc.asked (neat_r.entries (request_cluster p q) acc.asked.cluster) (next_stamp b r) (plan_vblock pl) left
 
-  put : Put p b (written_by p b r q pl) r (plan_vBlock pl) (plan_block p b r pl) (plan_frame p (view p b r) pl) (request_cluster p q) (new_frame p (view p b r) q (next_stamp b r) (plan_vBlock pl))
-      (replay_chip p b.chip (room_ops p b r pl)) (follow_ct p (plan_vBlock pl) 0 (copies p (view p b r) pl) b.ct)
+  put : Put p b (written_by p b r q pl) r (plan_vblock pl) (plan_block p b r pl) (plan_frame p (view p b r) pl) (request_cluster p q) (new_frame p (view p b r) q (next_stamp b r) (plan_vblock pl))
+      (replay_chip p b.chip (room_ops p b r pl)) (follow_ct p (plan_vblock pl) 0 (copies p (view p b r) pl) b.ct)
   unfolding written_by plan_ops
   put = record { chip = replay_append p b.chip (room_ops p b r pl) _; ct = refl; bt = refl; fst = refl }
 
@@ -91,28 +91,28 @@ module _ (p : Params) (b : Board) (q : Request) (acc : Admitted p b q) (r : ℕ)
   unfolding plan_ops
   write_clean =
       clean_append p b.chip (room_ops p b r pl) _ makes.tidy
-      (host_clean p acc.sized b (written_by p b r q pl) acc.tables r (plan_vBlock pl) (plan_block p b r pl) (plan_frame p (view p b r) pl) (request_cluster p q) (new_frame p (view p b r) q (next_stamp b r) (plan_vBlock pl))
+      (host_clean p acc.sized b (written_by p b r q pl) acc.tables r (plan_vblock pl) (plan_block p b r pl) (plan_frame p (view p b r) pl) (request_cluster p q) (new_frame p (view p b r) q (next_stamp b r) (plan_vblock pl))
       _ _ (with_room p (view p b r) pl) makes.room put region acc.asked.cluster is makes.base.ready sheet)
 
-  effect : Effect p b (written_by p b r q pl) r (plan_vBlock pl) (plan_block p b r pl)
-      (with_frame p (with_room p (view p b r) pl) (plan_vBlock pl) (plan_frame p (view p b r) pl) (request_cluster p q) (new_frame p (view p b r) q (next_stamp b r) (plan_vBlock pl)))
+  effect : Effect p b (written_by p b r q pl) r (plan_vblock pl) (plan_block p b r pl)
+      (with_frame p (with_room p (view p b r) pl) (plan_vblock pl) (plan_frame p (view p b r) pl) (request_cluster p q) (new_frame p (view p b r) q (next_stamp b r) (plan_vblock pl)))
   effect =
-      write_effect p acc.sized b (written_by p b r q pl) acc.tables r (plan_vBlock pl) (plan_block p b r pl) (plan_frame p (view p b r) pl) (request_cluster p q) (new_frame p (view p b r) q (next_stamp b r) (plan_vBlock pl))
+      write_effect p acc.sized b (written_by p b r q pl) acc.tables r (plan_vblock pl) (plan_block p b r pl) (plan_frame p (view p b r) pl) (request_cluster p q) (new_frame p (view p b r) q (next_stamp b r) (plan_vblock pl))
       _ _ (with_room p (view p b r) pl) makes.room put region acc.asked.cluster is makes.base.ready sheet
 
   -- (I) another region's view is what it was, and its own depends on its own alone
   pub others_same : (r' : ℕ) → r' < p.mu → (r' ≡ r → ⊥) → view p (written_by p b r q pl) r' ≡ view p b r'
-  others_same r' h ne = others_view p b (written_by p b r q pl) r (plan_vBlock pl) (plan_block p b r pl) _ makes.base.ready.mine region effect r' h ne
+  others_same r' h ne = others_view p b (written_by p b r q pl) r (plan_vblock pl) (plan_block p b r pl) _ makes.base.ready.mine region effect r' h ne
 
-  pub own_is : view p (written_by p b r q pl) r ≡ with_frame p (with_room p (view p b r) pl) (plan_vBlock pl) (plan_frame p (view p b r) pl) (request_cluster p q) (new_frame p (view p b r) q (next_stamp b r) (plan_vBlock pl))
-  own_is = own_view p b (written_by p b r q pl) r (plan_vBlock pl) (plan_block p b r pl) _ makes.base.ready.mine region effect
+  pub own_is : view p (written_by p b r q pl) r ≡ with_frame p (with_room p (view p b r) pl) (plan_vblock pl) (plan_frame p (view p b r) pl) (request_cluster p q) (new_frame p (view p b r) q (next_stamp b r) (plan_vblock pl))
+  own_is = own_view p b (written_by p b r q pl) r (plan_vblock pl) (plan_block p b r pl) _ makes.base.ready.mine region effect
 
   -- (R) the sectors of the request read as given, the others as before
   here_in : (j : ℕ) → j < p.alpha → sector p (written_by p b r q pl) (request_cluster p q) j ≡ new_sector p (view p b r) q j
   unfolding sector
   here_in j h =
-      rw (is, own_is) (read_new p acc.sized (with_room p (view p b r) pl) (plan_vBlock pl) (plan_frame p (view p b r) pl) (request_cluster p q) (new_frame p (view p b r) q (next_stamp b r) (plan_vBlock pl)) makes.base.ready sheet j
-      ∙ data_new p acc.sized (view p b r) sized_r q acc.asked (neat_r.entries (request_cluster p q) acc.asked.cluster) (next_stamp b r) (plan_vBlock pl) j h)
+      rw (is, own_is) (read_new p acc.sized (with_room p (view p b r) pl) (plan_vblock pl) (plan_frame p (view p b r) pl) (request_cluster p q) (new_frame p (view p b r) q (next_stamp b r) (plan_vblock pl)) makes.base.ready sheet j
+      ∙ data_new p acc.sized (view p b r) sized_r q acc.asked (neat_r.entries (request_cluster p q) acc.asked.cluster) (next_stamp b r) (plan_vblock pl) j h)
 
   pub reads_given : (j : ℕ) → sector_of p q.lba ≤ j → j < sector_of p q.lba + q.count
       → sector p (written_by p b r q pl) (request_cluster p q) j ≡ part p.s (j - sector_of p q.lba) q.bytes
@@ -135,7 +135,7 @@ module _ (p : Params) (b : Board) (q : Request) (acc : Admitted p b q) (r : ℕ)
     where
       go : Dec (region_of p c ≡ r) → sector_in p (view p (written_by p b r q pl) (region_of p c)) c j ≡ sector_in p (view p b (region_of p c)) c j
       go (yes e) =
-          rw (e, own_is) (read_old p acc.sized (with_room p (view p b r) pl) (plan_vBlock pl) (plan_frame p (view p b r) pl) (request_cluster p q) (new_frame p (view p b r) q (next_stamp b r) (plan_vBlock pl))
+          rw (e, own_is) (read_old p acc.sized (with_room p (view p b r) pl) (plan_vblock pl) (plan_frame p (view p b r) pl) (request_cluster p q) (new_frame p (view p b r) q (next_stamp b r) (plan_vblock pl))
           makes.base.ready sheet c ne (named_in c h) j
           ∙ makes.reads c h j)
       go (no e) = rw (others_same (region_of p c) (mod-lt c acc.sized.regions) e)
@@ -160,15 +160,15 @@ module _ (p : Params) (b : Board) (q : Request) (acc : Admitted p b q) (r : ℕ)
   -- (P) an orderly state is left
   else_block : (m : ℕ) → (m ≡ plan_block p b r pl → ⊥) → block p (written_by p b r q pl).chip m ≡ block p (replay_chip p b.chip (room_ops p b r pl)) m
   else_block =
-      block_else_lem p acc.sized b (written_by p b r q pl) acc.tables r (plan_vBlock pl) (plan_block p b r pl) (plan_frame p (view p b r) pl) (request_cluster p q) (new_frame p (view p b r) q (next_stamp b r) (plan_vBlock pl))
+      block_else_lem p acc.sized b (written_by p b r q pl) acc.tables r (plan_vblock pl) (plan_block p b r pl) (plan_frame p (view p b r) pl) (request_cluster p q) (new_frame p (view p b r) q (next_stamp b r) (plan_vblock pl))
       _ _ (with_room p (view p b r) pl) makes.room put region acc.asked.cluster is makes.base.ready sheet
 
   size_chip : length (written_by p b r q pl).chip ≡ p.N * block_bytes p
   size_chip =
-      chip_length_lem p acc.sized b (written_by p b r q pl) acc.tables r (plan_vBlock pl) (plan_block p b r pl) (plan_frame p (view p b r) pl) (request_cluster p q) (new_frame p (view p b r) q (next_stamp b r) (plan_vBlock pl))
+      chip_length_lem p acc.sized b (written_by p b r q pl) acc.tables r (plan_vblock pl) (plan_block p b r pl) (plan_frame p (view p b r) pl) (request_cluster p q) (new_frame p (view p b r) q (next_stamp b r) (plan_vblock pl))
       _ _ (with_room p (view p b r) pl) makes.room put region acc.asked.cluster is makes.base.ready sheet
 
-  change : Change p b (written_by p b r q pl) (r * p.gamma + plan_vBlock pl) (plan_block p b r pl)
+  change : Change p b (written_by p b r q pl) (r * p.gamma + plan_vblock pl) (plan_block p b r pl)
   unfolding written_by bt_at bt_entry bst_at
   change =
       record {
@@ -179,7 +179,7 @@ module _ (p : Params) (b : Board) (q : Request) (acc : Admitted p b q) (r : ℕ)
         bst_length = makes.bst_length;
         wear_length = wear_length_lem b.wear (plan_ops p b r q pl) ∙ acc.tables.wear_length;
         stamps_length = length-set b.stamps r _ ∙ acc.tables.stamps_length;
-        index = index_low p r (plan_vBlock pl) region makes.base.ready.mine;
+        index = index_low p r (plan_vblock pl) region makes.base.ready.mine;
         low = makes.room.low;
         entry_else = effect.entry_else;
         entry_here = effect.entry_here;
@@ -187,7 +187,7 @@ module _ (p : Params) (b : Board) (q : Request) (acc : Admitted p b q) (r : ℕ)
         was = makes.was;
         kind_here = makes.kind_here;
         kind_old = makes.kind_old;
-        worn_out = worn p b.wear (bt_at p b.bt r (plan_vBlock pl));
+        worn_out = worn p b.wear (bt_at p b.bt r (plan_vblock pl));
         block_old = λ ne k. else_block _ ne ∙ makes.block_old ne k;
         kind_else = makes.kind_else;
         block_else = λ m h ne k. else_block m ne ∙ makes.block_else m h ne k;
@@ -201,7 +201,7 @@ module _ (p : Params) (b : Board) (q : Request) (acc : Admitted p b q) (r : ℕ)
   write_stays = reserved_stays p acc.sized b (written_by p b r q pl) acc.tables _ _ change
 
   pub write_reserves : (m : ℕ) → m < p.N → bst_at (written_by p b r q pl).bst m ≡ 2
-      → (bst_at b.bst m ≡ 2) ⊎ ((m ≡ bt_at p b.bt r (plan_vBlock pl)) × (worn p b.wear (bt_at p b.bt r (plan_vBlock pl)) ≡ true) × (m ≡ plan_block p b r pl → ⊥))
+      → (bst_at b.bst m ≡ 2) ⊎ ((m ≡ bt_at p b.bt r (plan_vblock pl)) × (worn p b.wear (bt_at p b.bt r (plan_vblock pl)) ≡ true) × (m ≡ plan_block p b r pl → ⊥))
   unfolding bt_at change
   write_reserves = reserved_new p acc.sized b (written_by p b r q pl) acc.tables _ _ change
 
@@ -224,7 +224,7 @@ module _ (p : Params) (b : Board) (q : Request) (acc : Admitted p b q) (r : ℕ)
       go : (r' : ℕ) → r' < p.mu → Dec (r' ≡ r) → Bounded p (view p (written_by p b r q pl) r') (stamp_at (written_by p b r q pl).stamps r')
       go r' h (yes e) =
           rw (e, own_is, here)
-          (put_bounded p acc.sized (with_room p (view p b r) pl) (plan_vBlock pl) (plan_frame p (view p b r) pl) (request_cluster p q) _ makes.base.ready sheet
+          (put_bounded p acc.sized (with_room p (view p b r) pl) (plan_vblock pl) (plan_frame p (view p b r) pl) (request_cluster p q) _ makes.base.ready sheet
           (stamp_at b.stamps r) (sheet_is ∙ unfold next_stamp in refl)
           (stood_bounded p (view p b r) (with_room p (view p b r) pl) (stamp_at b.stamps r) makes.stood (acc.stamped r region)))
       go r' h (no e) = rw (others_same r' h e, else r' e) (acc.stamped r' h)
@@ -233,6 +233,6 @@ module _ (p : Params) (b : Board) (q : Request) (acc : Admitted p b q) (r : ℕ)
   write_orderly = orderly_all p (written_by p b r q pl) acc.sized tables_after (λ r' h. go r' h (ℕ_discrete r' r)) (write_marks p b r q pl) write_stamps
     where
       go : (r' : ℕ) → r' < p.mu → Dec (r' ≡ r) → region_orderly p r' (view p (written_by p b r q pl) r') ≡ true
-      go r' h (yes e) = rw (e, own_is) (put_orderly p acc.sized r (with_room p (view p b r) pl) (plan_vBlock pl) (plan_frame p (view p b r) pl) (request_cluster p q)
-          (new_frame p (view p b r) q (next_stamp b r) (plan_vBlock pl)) makes.base sheet acc.asked.cluster is)
+      go r' h (yes e) = rw (e, own_is) (put_orderly p acc.sized r (with_room p (view p b r) pl) (plan_vblock pl) (plan_frame p (view p b r) pl) (request_cluster p q)
+          (new_frame p (view p b r) q (next_stamp b r) (plan_vblock pl)) makes.base sheet acc.asked.cluster is)
       go r' h (no e) = rw (others_same r' h e) (acc.tidy r' h)

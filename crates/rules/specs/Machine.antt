@@ -11,7 +11,7 @@ use Rattle.rules.specs.Tables.{none}
 use Rattle.rules.specs.Pages.{held}
 use Rattle.rules.specs.Regions.{View}
 use Rattle.rules.specs.Requests.{Request, request_cluster}
-use Rattle.rules.specs.Write.{Plan, continues, opens, reclaims, copies, new_frame, plan_frame, plan_of, plan_vBlock}
+use Rattle.rules.specs.Write.{Plan, continues, opens, reclaims, copies, new_frame, plan_frame, plan_of, plan_vblock}
 
 -- ---- after a write
 
@@ -49,7 +49,7 @@ with_frame p vw v f c x =
 unfoldable pub view_after : Params → View → ℕ → Request → View
 view_after p vw t q =
     let pl = plan_of p vw in
-    with_frame p (with_room p vw pl) (plan_vBlock pl) (plan_frame p vw pl) (request_cluster p q) (new_frame p vw q t (plan_vBlock pl))
+    with_frame p (with_room p vw pl) (plan_vblock pl) (plan_frame p vw pl) (request_cluster p q) (new_frame p vw q t (plan_vblock pl))
 
 -- ---- after a release
 

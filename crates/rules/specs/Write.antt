@@ -43,10 +43,10 @@ plan_of p vw =
     cond (has_room p vw) (continues o (filled p (vw.body o))) (cond (eqb v not_found) (reclaims (victim p vw)) (opens v))
 
 -- the plan's virtual block
-unfoldable pub plan_vBlock : Plan → ℕ
-plan_vBlock (continues v f) = v
-plan_vBlock (opens v) = v
-plan_vBlock (reclaims v) = v
+unfoldable pub plan_vblock : Plan → ℕ
+plan_vblock (continues v f) = v
+plan_vblock (opens v) = v
+plan_vblock (reclaims v) = v
 
 -- the plan takes a free block
 unfoldable pub takes_block : Plan → Bool
@@ -117,7 +117,7 @@ next_stamp b r = stamp_at b.stamps r + 1
 unfoldable pub plan_ops : Params → Board → ℕ → Request → Plan → List Op
 plan_ops p b r q pl =
     let vw = view p b r in
-    room_ops p b r pl ++ frame_ops p (plan_block p b r pl) (plan_frame p vw pl) (new_frame p vw q (next_stamp b r) (plan_vBlock pl)) p.alpha
+    room_ops p b r pl ++ frame_ops p (plan_block p b r pl) (plan_frame p vw pl) (new_frame p vw q (next_stamp b r) (plan_vblock pl)) p.alpha
 
 -- "CT follows each" copy, on the table
 unfoldable pub follow_ct : Params → ℕ → ℕ → List (List ℕ) → List ℕ → List ℕ
@@ -136,11 +136,11 @@ plan_bst p b r (reclaims v) =
 unfoldable pub written_by : Params → Board → ℕ → Request → Plan → Board
 written_by p b r q pl =
     let vw = view p b r in
-    let sg = segment_of p (plan_vBlock pl) (plan_frame p vw pl) in
+    let sg = segment_of p (plan_vblock pl) (plan_frame p vw pl) in
     finish p b (plan_ops p b r q pl)
     (record {
-      ct = set (follow_ct p (plan_vBlock pl) 0 (copies p vw pl) b.ct) (request_cluster p q) sg;
-      bt = set b.bt (r * p.gamma + plan_vBlock pl) (plan_block p b r pl);
+      ct = set (follow_ct p (plan_vblock pl) 0 (copies p vw pl) b.ct) (request_cluster p q) sg;
+      bt = set b.bt (r * p.gamma + plan_vblock pl) (plan_block p b r pl);
       fst = set b.fst r sg;
       bst = plan_bst p b r pl;
       stamps = set b.stamps r (next_stamp b r);

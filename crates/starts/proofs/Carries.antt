@@ -8,7 +8,7 @@ use Rattle.rules.specs.declared.Params.{Params}
 use Rattle.rules.specs.Tables.{Board, none}
 use Rattle.rules.specs.Pages.{frame}
 use Rattle.rules.specs.Regions.{View, view}
-use Rattle.rules.specs.Write.{Plan, plan_frame, plan_vBlock}
+use Rattle.rules.specs.Write.{Plan, plan_frame, plan_vblock}
 use Rattle.rules.specs.Machine.{with_room}
 use Rattle.rules.proofs.Continues.{MakesOn}
 use Rattle.rules.proofs.Opens.{seg_same}
@@ -30,7 +30,7 @@ pub record Carries (p : Params) (vw vw₁ : View) : Type 0 where
 module _ (p : Params) (z : Sizes p) (b : Board) (t : Tables p b) (r : ℕ) (region : r < p.mu) (nt : Neat p r (view p b r)) (pl : Plan) (case : Case p (view p b r) pl)
     (chip₁ bst₁ : List ℕ) (worn₁ : Bool) (makes : MakesOn p b r pl chip₁ bst₁ worn₁) where
   pub room_fronts : Fronts p r (with_room p (view p b r) pl)
-  room_fronts = base_fronts p z r (with_room p (view p b r) pl) (plan_vBlock pl) (plan_frame p (view p b r) pl) makes.base
+  room_fronts = base_fronts p z r (with_room p (view p b r) pl) (plan_vblock pl) (plan_frame p (view p b r) pl) makes.base
 
   -- a whole frame is programmed, and those that are stood before
   back : (c u g : ℕ) → WholeAt p (with_room p (view p b r) pl) c u g

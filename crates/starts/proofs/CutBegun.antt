@@ -24,7 +24,7 @@ use Rattle.rules.specs.Write.{
   plan_block,
   plan_bst,
   plan_frame,
-  plan_vBlock,
+  plan_vblock,
   room_ops,
 }
 use Rattle.rules.specs.Machine.{with_room}
@@ -59,10 +59,10 @@ module _ (p : Params) (b : Board) (st : Stands p b) (q : Request) where
     room_chip = replay_chip p b.chip (room_ops p b r pl)
 
     abbrev body : List ℕ
-    body = (with_room p (view p b r) pl).body (plan_vBlock pl)
+    body = (with_room p (view p b r) pl).body (plan_vblock pl)
 
     abbrev new : List ℕ
-    new = new_frame p (view p b r) q (next_stamp b r) (plan_vBlock pl)
+    new = new_frame p (view p b r) q (next_stamp b r) (plan_vblock pl)
 
     abbrev at : ℕ
     at = plan_frame p (view p b r) pl
@@ -70,7 +70,7 @@ module _ (p : Params) (b : Board) (st : Stands p b) (q : Request) where
     abbrev begun : List ℕ
     begun = begun_frame p new (frame p body at) m
 
-    the_sheet : Sheet p (plan_vBlock pl) (request_cluster p q) new
+    the_sheet : Sheet p (plan_vblock pl) (request_cluster p q) new
     the_sheet = sheet p b q acc r is pl makes left
 
     fits : plan_block p b r pl * block_bytes p + block_bytes p ≤ length room_chip
@@ -100,13 +100,13 @@ module _ (p : Params) (b : Board) (st : Stands p b) (q : Request) where
     ran : Ran p room_chip (replay_chip p room_chip (frame_ops p (plan_block p b r pl) at new m)) (plan_block p b r pl) (put_part (frame_bytes p) at begun body)
     ran = rw makes.room.here at (begun_ran p room_chip new (plan_block p b r pl) at m fits the_sheet.whole makes.base.ready.low (omega arith))
 
-    upto : UpTo p r (plan_vBlock pl) (suc at) (put_part (frame_bytes p) at begun body)
+    upto : UpTo p r (plan_vblock pl) (suc at) (put_part (frame_bytes p) at begun body)
     upto = record { front = λ g a h. front g a h (ℕ_discrete g at); rest = λ g a h. rw (frame_else g (λ e. omega (arith, a, e))) (makes.base.ready.rest g (omega arith) h) }
       where
-        front : (g : ℕ) → g < suc at → g < frames p → Dec (g ≡ at) → GoodFrame p r (plan_vBlock pl) (frame p (put_part (frame_bytes p) at begun body) g)
+        front : (g : ℕ) → g < suc at → g < frames p → Dec (g ≡ at) → GoodFrame p r (plan_vblock pl) (frame p (put_part (frame_bytes p) at begun body) g)
         front g a h (yes e) =
             rw (e, frame_here)
-            (begun_good p z (plan_vBlock pl) (request_cluster p q) new (frame p body at) m the_sheet old_size old_blank some (omega arith) r acc.asked.cluster is)
+            (begun_good p z (plan_vblock pl) (request_cluster p q) new (frame p body at) m the_sheet old_size old_blank some (omega arith) r acc.asked.cluster is)
         front g a h (no e) = rw (frame_else g e) (makes.base.front.front g (omega arith) h)
 
     like : (g : ℕ) → g < frames p → Alike p (frame p body g) (frame p (put_part (frame_bytes p) at begun body) g)
@@ -115,7 +115,7 @@ module _ (p : Params) (b : Board) (st : Stands p b) (q : Request) where
         go : Dec (g ≡ at) → Alike p (frame p body g) (frame p (put_part (frame_bytes p) at begun body) g)
         go (yes e) =
             rw (e, frame_here) (neither (λ c. erased_holds p (frame p body at) c old_blank)
-            (λ c. begun_none p z (plan_vBlock pl) (request_cluster p q) new (frame p body at) m the_sheet old_size old_blank some (omega arith) part c))
+            (λ c. begun_none p z (plan_vblock pl) (request_cluster p q) new (frame p body at) m the_sheet old_size old_blank some (omega arith) part c))
         go (no e) = equal (frame_else g e)
 
     pub begun_form : ReadsOld p b (replay_chip p room_chip (frame_ops p (plan_block p b r pl) at new m))

@@ -22,7 +22,7 @@ use Rattle.rules.specs.Pages.{filled, frame}
 use Rattle.rules.specs.Regions.{assigned, valid_frames, view}
 use Rattle.rules.specs.Format.{bad}
 use Rattle.rules.specs.Traces.{Op, erase, erase_ops, frames_ops, mark, replay_chip, worn}
-use Rattle.rules.specs.Write.{copies, victim_ops, free_block, has_room, plan_block, plan_frame, plan_vBlock, reclaims, room_ops}
+use Rattle.rules.specs.Write.{copies, victim_ops, free_block, has_room, plan_block, plan_frame, plan_vblock, reclaims, room_ops}
 use Rattle.rules.specs.Machine.{follow, with_room}
 use Rattle.rules.proofs.Continues.{MakesOn}
 use Rattle.rules.proofs.Frames.{erased_holds}
@@ -79,9 +79,9 @@ module _ (p : Params) (b : Board) (st : Stands p b) (r : ℕ) (region : r < p.mu
       let makes = made_room t' in
       let k : ℕ = plan_frame p (view p b r) (reclaims v) in
       let pos : 0 < plan_frame p (view p b r) (reclaims v) = unfold plan_frame in some in
-      let blk : List ℕ = (with_room p (view p b r) (reclaims v)).body (plan_vBlock (reclaims v)) in
+      let blk : List ℕ = (with_room p (view p b r) (reclaims v)).body (plan_vblock (reclaims v)) in
       let ran : Ran p (roomed t') (roomed t') (plan_block p b r (reclaims v)) blk = record { here = makes.room.here; else = λ m ne. refl; size = refl } in
-      let upto : UpTo p r (plan_vBlock (reclaims v)) k blk = makes.base.front in
+      let upto : UpTo p r (plan_vblock (reclaims v)) k blk = makes.base.front in
       let most : k ≤ frames p = omega (arith, makes.base.ready.low) in
       reads_old (mid_board p b r (reclaims v) (kinds t') (roomed t')) p.N (mid_steady p z b st r region (reclaims v) case _ _ _ makes (roomed t') blk k ran pos most upto (λ g h. equal refl))
       (mid_shown p z b st r region (reclaims v) case _ _ _ makes (roomed t') blk k ran pos most upto (λ g h. equal refl))
@@ -142,7 +142,7 @@ module _ (p : Params) (b : Board) (st : Stands p b) (r : ℕ) (region : r < p.mu
         → (0 < filled p ((vacant_view p b r v).body u)) × UpTo p r u (filled p ((vacant_view p b r v).body u)) ((vacant_view p b r v).body u)
     blocks u h a = let w = has_was u a in rw (bodies_else u w.0) (nt.blocks u h w.1)
 
-    full : (u : ℕ) → u < p.gamma → assigned (vacant_view p b r v) u ≡ true → (u ≡ plan_vBlock (reclaims v) → ⊥) → filled p ((vacant_view p b r v).body u) ≡ frames p
+    full : (u : ℕ) → u < p.gamma → assigned (vacant_view p b r v) u ≡ true → (u ≡ plan_vblock (reclaims v) → ⊥) → filled p ((vacant_view p b r v).body u) ≡ frames p
     full u h a ne = let w = has_was u a in rw (bodies_else u w.0) (all_full p z r (view p b r) nt no_room_lem u h w.1)
 
     tables₂ : Tables p (vacant_board p b r v t' (roomed t'))

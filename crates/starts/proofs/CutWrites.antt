@@ -27,7 +27,7 @@ use Rattle.rules.specs.Write.{
   plan_frame,
   plan_of,
   plan_ops,
-  plan_vBlock,
+  plan_vblock,
   room_ops,
   takes_block,
   write_ops,
@@ -90,12 +90,12 @@ module _ (p : Params) (b : Board) (st : Stands p b) (q : Request) (ok : reply_of
   plan_form pl is case mk k low = go (dec_lt (length (room_ops p b r₀ pl)) k)
     where
       new : List Op
-      new = frame_ops p (plan_block p b r₀ pl) (plan_frame p (view p b r₀) pl) (new_frame p (view p b r₀) q (next_stamp b r₀) (plan_vBlock pl)) p.alpha
+      new = frame_ops p (plan_block p b r₀ pl) (plan_frame p (view p b r₀) pl) (new_frame p (view p b r₀) q (next_stamp b r₀) (plan_vblock pl)) p.alpha
 
       len : length (room_ops p b r₀ pl ++ new) ≡ length (room_ops p b r₀ pl) + p.alpha
       len =
           length-append (room_ops p b r₀ pl) new
-          ∙ ap (λ (m : ℕ). length (room_ops p b r₀ pl) + m) (frame_length p (plan_block p b r₀ pl) (plan_frame p (view p b r₀) pl) (new_frame p (view p b r₀) q (next_stamp b r₀) (plan_vBlock pl)) p.alpha)
+          ∙ ap (λ (m : ℕ). length (room_ops p b r₀ pl) + m) (frame_length p (plan_block p b r₀ pl) (plan_frame p (view p b r₀) pl) (new_frame p (view p b r₀) q (next_stamp b r₀) (plan_vblock pl)) p.alpha)
 
       go : Dec (length (room_ops p b r₀ pl) < k) → CutForm p b q (replay_chip p b.chip (take k (room_ops p b r₀ pl ++ new)))
       go (no d) =
@@ -113,7 +113,7 @@ module _ (p : Params) (b : Board) (st : Stands p b) (q : Request) (ok : reply_of
               rw (
                 take_append k (room_ops p b r₀ pl) new,
                 all,
-                take_frame p (plan_block p b r₀ pl) (plan_frame p (view p b r₀) pl) (new_frame p (view p b r₀) q (next_stamp b r₀) (plan_vBlock pl)) p.alpha (k - length (room_ops p b r₀ pl)) (omega (arith, low, len)),
+                take_frame p (plan_block p b r₀ pl) (plan_frame p (view p b r₀) pl) (new_frame p (view p b r₀) q (next_stamp b r₀) (plan_vblock pl)) p.alpha (k - length (room_ops p b r₀ pl)) (omega (arith, low, len)),
                 replay_append p b.chip (room_ops p b r₀ pl),
               )
               (before (begun_form p b st q acc r₀ refl region₀ pl case mk (stamp_left p b q ok) (k - length (room_ops p b r₀ pl)) (omega arith) (omega (arith, low, len))))

@@ -19,7 +19,7 @@ use Rattle.rules.specs.Pages.{filled, frame}
 use Rattle.rules.specs.Regions.{View, assigned, sector, view, view_of}
 use Rattle.rules.specs.Format.{bad}
 use Rattle.rules.specs.Start.{open_once}
-use Rattle.rules.specs.Write.{Plan, copies, follow_ct, plan_block, plan_vBlock}
+use Rattle.rules.specs.Write.{Plan, copies, follow_ct, plan_block, plan_vblock}
 use Rattle.rules.specs.Machine.{with_room}
 use Rattle.rules.proofs.Continues.{MakesOn}
 use Rattle.rules.proofs.Isolation.{Effect, index_low, others_view, own_view}
@@ -56,7 +56,7 @@ module _ (p : Params) (z : Sizes p) (b : Board) (st : Stands p b) (r : ℕ) (reg
       (segs : (c : ℕ) → vw'.seg_of c ≡ (with_room p (view p b r) pl).seg_of c)
       (alike : (u g : ℕ) → u < p.gamma → g < frames p → Alike p (frame p ((with_room p (view p b r) pl).body u) g) (frame p (vw'.body u) g))
       (blocks : (u : ℕ) → u < p.gamma → assigned vw' u ≡ true → (0 < filled p (vw'.body u)) × UpTo p r u (filled p (vw'.body u)) (vw'.body u))
-      (full : (u : ℕ) → u < p.gamma → assigned vw' u ≡ true → (u ≡ plan_vBlock pl → ⊥) → filled p (vw'.body u) ≡ frames p) where
+      (full : (u : ℕ) → u < p.gamma → assigned vw' u ≡ true → (u ≡ plan_vblock pl → ⊥) → filled p (vw'.body u) ≡ frames p) where
     pub settled : Steady p b'
     settled =
         record {
@@ -77,7 +77,7 @@ module _ (p : Params) (z : Sizes p) (b : Board) (st : Stands p b) (r : ℕ) (reg
         blocks_at r' h (no e) = rw (others r' h e) (λ v. old.blocks r' v h)
 
         once_at : (r' : ℕ) → r' < p.mu → Dec (r' ≡ r) → open_once p (view p b' r') ≡ true
-        once_at r' h (yes e) = rw (e, own) (one_open p vw' (plan_vBlock pl) full)
+        once_at r' h (yes e) = rw (e, own) (one_open p vw' (plan_vblock pl) full)
         once_at r' h (no e) = rw (others r' h e) (old.once r' h)
 
         entries_at : (r' : ℕ) → r' < p.mu → Dec (r' ≡ r) → (c : ℕ) → c < p.C → ((view p b' r').seg_of c ≡ none) ⊎ Entry p (view p b' r') c
@@ -110,8 +110,8 @@ unfoldable pub mid_board : Params → Board → ℕ → Plan → List ℕ → Li
 mid_board p b r pl bst chip =
     record {
       chip = chip;
-      ct = follow_ct p (plan_vBlock pl) 0 (copies p (view p b r) pl) b.ct;
-      bt = set b.bt (r * p.gamma + plan_vBlock pl) (plan_block p b r pl);
+      ct = follow_ct p (plan_vblock pl) 0 (copies p (view p b r) pl) b.ct;
+      bt = set b.bt (r * p.gamma + plan_vblock pl) (plan_block p b r pl);
       fst = b.fst;
       bst = bst;
       wear = b.wear;
@@ -120,26 +120,26 @@ mid_board p b r pl bst chip =
     }
 
 unfoldable pub mid_view : Params → Board → ℕ → Plan → List ℕ → View
-mid_view p b r pl blk = record { seg_of = (with_room p (view p b r) pl).seg_of; last_seg = (view p b r).last_seg; body = updated (with_room p (view p b r) pl).body (plan_vBlock pl) blk }
+mid_view p b r pl blk = record { seg_of = (with_room p (view p b r) pl).seg_of; last_seg = (view p b r).last_seg; body = updated (with_room p (view p b r) pl).body (plan_vblock pl) blk }
 
 module _ (p : Params) (z : Sizes p) (b : Board) (st : Stands p b) (r : ℕ) (region : r < p.mu) (pl : Plan) (case : Case p (view p b r) pl)
-    (chip₁ bst₁ : List ℕ) (worn₁ : Bool) (makes : MakesOn p b r pl chip₁ bst₁ worn₁) (chip' blk : List ℕ) (k : ℕ) (ran : Ran p chip₁ chip' (plan_block p b r pl) blk) (some : 0 < k) (most : k ≤ frames p) (upto : UpTo p r (plan_vBlock pl) k blk)
-    (like : (g : ℕ) → g < frames p → Alike p (frame p ((with_room p (view p b r) pl).body (plan_vBlock pl)) g) (frame p blk g)) where
+    (chip₁ bst₁ : List ℕ) (worn₁ : Bool) (makes : MakesOn p b r pl chip₁ bst₁ worn₁) (chip' blk : List ℕ) (k : ℕ) (ran : Ran p chip₁ chip' (plan_block p b r pl) blk) (some : 0 < k) (most : k ≤ frames p) (upto : UpTo p r (plan_vblock pl) k blk)
+    (like : (g : ℕ) → g < frames p → Alike p (frame p ((with_room p (view p b r) pl).body (plan_vblock pl)) g) (frame p blk g)) where
   t₂ : Tables p b
   t₂ = stands_tables p b st
 
-  at_index : r * p.gamma + plan_vBlock pl < length b.bt
-  at_index = rw t₂.bt_length (index_low p r (plan_vBlock pl) region makes.base.ready.mine)
+  at_index : r * p.gamma + plan_vblock pl < length b.bt
+  at_index = rw t₂.bt_length (index_low p r (plan_vblock pl) region makes.base.ready.mine)
 
-  entry_else_lem : (i : ℕ) → (i ≡ r * p.gamma + plan_vBlock pl → ⊥) → bt_entry (mid_board p b r pl bst₁ chip').bt i ≡ bt_entry b.bt i
+  entry_else_lem : (i : ℕ) → (i ≡ r * p.gamma + plan_vblock pl → ⊥) → bt_entry (mid_board p b r pl bst₁ chip').bt i ≡ bt_entry b.bt i
   unfolding bt_entry mid_board
-  entry_else_lem i ne = get_or-set_other b.bt (r * p.gamma + plan_vBlock pl) i (plan_block p b r pl) none ne
+  entry_else_lem i ne = get_or-set_other b.bt (r * p.gamma + plan_vblock pl) i (plan_block p b r pl) none ne
 
-  entry_here_lem : bt_entry (mid_board p b r pl bst₁ chip').bt (r * p.gamma + plan_vBlock pl) ≡ plan_block p b r pl
+  entry_here_lem : bt_entry (mid_board p b r pl bst₁ chip').bt (r * p.gamma + plan_vblock pl) ≡ plan_block p b r pl
   unfolding bt_entry mid_board
-  entry_here_lem = get_or-set_same b.bt (r * p.gamma + plan_vBlock pl) (plan_block p b r pl) none at_index
+  entry_here_lem = get_or-set_same b.bt (r * p.gamma + plan_vblock pl) (plan_block p b r pl) none at_index
 
-  mid_effect : Effect p b (mid_board p b r pl bst₁ chip') r (plan_vBlock pl) (plan_block p b r pl) (mid_view p b r pl blk)
+  mid_effect : Effect p b (mid_board p b r pl bst₁ chip') r (plan_vblock pl) (plan_block p b r pl) (mid_view p b r pl blk)
   unfolding mid_board mid_view
   mid_effect =
       record {
@@ -151,12 +151,12 @@ module _ (p : Params) (z : Sizes p) (b : Board) (st : Stands p b) (r : ℕ) (reg
         entry_else = entry_else_lem;
         entry_here = entry_here_lem;
         taken = makes.room.taken;
-        body_else = λ u ne. updated_other _ (plan_vBlock pl) blk u ne ∙ makes.room.body_else u ne;
-        body_here = ran.here ∙ sym (updated_same _ (plan_vBlock pl) blk);
+        body_else = λ u ne. updated_other _ (plan_vblock pl) blk u ne ∙ makes.room.body_else u ne;
+        body_here = ran.here ∙ sym (updated_same _ (plan_vblock pl) blk);
         block_else = λ i h ne x. ran.else (bt_entry b.bt i) (makes.room.own i h ne x) ∙ makes.room.block_else i h ne x;
       }
 
-  mid_change : Change p b (mid_board p b r pl bst₁ chip') (r * p.gamma + plan_vBlock pl) (plan_block p b r pl)
+  mid_change : Change p b (mid_board p b r pl bst₁ chip') (r * p.gamma + plan_vblock pl) (plan_block p b r pl)
   unfolding mid_board bt_at bt_entry bst_at
   mid_change =
       record {
@@ -167,7 +167,7 @@ module _ (p : Params) (z : Sizes p) (b : Board) (st : Stands p b) (r : ℕ) (reg
         bst_length = makes.bst_length;
         wear_length = t₂.wear_length;
         stamps_length = t₂.stamps_length;
-        index = index_low p r (plan_vBlock pl) region makes.base.ready.mine;
+        index = index_low p r (plan_vblock pl) region makes.base.ready.mine;
         low = makes.room.low;
         entry_else = entry_else_lem;
         entry_here = entry_here_lem;
@@ -187,34 +187,34 @@ module _ (p : Params) (z : Sizes p) (b : Board) (st : Stands p b) (r : ℕ) (reg
   mid_marked : (n : ℕ) → n < p.N → bst_at (mid_board p b r pl bst₁ chip').bst n ≡ 2 → bad p (mid_board p b r pl bst₁ chip').chip n ≡ true
   mid_marked n h e = reserved_bad p z b (mid_board p b r pl bst₁ chip') t₂ _ _ mid_change n h (st.marked n h) e
 
-  body_here_lem : (mid_view p b r pl blk).body (plan_vBlock pl) ≡ blk
+  body_here_lem : (mid_view p b r pl blk).body (plan_vblock pl) ≡ blk
   unfolding mid_view
-  body_here_lem = updated_same _ (plan_vBlock pl) blk
+  body_here_lem = updated_same _ (plan_vblock pl) blk
 
-  body_else_lem : (u : ℕ) → (u ≡ plan_vBlock pl → ⊥) → (mid_view p b r pl blk).body u ≡ (with_room p (view p b r) pl).body u
+  body_else_lem : (u : ℕ) → (u ≡ plan_vblock pl → ⊥) → (mid_view p b r pl blk).body u ≡ (with_room p (view p b r) pl).body u
   unfolding mid_view
-  body_else_lem u ne = updated_other _ (plan_vBlock pl) blk u ne
+  body_else_lem u ne = updated_other _ (plan_vblock pl) blk u ne
 
   mid_alike : (u g : ℕ) → u < p.gamma → g < frames p → Alike p (frame p ((with_room p (view p b r) pl).body u) g) (frame p ((mid_view p b r pl blk).body u) g)
-  mid_alike u g h l = go (ℕ_discrete u (plan_vBlock pl))
+  mid_alike u g h l = go (ℕ_discrete u (plan_vblock pl))
     where
-      go : Dec (u ≡ plan_vBlock pl) → Alike p (frame p ((with_room p (view p b r) pl).body u) g) (frame p ((mid_view p b r pl blk).body u) g)
+      go : Dec (u ≡ plan_vblock pl) → Alike p (frame p ((with_room p (view p b r) pl).body u) g) (frame p ((mid_view p b r pl blk).body u) g)
       go (yes e) = rw (e, body_here_lem) (like g l)
       go (no e) = equal (ap (λ (y : List ℕ). frame p y g) (body_else_lem u e))
 
-  else_has : (u : ℕ) → (u ≡ plan_vBlock pl → ⊥) → assigned (mid_view p b r pl blk) u ≡ true → assigned (with_room p (view p b r) pl) u ≡ true
+  else_has : (u : ℕ) → (u ≡ plan_vblock pl → ⊥) → assigned (mid_view p b r pl blk) u ≡ true → assigned (with_room p (view p b r) pl) u ≡ true
   unfolding assigned
   else_has u ne a = rw (body_else_lem u ne) at a
 
   mid_blocks : (u : ℕ) → u < p.gamma → assigned (mid_view p b r pl blk) u ≡ true
       → (0 < filled p ((mid_view p b r pl blk).body u)) × UpTo p r u (filled p ((mid_view p b r pl blk).body u)) ((mid_view p b r pl blk).body u)
-  mid_blocks u h a = go (ℕ_discrete u (plan_vBlock pl))
+  mid_blocks u h a = go (ℕ_discrete u (plan_vblock pl))
     where
-      go : Dec (u ≡ plan_vBlock pl) → (0 < filled p ((mid_view p b r pl blk).body u)) × UpTo p r u (filled p ((mid_view p b r pl blk).body u)) ((mid_view p b r pl blk).body u)
-      go (yes e) = rw (e, body_here_lem, up_to_filled p z r (plan_vBlock pl) k blk most upto) (some, upto)
+      go : Dec (u ≡ plan_vblock pl) → (0 < filled p ((mid_view p b r pl blk).body u)) × UpTo p r u (filled p ((mid_view p b r pl blk).body u)) ((mid_view p b r pl blk).body u)
+      go (yes e) = rw (e, body_here_lem, up_to_filled p z r (plan_vblock pl) k blk most upto) (some, upto)
       go (no e) = let w = makes.base.others u h e (else_has u e a) in rw (body_else_lem u e, w.0) (z.some, w.1)
 
-  mid_full : (u : ℕ) → u < p.gamma → assigned (mid_view p b r pl blk) u ≡ true → (u ≡ plan_vBlock pl → ⊥) → filled p ((mid_view p b r pl blk).body u) ≡ frames p
+  mid_full : (u : ℕ) → u < p.gamma → assigned (mid_view p b r pl blk) u ≡ true → (u ≡ plan_vblock pl → ⊥) → filled p ((mid_view p b r pl blk).body u) ≡ frames p
   mid_full u h a ne = rw (body_else_lem u ne) (makes.base.others u h ne (else_has u ne a)).0
 
   mid_segs : (c : ℕ) → (mid_view p b r pl blk).seg_of c ≡ (with_room p (view p b r) pl).seg_of c
@@ -222,10 +222,10 @@ module _ (p : Params) (z : Sizes p) (b : Board) (st : Stands p b) (r : ℕ) (reg
   mid_segs c = refl
 
   mid_own : view p (mid_board p b r pl bst₁ chip') r ≡ mid_view p b r pl blk
-  mid_own = own_view p b (mid_board p b r pl bst₁ chip') r (plan_vBlock pl) (plan_block p b r pl) (mid_view p b r pl blk) makes.base.ready.mine region mid_effect
+  mid_own = own_view p b (mid_board p b r pl bst₁ chip') r (plan_vblock pl) (plan_block p b r pl) (mid_view p b r pl blk) makes.base.ready.mine region mid_effect
 
   mid_others : (r' : ℕ) → r' < p.mu → (r' ≡ r → ⊥) → view p (mid_board p b r pl bst₁ chip') r' ≡ view p b r'
-  mid_others = others_view p b (mid_board p b r pl bst₁ chip') r (plan_vBlock pl) (plan_block p b r pl) (mid_view p b r pl blk) makes.base.ready.mine region mid_effect
+  mid_others = others_view p b (mid_board p b r pl bst₁ chip') r (plan_vblock pl) (plan_block p b r pl) (mid_view p b r pl blk) makes.base.ready.mine region mid_effect
 
   pub mid_steady : Steady p (mid_board p b r pl bst₁ chip')
   mid_steady = settled p z b st r region pl case chip₁ bst₁ worn₁ makes (mid_board p b r pl bst₁ chip') mid_tables mid_marked (mid_view p b r pl blk) mid_own mid_others mid_segs mid_alike mid_blocks mid_full

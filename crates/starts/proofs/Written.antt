@@ -12,7 +12,7 @@ use Rattle.rules.specs.Numbers.{region_of}
 use Rattle.rules.specs.Tables.{Board, none, stamp_at}
 use Rattle.rules.specs.Regions.{View, view}
 use Rattle.rules.specs.Requests.{Request, request_cluster, request_region, write}
-use Rattle.rules.specs.Write.{Plan, new_frame, next_stamp, plan_frame, plan_of, plan_vBlock, written}
+use Rattle.rules.specs.Write.{Plan, new_frame, next_stamp, plan_frame, plan_of, plan_vblock, written}
 use Rattle.rules.specs.Machine.{view_after, with_room}
 use Rattle.rules.specs.Replies.{reply_of}
 use Rattle.rules.proofs.Admitted.{Admitted, admitted, stamp_left, write_checks, write_free}
@@ -60,7 +60,7 @@ module _ (p : Params) (b : Board) (q : Request) (e : reply_of p b (write q) ≡ 
   fronts : Fronts p region room
   fronts = room_fronts p acc.sized b acc.tables region low in_order plan (plan_case p acc.sized region here in_order) _ _ _ made
 
-  own_sheet : Sheet p (plan_vBlock plan) (request_cluster p q) (new_frame p here q (next_stamp b region) (plan_vBlock plan))
+  own_sheet : Sheet p (plan_vblock plan) (request_cluster p q) (new_frame p here q (next_stamp b region) (plan_vblock plan))
   own_sheet = sheet p b q acc region refl plan made (stamp_left p b q e)
 
   above : stamp_at b.stamps region < own_sheet.stamp
@@ -79,7 +79,7 @@ module _ (p : Params) (b : Board) (q : Request) (e : reply_of p b (write q) ≡ 
   own_timely : Timely p here → Timely p after
   unfolding view_after
   own_timely t =
-      put_timely p acc.sized room (plan_vBlock plan) (plan_frame p here plan) (request_cluster p q) (new_frame p here q (next_stamp b region) (plan_vBlock plan)) made.base.ready own_sheet
+      put_timely p acc.sized room (plan_vblock plan) (plan_frame p here plan) (request_cluster p q) (new_frame p here q (next_stamp b region) (plan_vblock plan)) made.base.ready own_sheet
       (stamp_at b.stamps region) bound above (carried.timely t) (λ c u g a. made.base.entries c (whole_low p acc.sized region room fronts c u g a))
 
   pub written_timely : (r : ℕ) → r < p.mu → Timely p (view p b r) → Timely p (view p (written p b q) r)
@@ -95,7 +95,7 @@ module _ (p : Params) (b : Board) (q : Request) (e : reply_of p b (write q) ≡ 
   back : (d u g : ℕ) → (d ≡ request_cluster p q → ⊥) → WholeAt p after d u g → (u₀ : ℕ) × (g₀ : ℕ) × WholeAt p here d u₀ g₀
   unfolding view_after
   back d u g ne a =
-      let o = put_old p acc.sized room (plan_vBlock plan) (plan_frame p here plan) (request_cluster p q) (new_frame p here q (next_stamp b region) (plan_vBlock plan)) made.base.ready own_sheet d u g ne a in
+      let o = put_old p acc.sized room (plan_vblock plan) (plan_frame p here plan) (request_cluster p q) (new_frame p here q (next_stamp b region) (plan_vblock plan)) made.base.ready own_sheet d u g ne a in
       let w = carried.back d u g o.1 in
       (w.0, w.1, w.2)
 
@@ -106,13 +106,13 @@ module _ (p : Params) (b : Board) (q : Request) (e : reply_of p b (write q) ≡ 
       let ne : d ≡ request_cluster p q → ⊥ = λ x. omega (
         arith,
         sym (ap after.seg_of x) ∙ n,
-        seg_new p acc.sized room (plan_vBlock plan) (plan_frame p here plan) (request_cluster p q) (new_frame p here q (next_stamp b region) (plan_vBlock plan)) made.base.ready own_sheet,
-        seg_low p acc.sized (plan_vBlock plan) (plan_frame p here plan) made.base.ready.low made.base.ready.mine,
+        seg_new p acc.sized room (plan_vblock plan) (plan_frame p here plan) (request_cluster p q) (new_frame p here q (next_stamp b region) (plan_vblock plan)) made.base.ready own_sheet,
+        seg_low p acc.sized (plan_vblock plan) (plan_frame p here plan) made.base.ready.low made.base.ready.mine,
         acc.sized.few,
       ) in (
         ne,
         carried.lives d h (
-            sym (seg_old p acc.sized room (plan_vBlock plan) (plan_frame p here plan) (request_cluster p q) (new_frame p here q (next_stamp b region) (plan_vBlock plan)) made.base.ready own_sheet d ne)
+            sym (seg_old p acc.sized room (plan_vblock plan) (plan_frame p here plan) (request_cluster p q) (new_frame p here q (next_stamp b region) (plan_vblock plan)) made.base.ready own_sheet d ne)
             ∙ n
             ),
       )

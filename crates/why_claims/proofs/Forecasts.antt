@@ -22,7 +22,7 @@ use Rattle.rules.specs.Requests.{Request, request_cluster, request_region, write
 use Rattle.rules.specs.Tables.{Board, bst_at, bt_at, ct_at, none, stamp_at}
 use Rattle.rules.specs.Traces.{worn}
 use Rattle.rules.specs.Words.{PlanListed}
-use Rattle.rules.specs.Write.{Plan, continues, copies, new_frame, opens, plan_block, plan_bst, plan_erases, plan_frame, plan_of, plan_vBlock, reclaims, written, written_by, next_stamp, takes_block}
+use Rattle.rules.specs.Write.{Plan, continues, copies, new_frame, opens, plan_block, plan_bst, plan_erases, plan_frame, plan_of, plan_vblock, reclaims, written, written_by, next_stamp, takes_block}
 use Rattle.rules.specs.Machine.{view_after, with_frame, with_room}
 use Rattle.rules.proofs.Admitted.{Admitted, admitted, write_checks, write_free, stamp_left}
 use Rattle.rules.proofs.Continues.{Makes, frames_pos, segs_in}
@@ -127,8 +127,8 @@ module _ (p : Params) (vw : View) where
   plan_kind (opens v) = inr (inl refl)
   plan_kind (reclaims v) = inr (inr refl)
 
-  plan_block_lem : (pl : Plan) → plan_vBlock pl ≡ plan_at p vw pl 1
-  unfolding plan_vBlock plan_at plan_numbers
+  plan_block_lem : (pl : Plan) → plan_vblock pl ≡ plan_at p vw pl 1
+  unfolding plan_vblock plan_at plan_numbers
   plan_block_lem (continues v f) = refl
   plan_block_lem (opens v) = refl
   plan_block_lem (reclaims v) = refl
@@ -185,7 +185,7 @@ module _ (p : Params) (z : Sizes p) (b : Board) (t : Tables p b) (r : ℕ) (regi
       let some = has_block p z b t r v region w.low (w.every v w.low) in (
         block_low_lem p z b t r v region w.low some,
         t.used_back (r * p.gamma + v) (index_low p r v region w.low) _ (block_low_lem p z b t r v region w.low some) (unfold bt_at in refl),
-        unfold bst_at plan_vBlock plan_block bt_at in m.kind_old (free_unnamed p z b t (m.found (unfold takes_block in refl)) (r * p.gamma + v) (index_low p r v region w.low)) some,
+        unfold bst_at plan_vblock plan_block bt_at in m.kind_old (free_unnamed p z b t (m.found (unfold takes_block in refl)) (r * p.gamma + v) (index_low p r v region w.low)) some,
       )
 
 -- ---- an accepted write
@@ -217,33 +217,33 @@ module _ (p : Params) (b : Board) (q : Request) (e : reply_of p b (write q) ≡ 
   listed = plan_exactly p b (record { fine = adm.fine; lengths = adm.lengths; tidy = (write_checks p b q e).tidy }) (request_region p q) region
 
   abbrev x : List ℕ
-  x = new_frame p vw q (next_stamp b (request_region p q)) (plan_vBlock pl)
+  x = new_frame p vw q (next_stamp b (request_region p q)) (plan_vblock pl)
 
-  sheet : Sheet p (plan_vBlock pl) (request_cluster p q) x
-  sheet = own_sheet p b q adm (next_stamp b (request_region p q)) (plan_vBlock pl) (stamp_left p b q e)
+  sheet : Sheet p (plan_vblock pl) (request_cluster p q) x
+  sheet = own_sheet p b q adm (next_stamp b (request_region p q)) (plan_vblock pl) (stamp_left p b q e)
 
   -- the board that is left
   ordered : OrderlyBoard p (written p b q)
   ordered = record { fine = adm.fine; lengths = promise.lengths; tidy = promise.orderly_left }
 
-  own : view p (written p b q) (request_region p q) ≡ with_frame p (with_room p vw pl) (plan_vBlock pl) (plan_frame p vw pl) (request_cluster p q) x
+  own : view p (written p b q) (request_region p q) ≡ with_frame p (with_room p vw pl) (plan_vblock pl) (plan_frame p vw pl) (request_cluster p q) x
   unfolding view_after
   own = promise.own
 
   -- CT names the plan's segment
-  seg_after : ct_at (written p b q).ct (request_cluster p q) ≡ segment_of p (plan_vBlock pl) (plan_frame p vw pl)
+  seg_after : ct_at (written p b q).ct (request_cluster p q) ≡ segment_of p (plan_vblock pl) (plan_frame p vw pl)
   seg_after =
       segs_in p (written p b q) (request_region p q) (request_cluster p q) refl
-      ∙ rw own (seg_new p adm.sized (with_room p vw pl) (plan_vBlock pl) (plan_frame p vw pl) (request_cluster p q) x made.base.ready sheet)
+      ∙ rw own (seg_new p adm.sized (with_room p vw pl) (plan_vblock pl) (plan_frame p vw pl) (request_cluster p q) x made.base.ready sheet)
 
   some_after : ct_at (written p b q).ct (request_cluster p q) ≡ none → ⊥
-  some_after n = omega (arith, seg_low p adm.sized (plan_vBlock pl) (plan_frame p vw pl) made.base.ready.low made.base.ready.mine, adm.sized.few, sym seg_after ∙ n)
+  some_after n = omega (arith, seg_low p adm.sized (plan_vblock pl) (plan_frame p vw pl) made.base.ready.low made.base.ready.mine, adm.sized.few, sym seg_after ∙ n)
 
-  vblock_after : vblock_of p (ct_at (written p b q).ct (request_cluster p q)) ≡ plan_vBlock pl
-  vblock_after = rw seg_after (seg_vblock p adm.sized (plan_vBlock pl) (plan_frame p vw pl) made.base.ready.low)
+  vblock_after : vblock_of p (ct_at (written p b q).ct (request_cluster p q)) ≡ plan_vblock pl
+  vblock_after = rw seg_after (seg_vblock p adm.sized (plan_vblock pl) (plan_frame p vw pl) made.base.ready.low)
 
   place_after : place_of p (ct_at (written p b q).ct (request_cluster p q)) ≡ plan_frame p vw pl / p.beta
-  place_after = rw seg_after (seg_place p adm.sized (plan_vBlock pl) (plan_frame p vw pl) made.base.ready.low)
+  place_after = rw seg_after (seg_place p adm.sized (plan_vblock pl) (plan_frame p vw pl) made.base.ready.low)
 
   -- its last frame there is the plan's
   frame_after : last_in p ((view p (written p b q) (request_region p q)).body (vblock_of p (ct_at (written p b q).ct (request_cluster p q))))
@@ -251,7 +251,7 @@ module _ (p : Params) (b : Board) (q : Request) (e : reply_of p b (write q) ≡ 
       ≡ plan_frame p vw pl
   frame_after =
       rw (vblock_after, place_after, own)
-      (last_new p adm.sized (with_room p vw pl) (plan_vBlock pl) (plan_frame p vw pl) (request_cluster p q) x made.base.ready sheet)
+      (last_new p adm.sized (with_room p vw pl) (plan_vblock pl) (plan_frame p vw pl) (request_cluster p q) x made.base.ready sheet)
 
   -- a block that was used and that the plan takes out of use is free, and so erased; or it is worn out, reserved and bad
   out_of_use : (n : ℕ) (t : Bool) → worn p b.wear n ≡ t → n < p.N → bst_at b.bst n ≡ 1 → bst_at (plan_bst p b (request_region p q) pl) n ≡ cond t 2 0

@@ -18,7 +18,7 @@ use Rattle.rules.specs.Pages.{frame}
 use Rattle.rules.specs.Regions.{valid_frames, view, view_of}
 use Rattle.rules.specs.Tables.{Board, ct_at, none, marks_length}
 use Rattle.rules.specs.Traces.{erases_in}
-use Rattle.rules.specs.Write.{Plan, continues, copies, opens, plan_erases, plan_vBlock, reclaims, victim_ops}
+use Rattle.rules.specs.Write.{Plan, continues, copies, opens, plan_erases, plan_vblock, reclaims, victim_ops}
 use Rattle.rules.proofs.Sizes.{sizes}
 use Rattle.rules.proofs.WritePromise.{erase_counts}
 use Rattle.marks.specs.Kept.{first_marks, put_mark, room_marks, without_old}
@@ -73,9 +73,9 @@ module _ (p : Params) (chip ct bt : List ℕ) (c : ℕ) (l : Lookup p chip ct bt
 
 -- ---- a reclaim's copies
 
-pub room_is : (p : Params) (b : Board) (r : ℕ) (pl : Plan) (v copied erases : ℕ) → v ≡ plan_vBlock pl → copied ≡ length (copies p (view p b r) pl) → erases ≡ erases_in (victim_ops p b r pl) → (m : Marks)
+pub room_is : (p : Params) (b : Board) (r : ℕ) (pl : Plan) (v copied erases : ℕ) → v ≡ plan_vblock pl → copied ≡ length (copies p (view p b r) pl) → erases ≡ erases_in (victim_ops p b r pl) → (m : Marks)
     → cond (eqb erases 0) m (first_marks m r v copied) ≡ room_marks p (view p b r) r pl m
-unfolding room_marks plan_erases copies plan_vBlock
+unfolding room_marks plan_erases copies plan_vblock
 room_is p b r (continues v' f) v copied erases ev ec ee m = rw (ee, (erase_counts p b r (continues v' f)).1)
 room_is p b r (opens v') v copied erases ev ec ee m = rw (ee, (erase_counts p b r (opens v')).1)
 room_is p b r (reclaims v') v copied erases ev ec ee m = rw (ee, (erase_counts p b r (reclaims v')).1, ev, ec, map_length (frame p ((view p b r).body v')) (valid_frames p (view p b r) v'))

@@ -15,7 +15,7 @@ use Rattle.rules.specs.Tables.{Board, board_of, none, bt_at, bt_entry}
 use Rattle.rules.specs.Pages.{block, frame}
 use Rattle.rules.specs.Regions.{view, view_of, body_at, valid_frames}
 use Rattle.rules.specs.Traces.{erase_ops, erased_state, erases_in, replay_chip, replay_wear, frames_ops}
-use Rattle.rules.specs.Write.{continues, opens, reclaims, plan_vBlock, plan_frame, copies, free_block, plan_block, victim_ops, room_ops, follow_ct, plan_bst}
+use Rattle.rules.specs.Write.{continues, opens, reclaims, plan_vblock, plan_frame, copies, free_block, plan_block, victim_ops, room_ops, follow_ct, plan_bst}
 use Rattle.rules.proofs.Sizes.{sizes}
 use Rattle.rules.proofs.WornBlocks.{wear_out_counts, wear_out_wear}
 use Rattle.rules.specs.Marks.{Marks, marks_in, marks_of, marks_on, table_of}
@@ -69,7 +69,7 @@ module _ (p : Params) (chip ct bt fst bst wear marks stamps : List ℕ) (r : ℕ
   b = board_of chip ct bt fst bst wear marks stamps
 
   pub made_continues : (v f : ℕ) → RoomMade p b r (continues v f) v f 0 0 chip ct bt bst wear
-  unfolding plan_vBlock plan_frame copies victim_ops erases_in room_ops frames_ops replay_chip follow_ct plan_block plan_bst replay_wear
+  unfolding plan_vblock plan_frame copies victim_ops erases_in room_ops frames_ops replay_chip follow_ct plan_block plan_bst replay_wear
   made_continues v f =
       record {
         vblock = refl;
@@ -84,13 +84,13 @@ module _ (p : Params) (chip ct bt fst bst wear marks stamps : List ℕ) (r : ℕ
       }
 
   pub made_opens : (v n : ℕ) (bt' bst' : List ℕ) → n ≡ free_block p bst wear → Opened p bt bst r v n bt' bst' → RoomMade p b r (opens v) v 0 0 0 chip ct bt' bst' wear
-  unfolding plan_vBlock plan_frame copies victim_ops erases_in room_ops frames_ops replay_chip follow_ct plan_block plan_bst replay_wear
+  unfolding plan_vblock plan_frame copies victim_ops erases_in room_ops frames_ops replay_chip follow_ct plan_block plan_bst replay_wear
   made_opens v n bt' bst' en o =
       record { vblock = refl; frame = refl; count = refl; erases = refl; chip_is = refl; ct_is = refl; bt_is = o.bt_is ∙ rw en; bst_is = o.bst_is ∙ rw en; wear_is = refl }
 
   made_reclaims : (v : ℕ) (chip' ct' bt' bst' wear' : List ℕ) (k : ℕ) → BlockReclaimed p chip ct bt bst wear r v (free_block p bst wear) (copies p (view p b r) (reclaims v)) chip' ct' bt' bst' wear' k
       → RoomMade p b r (reclaims v) v k k 1 chip' ct' bt' bst' wear'
-  unfolding plan_vBlock plan_frame victim_ops room_ops plan_block plan_bst
+  unfolding plan_vblock plan_frame victim_ops room_ops plan_block plan_bst
   made_reclaims v chip' ct' bt' bst' wear' k d =
       record {
         vblock = refl;

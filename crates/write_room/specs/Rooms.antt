@@ -6,7 +6,7 @@ use Rattle.rules.specs.Parameters.{allowed}
 use Rattle.rules.specs.Tables.{Board, bt_at}
 use Rattle.rules.specs.Regions.{view}
 use Rattle.rules.specs.Traces.{erased_state, erases_in, replay_chip, replay_wear}
-use Rattle.rules.specs.Write.{Plan, continues, opens, reclaims, plan_vBlock, plan_frame, copies, free_block, plan_block, victim_ops, room_ops, follow_ct, plan_bst}
+use Rattle.rules.specs.Write.{Plan, continues, opens, reclaims, plan_vblock, plan_frame, copies, free_block, plan_block, victim_ops, room_ops, follow_ct, plan_bst}
 use Rattle.chip_marks.specs.Asked.{WordsAsked}
 use Rattle.write_choose.specs.Search.{Pool}
 use Rattle.write_reclaim.specs.Moves.{FromTo, Reclaimed}
@@ -16,7 +16,7 @@ pub record BlockAsked (p : Params) (bt bst wear : List ℕ) (r : ℕ) (pl : Plan
   pub pool : Pool p bst wear
   pub bt_length : length bt ≡ p.mu * p.gamma
   pub region : r < p.mu
-  pub low : plan_vBlock pl < p.gamma
+  pub low : plan_vblock pl < p.gamma
 
 -- block n is there for virtual block v of region r
 pub record OpenAsked (p : Params) (bt bst : List ℕ) (r v n : ℕ) : Type 0 where
@@ -53,12 +53,12 @@ RoomAsked p chip ct bt bst wear marks r (reclaims v) n = (n ≡ free_block p bst
 
 -- the plan's room: the rules' operations are made, and the tables follow
 pub record RoomMade (p : Params) (b : Board) (r : ℕ) (pl : Plan) (v f copied erased : ℕ) (chip' ct' bt' bst' wear' : List ℕ) : Type 0 where
-  pub vblock : v ≡ plan_vBlock pl
+  pub vblock : v ≡ plan_vblock pl
   pub frame : f ≡ plan_frame p (view p b r) pl
   pub count : copied ≡ length (copies p (view p b r) pl)
   pub erases : erased ≡ erases_in (victim_ops p b r pl)
   pub chip_is : chip' ≡ replay_chip p b.chip (room_ops p b r pl)
-  pub ct_is : ct' ≡ follow_ct p (plan_vBlock pl) 0 (copies p (view p b r) pl) b.ct
-  pub bt_is : bt' ≡ set b.bt (r * p.gamma + plan_vBlock pl) (plan_block p b r pl)
+  pub ct_is : ct' ≡ follow_ct p (plan_vblock pl) 0 (copies p (view p b r) pl) b.ct
+  pub bt_is : bt' ≡ set b.bt (r * p.gamma + plan_vblock pl) (plan_block p b r pl)
   pub bst_is : bst' ≡ plan_bst p b r pl
   pub wear_is : wear' ≡ replay_wear b.wear (room_ops p b r pl)

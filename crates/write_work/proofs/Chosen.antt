@@ -15,7 +15,7 @@ use Rattle.rules.specs.declared.Reply.TheVariants.{Accepted, NoBlockLeft}
 use Rattle.rules.specs.Numbers.{vblock_of}
 use Rattle.rules.specs.Tables.{Board, board_of, none, bt_at, fst_at, marks_length}
 use Rattle.rules.specs.Regions.{View, view, view_of}
-use Rattle.rules.specs.Write.{Plan, has_room, plan_of, free_block, plan_block, plan_vBlock, takes_block}
+use Rattle.rules.specs.Write.{Plan, has_room, plan_of, free_block, plan_block, plan_vblock, takes_block}
 use Rattle.rules.specs.Replies.{early_rows, first_row, is_accepted, no_block_left, reply_of}
 use Rattle.rules.specs.Calls.{answer_of, outcome_of}
 use Rattle.rules.specs.Requests.{Request, lent, lent_answers, write, request_cluster, request_region}
@@ -89,11 +89,11 @@ module _ (p : Params) (b : Board) (q : Request) (checks : Checks p b q) where
 
   -- ---- the block that the plan writes
 
-  plan_low : plan_vBlock (plan_of p vw) < p.gamma
-  unfolding plan_vBlock
+  plan_low : plan_vblock (plan_of p vw) < p.gamma
+  unfolding plan_vblock
   plan_low = go (plan_of p vw) (plan_case p z r vw region_neat)
     where
-      go : (pl : Plan) → Case p vw pl → plan_vBlock pl < p.gamma
+      go : (pl : Plan) → Case p vw pl → plan_vblock pl < p.gamma
       go pl (goes_on h e) = rw e (open_some h).0
       go pl (takes h v low lacks e) = rw e low
       go pl (renews h every v low few e) = rw e low

@@ -10,7 +10,7 @@ use lib.ListN.{length, set, length-set}
 use lib.Seq.{get_or-set_same, get_or-set_other}
 use Rattle.write_cluster.specs.Clusters.{Standing, ClusterPut}
 use Rattle.rules.specs.declared.Params.{Params}
-use Rattle.rules.specs.Write.{Plan, continues, opens, reclaims, plan_vBlock, plan_frame, plan_block, plan_bst, plan_ops, room_ops, copies, follow_ct, new_frame, new_page, new_sector, written_by, next_stamp}
+use Rattle.rules.specs.Write.{Plan, continues, opens, reclaims, plan_vblock, plan_frame, plan_block, plan_bst, plan_ops, room_ops, copies, follow_ct, new_frame, new_page, new_sector, written_by, next_stamp}
 use Rattle.rules.specs.Tables.{Board, board_of, none, ct_at, bt_at, fst_at, bt_entry, stamp_at}
 use Rattle.rules.specs.Regions.{View, view, view_of}
 use Rattle.rules.specs.Traces.{frame_ops, replay_chip, replay_wear}
@@ -37,7 +37,7 @@ module _ (p : Params) (b : Board) (q : Request) (acc : Admitted p b q) (left : s
   vw = view p b r
 
   abbrev v : ℕ
-  v = plan_vBlock pl
+  v = plan_vblock pl
 
   abbrev f : ℕ
   f = plan_frame p vw pl

@@ -20,7 +20,7 @@ use Rattle.rules.specs.Tables.{Board, board_of, none, bt_at, ct_at, marks_length
 use Rattle.rules.specs.Pages.{block, frame}
 use Rattle.rules.specs.Regions.{View, view, view_of, assigned, looks_at}
 use Rattle.rules.specs.Traces.{erases_in, frame_ops, programs_in, replay_chip}
-use Rattle.rules.specs.Write.{Plan, continues, opens, reclaims, has_room, lowest_unassigned, plan_of, new_frame, next_stamp, plan_block, plan_vBlock, plan_frame, plan_erases, free_block, plan_ops, room_ops, takes_block, write_ops, written, written_by}
+use Rattle.rules.specs.Write.{Plan, continues, opens, reclaims, has_room, lowest_unassigned, plan_of, new_frame, next_stamp, plan_block, plan_vblock, plan_frame, plan_erases, free_block, plan_ops, room_ops, takes_block, write_ops, written, written_by}
 use Rattle.rules.specs.Replies.{reply_of}
 use Rattle.rules.specs.Calls.{Outcome, answer_of, outcome_of}
 use Rattle.rules.proofs.Sizes.{Sizes}
@@ -154,7 +154,7 @@ module _ (p : Params) (b : Board) (q : Request) (e : reply_of p b (write q) ≡ 
 
   -- the room of the plan, in the block that it writes
   pub room_asked : (r' : ℕ) → r' ≡ r → (pl : Plan) → pl ≡ plan_of p vw → (n : ℕ) → n ≡ plan_block p b r pl → RoomAsked p b.chip b.ct b.bt b.bst b.wear b.marks r' pl n
-  unfolding plan_block plan_vBlock takes_block
+  unfolding plan_block plan_vblock takes_block
   room_asked r' er pl ep n en = rw (er, en) (go pl ep)
     where
       go : (pl : Plan) → pl ≡ plan_of p vw → RoomAsked p b.chip b.ct b.bt b.bst b.wear b.marks r pl (plan_block p b r pl)
@@ -225,7 +225,7 @@ module _ (p : Params) (b : Board) (q : Request) (e : reply_of p b (write q) ≡ 
     -- the new frame's pages, however many
     pub pages_made : (m : ℕ) (chip : List ℕ) → chip ≡ replay_chip p chip₁ (frame_ops p (bt_at p bt₁ r v) f
         (new_frame p (view p (board_of chip₁ ct₁ bt₁ b.fst [] [] [] b.stamps) r) q (next_stamp (board_of chip₁ ct₁ bt₁ b.fst [] [] [] b.stamps) r) v) m)
-        → chip ≡ replay_chip p b.chip (room_ops p b r pl ++ frame_ops p (plan_block p b r pl) (plan_frame p vw pl) (new_frame p vw q (next_stamp b r) (plan_vBlock pl)) m)
+        → chip ≡ replay_chip p b.chip (room_ops p b r pl ++ frame_ops p (plan_block p b r pl) (plan_frame p vw pl) (new_frame p vw q (next_stamp b r) (plan_vblock pl)) m)
     pages_made m chip x = x ∙ rw (m_r.chip_is, m_r.ct_is, m_r.bt_is, m_r.vblock, m_r.frame) (made.pages_made p b q acc left pl mk m)
 
     board_is : (chip ct fst stamps marks : List ℕ) → ClusterPut p (board_of chip₁ ct₁ bt₁ b.fst [] [] [] b.stamps) q v f chip ct fst stamps → marks ≡ (written p b q).marks
@@ -264,7 +264,7 @@ module _ (p : Params) (b : Board) (q : Request) (e : reply_of p b (write q) ≡ 
       kept_are m =
           let old = old_is p chip₁ ct₁ bt₁ c (lookup_made c ec) kept kept-fr u g s w b.fst (room_marks p vw r pl m) in
           rw (er, room_is p b r pl v copied erases m_r.vblock m_r.count m_r.erases m, ← ep-r, ← view_made, m_r.vblock, m_r.frame)
-          (ap (λ (k : Marks). put_mark k r (plan_vBlock pl) (plan_frame p vw pl) true) (rw ec at old))
+          (ap (λ (k : Marks). put_mark k r (plan_vblock pl) (plan_frame p vw pl) true) (rw ec at old))
 
       -- the marks that are kept are those of the board that is left
       marks_kept : (marks : List ℕ) → ((m : Marks) → b.marks ≡ table_of p m → marks ≡ table_of p (kept_marks m r' v f copied erases kept u g)) → marks ≡ (written p b q).marks

@@ -1,7 +1,7 @@
 -- `write_room::plan_block`: each arm is given that the plan is its constructor, and finds that plan's block.
 -- Assumes nothing.
 use borrow.Author.Rules.{rules}
-use Rattle.rules.specs.Write.{plan_block, plan_vBlock}
+use Rattle.rules.specs.Write.{plan_block, plan_vblock}
 use Rattle.write_room.proofs.plan_block.Statement.{statement}
 use Rattle.write_room.proofs.plan_block.Tie as tie
 
@@ -9,7 +9,7 @@ enum-known-pl : tie.Need-enum-known-pl
 enum-known-pl c = search rules
 
 bt-at-requires : tie.Need-bt-at-requires
-unfolding plan_vBlock
+unfolding plan_vblock
 bt-at-requires c κs =
     let a = rw c.before.pl.given.1 at c.before.before.before.before.before.before.requires in
     (a.bt_length, (a.region, a.low))
