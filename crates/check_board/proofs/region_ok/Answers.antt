@@ -1,0 +1,27 @@
+-- `check_board::region_ok`: its FST entry, its virtual blocks.
+-- Assumes nothing.
+use native.Mathlib.Omega.{arith}
+use borrow.Author.Tests.{not-false, not-true}
+use Rattle.check_board.specs.Order.{region_held_to}
+use Rattle.check_board.proofs.region_ok.Goals as goal
+
+pub fst_at-sg-requires : goal.fst_at-sg-requires
+fst_at-sg-requires c = let a = (c.requires.blocks_asked, (c.requires.fst_len, c.requires.r_lt_mu)) in omega (arith, a.1.0, a.1.1)
+
+pub entry_ok-requires : goal.entry_ok-requires
+entry_ok-requires c =
+    let both = let a = (c.requires.blocks_asked, (c.requires.fst_len, c.requires.r_lt_mu)) in (a.0.lent.fine, (a.0.lent.bt_length, (a.1.1, c.fst_at-sg.ensures.result_bound))) in
+    record { p_value = both.0; bt_len = both.1.0; r_lt_mu = both.1.1.0; sg_bound = both.1.1.1 }
+
+pub returns-then-not-entry_ok : goal.returns-then-not-entry_ok
+unfolding region_held_to
+returns-then-not-entry_ok c = rw (← c.fst_at-sg.ensures.result_value, ← c.entry_ok.ensures, not-true c.entry_ok.result c.if-not-entry_ok.true-raw)
+
+pub vblocks_ok-requires : goal.vblocks_ok-requires
+vblocks_ok-requires c =
+    let both = let a = (c.requires.blocks_asked, (c.requires.fst_len, c.requires.r_lt_mu)) in (a.0, (a.1.1, c.fst_at-sg.ensures.result_bound)) in
+    record { blocks_asked = both.0; r_lt_mu = both.1.0; sg_bound = both.1.1 }
+
+pub returns : goal.returns
+unfolding region_held_to
+returns c = rw (← c.fst_at-sg.ensures.result_value, ← c.entry_ok.ensures, not-false c.entry_ok.result c.if-not-entry_ok.false-raw) c.vblocks_ok.ensures

@@ -1,0 +1,38 @@
+-- `check_marks::is_valid`: test by test, each a law of the rule.
+-- Assumes nothing.
+use mathlib.Core.Path.{sym, ◌∙◌}
+use borrow.Author.Tests.{not-true, not-false}
+use Rattle.check_marks.proofs.Tested.{cluster_low, first_says, holds_at, place_is_low, begun, stale, last}
+use Rattle.check_marks.proofs.is_valid.Goals as goal
+
+pub returns-then-not-is_whole : goal.returns-then-not-is_whole
+returns-then-not-is_whole c = λ r vw s. begun _ _ _ _ _ c.requires.one_frame r vw s _ c.frame_of-fr.ensures.result_value (sym c.is_whole.ensures ∙ not-true _ c.if-not-is_whole.true-raw)
+
+pub ct_at-requires : goal.ct_at-requires
+ct_at-requires c =
+    cluster_low _ _ _ _ _ c.requires.one_frame _ c.frame_of-fr.ensures.result_value (sym c.is_whole.ensures ∙ not-false _ c.if-not-is_whole.false-raw) _
+    (first_says _ _ _ _ _ c.requires.one_frame _ c.frame_of-fr.ensures.result_value (sym c.is_whole.ensures ∙ not-false _ c.if-not-is_whole.false-raw) _ c.last_cluster-c.ensures)
+
+pub segment_in-requires : goal.segment_in-requires
+segment_in-requires c =
+    let both = let a = (c.requires.one_frame, c.requires.k_value) in (a.0.block.fine, (a.0.block.low, place_is_low _ _ _ _ _ a.0 _ a.1)) in
+    record { p_value = both.0; v_lt_gamma = both.1.0; k_lt_d = both.1.1 }
+
+pub returns-then-ct_at-segment_in : goal.returns-then-ct_at-segment_in
+returns-then-ct_at-segment_in c =
+    λ r vw s. stale _ _ _ _ _ c.requires.one_frame r vw s _ c.frame_of-fr.ensures.result_value (sym c.is_whole.ensures ∙ not-false _ c.if-not-is_whole.false-raw) _
+    (first_says _ _ _ _ _ c.requires.one_frame _ c.frame_of-fr.ensures.result_value (sym c.is_whole.ensures ∙ not-false _ c.if-not-is_whole.false-raw) _
+    c.last_cluster-c.ensures) _ _ _ c.requires.k_value c.ct_at.ensures.result_value c.segment_in.ensures c.if-ct_at-segment_in.true
+
+pub is_last-requires : goal.is_last-requires
+is_last-requires c =
+    holds_at _ _ _ _ _ c.requires.one_frame _ c.frame_of-fr.ensures.result_value (sym c.is_whole.ensures ∙ not-false _ c.if-not-is_whole.false-raw) _
+    (first_says _ _ _ _ _ c.requires.one_frame _ c.frame_of-fr.ensures.result_value (sym c.is_whole.ensures ∙ not-false _ c.if-not-is_whole.false-raw) _
+    c.last_cluster-c.ensures) _ c.requires.k_value
+
+pub returns : goal.returns
+returns c =
+    λ r vw s. last _ _ _ _ _ c.requires.one_frame r vw s _ c.frame_of-fr.ensures.result_value (sym c.is_whole.ensures ∙ not-false _ c.if-not-is_whole.false-raw) _
+    (first_says _ _ _ _ _ c.requires.one_frame _ c.frame_of-fr.ensures.result_value (sym c.is_whole.ensures ∙ not-false _ c.if-not-is_whole.false-raw) _
+    c.last_cluster-c.ensures) _ _ _ _ c.requires.k_value
+    c.ct_at.ensures.result_value c.segment_in.ensures c.if-ct_at-segment_in.false c.is_last.ensures

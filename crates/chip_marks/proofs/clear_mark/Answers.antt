@@ -1,0 +1,16 @@
+-- `chip_marks::clear_mark`: the word that is stored is the one that was read, with one bit cleared.
+-- Assumes nothing.
+use mathlib.Core.Bool.{false}
+use Prim.Native.Nat.{◌*◌, ◌+◌, ◌/◌}
+use native.Mathlib.Omega.{arith}
+use Rattle.chip_marks.proofs.Turns.{put_mark_lem, word_read}
+use Rattle.chip_marks.proofs.clear_mark.Goals as goal
+
+pub returns : goal.returns
+returns c m e =
+    let x = c.args in
+    let q = c.requires.words in
+    let i = c.word_index-i in
+    put_mark_lem x.p m x.marks.now x.r x.v.0 x.f i.result c.without_bit.result false e q.region q.vblock c.requires.frame i.ensures.0
+    (c.without_bit.ensures (λ j. m x.r x.v.0 (64 * (x.f / 64) + j))
+    (word_read x.p m x.marks.now x.r x.v.0 (x.f / 64) i.result e q.region q.vblock (omega (arith, c.requires.frame)) i.ensures.0))

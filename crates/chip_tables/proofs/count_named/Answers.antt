@@ -1,0 +1,40 @@
+-- `chip_tables::count_named`: the count of the entries passed that are not none.
+-- Assumes nothing.
+use mathlib.Core.Path.{ap, sym, ◌∙◌, ◌≡◌}
+use mathlib.Core.Logic.{⊎_elim}
+use mathlib.Core.Bool.{not}
+use native.Mathlib.Omega.{arith}
+use lib.ListN.{length}
+use borrow.Author.Tests.{eq-eqb, ne_eqb}
+use Rattle.loops.proofs.Below.{count_no, count_start, count_yes}
+use Rattle.chip_tables.proofs.count_named.Goals as goal
+
+pub loop-i-init : goal.loop-i-init
+loop-i-init c = (omega arith, omega arith, count_start _)
+
+pub entry-requires : goal.entry-requires
+entry-requires c = omega arith
+
+pub overflow_add-k : goal.overflow_add-k
+overflow_add-k c = omega arith
+
+pub overflow_add-i : goal.overflow_add-i
+overflow_add-i c = omega arith
+
+pub loop-i-smaller : goal.loop-i-smaller
+loop-i-smaller c = omega arith
+
+pub loop-i-preserved : goal.loop-i-preserved
+loop-i-preserved c =
+    let l = c.loop-i in
+    let d = c.entry.ensures.value in (
+      omega arith,
+      ⊎_elim (λ w. omega arith) (λ w. omega arith) c.if-entry-ne-NONE.branch,
+      ⊎_elim (λ w. rw w.1 (count_yes _ _ _ l.invariant.2 (ap not (ne_eqb _ _ (λ e. w.0.taken (d ∙ e))))))
+          (λ w. rw w.1 (count_no _ _ _ l.invariant.2 (ap not (eq-eqb _ _ (sym d ∙ w.0.left))))) c.if-entry-ne-NONE.branch,
+    )
+
+pub returns : goal.returns
+returns c =
+    let e : c.loop-i.i ≡ length c.args.table.now = omega arith in
+    rw (← e) c.loop-i.invariant.2

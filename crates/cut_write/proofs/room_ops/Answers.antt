@@ -1,0 +1,44 @@
+-- `cut_write::room_ops`: by the plan; the marks of the victim are as many as its valid frames.
+-- Assumes nothing.
+use native.Mathlib.Omega.{arith}
+use Rattle.cut_write.proofs.Counts.{counted, few_pages, none_continues, none_opens}
+use Rattle.cut_write.proofs.room_ops.Goals as goal
+
+pub bt_at-o-requires : goal.bt_at-o-requires
+bt_at-o-requires c =
+    let w = rw c.pl-1.given.1 at c.requires.count_asked in
+    (w.bt_length, (w.words.region, w.words.vblock))
+
+pub count_marks-requires : goal.count_marks-requires
+count_marks-requires c = (rw c.pl-1.given.1 at c.requires.count_asked).words
+
+pub overflow_mul-result : goal.overflow_mul-result
+overflow_mul-result c =
+    let w = rw c.pl-1.given.1 at c.requires.count_asked in
+    let few = few_pages _ _ _ _ w.words c.shared_slice_known-3-1.given _ c.count_marks.ensures in
+    record { fits = omega (arith, few) }
+
+pub erase_ops-requires : goal.erase_ops-requires
+erase_ops-requires c =
+    let w = rw c.pl-1.given.1 at c.requires.count_asked in
+    rw c.bt_at-o.ensures.result_value w.block
+
+pub overflow_add-result : goal.overflow_add-result
+overflow_add-result c =
+    let w = rw c.pl-1.given.1 at c.requires.count_asked in
+    let few = few_pages _ _ _ _ w.words c.shared_slice_known-3-1.given _ c.count_marks.ensures in
+    record { fits = omega (arith, few, c.erase_ops.ensures.upper_bound) }
+
+pub returns-in-Continues : goal.returns-in-Continues
+returns-in-Continues c = (λ chip ct fst bst stamps e. rw c.enum_told-1.given.1 (none_continues _ _ _ _ _), omega arith)
+
+pub returns-in-Opens : goal.returns-in-Opens
+returns-in-Opens c = (λ chip ct fst bst stamps e. rw c.enum_told-in-Opens-1.given.1 (none_opens _ _ _ _), omega arith)
+
+pub returns-in-Reclaims : goal.returns-in-Reclaims
+returns-in-Reclaims c =
+    let w = rw c.pl-1.given.1 at c.requires.count_asked in
+    let few = few_pages _ _ _ _ w.words c.shared_slice_known-3-1.given _ c.count_marks.ensures in (
+      λ chip ct fst bst stamps e. rw c.pl-1.given.1 (counted _ _ _ c.requires.p_value _ _ (c.count_marks.ensures _ e) _ c.bt_at-o.ensures.result_value _ c.erase_ops.ensures.value),
+      omega (arith, few, c.erase_ops.ensures.upper_bound),
+    )

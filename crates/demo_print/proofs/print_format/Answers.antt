@@ -1,0 +1,12 @@
+-- `demo_print::print_format` meets its contract: the counts, and the line's end.
+-- Assumes nothing.
+use Rattle.demo_print.specs.Output.{format_line}
+use Rattle.demo_print.proofs.Puts.{one, then, printed}
+use native.Mathlib.Omega.{arith}
+use Rattle.demo_print.proofs.print_format.Goals as goal
+
+pub returns : goal.returns
+unfolding format_line
+returns c =
+    let t = (c.put_counts-end.ensures.put, c.put_counts-end.ensures.upper_bound) in
+    printed (then t.0 (one _ _ 10)) (omega (arith, t.1, c.requires))

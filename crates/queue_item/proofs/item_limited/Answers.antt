@@ -1,0 +1,53 @@
+-- `queue_item::item_limited`: refused by the reply's number, or the work of an orderly write with the budget on the item's part of the data.
+-- Assumes nothing.
+use mathlib.Core.Path.{refl}
+use native.Mathlib.Omega.{arith}
+use Rattle.rules.specs.declared.Item.{Item}
+use Rattle.reply_rows.proofs.Rows.{bytes_low}
+use Rattle.rules.specs.Tables.{Board, board_of}
+use Rattle.rules.specs.Requests.{item_of}
+use Rattle.rules.proofs.TableFacts.{lengths_in}
+use Rattle.queue_item.proofs.Parts.{asked_early, inside, limited_done, limited_refused}
+use Rattle.queue_item.proofs.item_limited.Goals as goal
+use Rattle.queue_item.proofs.item_limited.Goals.{Start}
+
+abbrev board : Start → Board
+board a = board_of a.args.chip.now a.args.ct.now a.args.bt.now a.args.fst.now a.args.bst.now a.args.wear.now a.args.marks.now a.args.stamps.now
+
+abbrev asked : Start → Item
+asked a = item_of a.args.lba a.args.count a.args.first
+
+pub has_bytes-fits-requires : goal.has_bytes-fits-requires
+has_bytes-fits-requires c = c.requires.fine
+
+pub item_reply-refusal-requires : goal.item_reply-refusal-requires
+item_reply-refusal-requires c = (c.requires.fine, (lengths_in _ (board (goal.at.item_reply-refusal-requires c).Start) c.requires.lengths).stamps_length)
+
+pub returns-then-number-ne0 : goal.returns-then-number-ne0
+returns-then-number-ne0 c =
+    limited_refused _ _ (board (goal.at.returns-then-number-ne0 c).Start) c.requires _ (asked (goal.at.returns-then-number-ne0 c).Start) _ (c.has_bytes-fits.ensures c.args.bytes.now c.args.lba refl) _ c.item_reply-refusal.ensures _
+    c.number.ensures c.if-number-ne0.true _ c.idle.ensures _
+
+pub overflow_mul-to : goal.overflow_mul-to
+overflow_mul-to c = omega (arith, bytes_low _ c.requires.fine c.args.count (omega arith))
+
+pub overflow_add-to : goal.overflow_add-to
+overflow_add-to c = omega (arith, bytes_low _ c.requires.fine c.args.count (omega arith))
+
+pub slice_bounds-write_limited-end : goal.slice_bounds-write_limited-end
+slice_bounds-write_limited-end c =
+    omega (
+      arith,
+      inside _ _ (board (goal.at.slice_bounds-write_limited-end c).Start) c.requires _ (asked (goal.at.slice_bounds-write_limited-end c).Start) _ (c.has_bytes-fits.ensures c.args.bytes.now c.args.lba refl) _
+          c.item_reply-refusal.ensures _ c.number.ensures c.if-number-ne0.false,
+    )
+
+pub write_limited-requires : goal.write_limited-requires
+write_limited-requires c =
+    asked_early _ _ (board (goal.at.write_limited-requires c).Start) c.requires _ (asked (goal.at.write_limited-requires c).Start) _ (c.has_bytes-fits.ensures c.args.bytes.now c.args.lba refl) _ c.item_reply-refusal.ensures _
+    c.number.ensures c.if-number-ne0.false
+
+pub returns : goal.returns
+returns c =
+    limited_done _ _ (board (goal.at.returns c).Start) c.requires _ (asked (goal.at.returns c).Start) _ (c.has_bytes-fits.ensures c.args.bytes.now c.args.lba refl) _
+    c.item_reply-refusal.ensures _ c.number.ensures c.if-number-ne0.false _ _ _ _ c.write_limited.ensures.stamps_value c.write_limited.ensures.left_value
