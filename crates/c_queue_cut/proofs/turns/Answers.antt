@@ -16,7 +16,10 @@ loop-i-init c = (omega arith, record { chip = refl; ct = refl; bt = refl; fst = 
 pub turn-left-requires : goal.turn-left-requires
 turn-left-requires c =
     let inv = c.loop-i.invariant in
-    ((inv.2 c.requires).ready (omega (arith, c.loop-i-test.true)), asked _ _ _ c.args.bytes.now _ (board (goal.at.turn-left-requires c).Start) _ c.args.budget c.requires _ c.loop-i-test.true _ inv.1.answers)
+    record {
+      ready = (inv.2 c.requires).ready (omega (arith, c.loop-i-test.true));
+      turn_asked = asked _ _ _ c.args.bytes.now _ (board (goal.at.turn-left-requires c).Start) _ c.args.budget c.requires _ c.loop-i-test.true _ inv.1.answers;
+    }
 
 pub overflow_add-i : goal.overflow_add-i
 overflow_add-i c = omega (arith, c.loop-i-test.true, c.requires.places, c.well_formed.1.1.1.1.1.1.1.1.1.1.1.0.0)
@@ -26,7 +29,8 @@ loop-i-smaller c = omega arith
 
 pub loop-i-preserved : goal.loop-i-preserved
 loop-i-preserved c =
-    let inv = c.loop-i.invariant in (
+    let inv = c.loop-i.invariant in
+    (
       omega (arith, c.loop-i-test.true),
       record {
         chip = c.chip-1.given ∙ inv.1.chip;

@@ -20,7 +20,10 @@ unfolding tells
 returns-then-reply c =
     let e = c.why_numbers-ns.ensures in
     let t : tells (get_or c.why_numbers-ns.result 0 0) ≡ true = c.if-reply.true in
-    (ap (λ (l : List ℕ). get_or l 0 0) e, rw (rw e at t) (c.put_list.ensures ∙ e))
+    record {
+      value = ap (λ (l : List ℕ). get_or l 0 0) e;
+      list_after = rw (rw e at t) (c.put_list.ensures ∙ e);
+    }
 
 pub returns : goal.returns
 unfolding tells

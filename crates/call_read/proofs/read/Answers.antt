@@ -29,5 +29,4 @@ pub returns : goal.returns
 returns c =
     let e = c.read_reply-reply.ensures (request (goal.at.returns c).Start) refl refl refl in
     let zero = reply_zero _ (board (goal.at.returns c).Start) (read (request (goal.at.returns c).Start)) _ e _ c.number.ensures c.if-number-ne0.false in
-    let done = (c.read_sectors-looks.ensures.bytes_after, c.read_sectors-looks.ensures.looked) in
-    read_done _ (board (goal.at.returns c).Start) (request (goal.at.returns c).Start) zero _ (done.0 _ _ _ _ _) _ done.1 _ e _ c.looked.ensures
+    read_done _ (board (goal.at.returns c).Start) (request (goal.at.returns c).Start) zero _ (c.read_sectors-looks.ensures.bytes_after _ _ _ _ _) _ c.read_sectors-looks.ensures.looked _ e _ c.looked.ensures

@@ -19,11 +19,19 @@ broken_rule-requires c =
 
 pub returns-then-n-eq7 : goal.returns-then-n-eq7
 unfolding numbers_of
-returns-then-n-eq7 c = (why_7 _ (board (goal.at.returns-then-n-eq7 c).Start) _ _ c.why_reply-reply.ensures _ c.number-n.ensures c.if-n-eq7.true _ (c.broken_rule.ensures _), broken_small c.broken_rule.result)
+returns-then-n-eq7 c =
+    record {
+      result_value = why_7 _ (board (goal.at.returns-then-n-eq7 c).Start) _ _ c.why_reply-reply.ensures _ c.number-n.ensures c.if-n-eq7.true _ (c.broken_rule.ensures _);
+      small = broken_small c.broken_rule.result;
+    }
 
 pub returns-then-n-ne0 : goal.returns-then-n-ne0
 unfolding numbers_of
-returns-then-n-ne0 c = (why_refused _ (board (goal.at.returns-then-n-ne0 c).Start) _ _ c.why_reply-reply.ensures _ c.number-n.ensures c.if-n-eq7.false c.if-n-ne0.true, refused_small c.why_reply-reply.result)
+returns-then-n-ne0 c =
+    record {
+      result_value = why_refused _ (board (goal.at.returns-then-n-ne0 c).Start) _ _ c.why_reply-reply.ensures _ c.number-n.ensures c.if-n-eq7.false c.if-n-ne0.true;
+      small = refused_small c.why_reply-reply.result;
+    }
 
 pub cluster_of-c-requires : goal.cluster_of-c-requires
 cluster_of-c-requires c = (sizes _ (passed _ (board (goal.at.cluster_of-c-requires c).Start) _ _ c.why_reply-reply.ensures _ c.number-n.ensures c.if-n-ne0.false).ordered.fine).sectors
@@ -38,11 +46,11 @@ region_of-requires c =
 
 pub forecast_of-fc-requires : goal.forecast_of-fc-requires
 forecast_of-fc-requires c =
-    (
-      asked _ (board (goal.at.forecast_of-fc-requires c).Start) _ (passed _ (board (goal.at.forecast_of-fc-requires c).Start) _ _ c.why_reply-reply.ensures _ c.number-n.ensures c.if-n-ne0.false) _
-          c.cluster_of-c.ensures _ c.region_of.ensures,
-      stamp_in_lem _ (board (goal.at.forecast_of-fc-requires c).Start) _ (passed _ (board (goal.at.forecast_of-fc-requires c).Start) _ _ c.why_reply-reply.ensures _ c.number-n.ensures c.if-n-ne0.false) _ _ c.region_of.ensures,
-    )
+    record {
+      forecast_asked = asked _ (board (goal.at.forecast_of-fc-requires c).Start) _ (passed _ (board (goal.at.forecast_of-fc-requires c).Start) _ _ c.why_reply-reply.ensures _ c.number-n.ensures c.if-n-ne0.false) _
+              c.cluster_of-c.ensures _ c.region_of.ensures;
+      r_in_bounds = stamp_in_lem _ (board (goal.at.forecast_of-fc-requires c).Start) _ (passed _ (board (goal.at.forecast_of-fc-requires c).Start) _ _ c.why_reply-reply.ensures _ c.number-n.ensures c.if-n-ne0.false) _ _ c.region_of.ensures;
+    }
 
 pub find_frame-at-requires : goal.find_frame-at-requires
 find_frame-at-requires c = looked _ (board (goal.at.find_frame-at-requires c).Start) _ (passed _ (board (goal.at.find_frame-at-requires c).Start) _ _ c.why_reply-reply.ensures _ c.number-n.ensures c.if-n-ne0.false) _ c.cluster_of-c.ensures
@@ -53,7 +61,10 @@ returns-then-not-at c =
     let h = (passed _ (board (goal.at.returns-then-not-at c).Start) _ _ c.why_reply-reply.ensures _ c.number-n.ensures c.if-n-ne0.false) in
     let fc = forecast_is _ (board (goal.at.returns-then-not-at c).Start) _ h _ c.cluster_of-c.ensures _ c.region_of.ensures _ (c.forecast_of-fc.ensures _ (marks_right _ (board (goal.at.returns-then-not-at c).Start) _ h)) in
     let e = empty _ (board (goal.at.returns-then-not-at c).Start) _ _ _ c.find_frame-at.ensures.stands c.if-not-at.true _ fc in
-    (why_found _ (board (goal.at.returns-then-not-at c).Start) _ h _ c.cluster_of-c.ensures _ e, small _ (board (goal.at.returns-then-not-at c).Start) _ h _ c.cluster_of-c.ensures _ e)
+    record {
+      result_value = why_found _ (board (goal.at.returns-then-not-at c).Start) _ h _ c.cluster_of-c.ensures _ e;
+      small = small _ (board (goal.at.returns-then-not-at c).Start) _ h _ c.cluster_of-c.ensures _ e;
+    }
 
 pub place_at-requires : goal.place_at-requires
 place_at-requires c =

@@ -17,7 +17,11 @@ unfolding forecast_numbers forecast_in no_stamp_left
 returns-then-stamp_at c ct right = rw (← c.stamp_at.ensures, le-leb 4294967295 c.stamp_at.result (omega (arith, c.if-stamp_at.true)))
 
 pub plan_of-pl-requires : goal.plan_of-pl-requires
-plan_of-pl-requires c = (c.requires.forecast_asked.plan, marks_long_lem _ c.args.chip.now c.args.bt.now c.args.fst.now c.args.bst.now c.args.wear.now c.args.marks.now _ c.requires.forecast_asked)
+plan_of-pl-requires c =
+    record {
+      plan_asked = c.requires.forecast_asked.plan;
+      marks_len = marks_long_lem _ c.args.chip.now c.args.bt.now c.args.fst.now c.args.bst.now c.args.wear.now c.args.marks.now _ c.requires.forecast_asked;
+    }
 
 pub plan_block-n-requires : goal.plan_block-n-requires
 plan_block-n-requires c = block_asked _ c.args.chip.now c.args.bt.now c.args.fst.now c.args.bst.now c.args.wear.now c.args.marks.now _ c.requires.forecast_asked _ c.plan_of-pl.ensures

@@ -8,7 +8,11 @@ use Rattle.call_why.proofs.Answers.{holder_is}
 use Rattle.call_why.proofs.place_at.Goals as goal
 
 pub region_of-r-requires : goal.region_of-r-requires
-region_of-r-requires c = (c.requires.fine, c.requires.cluster)
+region_of-r-requires c =
+    record {
+      p_value = c.requires.fine;
+      c_lt_c = c.requires.cluster;
+    }
 
 pub bt_at-requires : goal.bt_at-requires
 bt_at-requires c =

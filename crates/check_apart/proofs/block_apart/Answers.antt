@@ -17,13 +17,12 @@ loop-f-init c = (omega arith, all_start _, c.requires.seen)
 
 pub frame_apart-requires : goal.frame_apart-requires
 frame_apart-requires c =
-    let pre = (c.requires.asked, (c.requires.v_lt_gamma, (c.requires.blk_value, (c.requires.blk_len, c.requires.seen)))) in
     record {
-      asked = pre.0;
-      v_lt_gamma = pre.1.0;
+      asked = c.requires.asked;
+      v_lt_gamma = c.requires.v_lt_gamma;
       f_bound = omega (arith, c.loop-f-test.true, c.frames-m.ensures);
-      blk_value = pre.1.1.0;
-      blk_len = pre.1.1.1.0;
+      blk_value = c.requires.blk_value;
+      blk_len = c.requires.blk_len;
       seen = c.loop-f.invariant.2;
     }
 

@@ -14,7 +14,12 @@ low : (a : Start) (n : ℕ) → n ≡ bt_at a.args.p a.args.bt.now a.args.r a.ar
 low a n = name_low a.args.p a.args.chip.now a.args.bt.now a.requires.lent a.args.r a.args.v.0 n a.requires.r_lt_mu a.requires.v_lt_gamma
 
 pub bt_at-n-requires : goal.bt_at-n-requires
-bt_at-n-requires c = (c.requires.lent.bt_length, (c.requires.r_lt_mu, c.requires.v_lt_gamma))
+bt_at-n-requires c =
+    record {
+      bt_len = c.requires.lent.bt_length;
+      r_lt_mu = c.requires.r_lt_mu;
+      v_lt_gamma = c.requires.v_lt_gamma;
+    }
 
 pub frames-requires : goal.frames-requires
 frames-requires c = c.requires.lent.fine

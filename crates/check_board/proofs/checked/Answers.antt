@@ -25,8 +25,16 @@ returns-then-not-frees_ok c =
 
 pub regions_ok-requires : goal.regions_ok-requires
 regions_ok-requires c =
-    let both = let a = (c.requires.lengths, (c.requires.marks_len, c.requires.stamps_len)) in ( record { lent = lent_in _ _ _ _ _ _ a.0 (sym c.tables_ok.ensures ∙ not-false _ c.if-not-tables_ok.false-raw); ct_length = a.0.ct_length; bst_length = a.0.bst_length; marks_long = a.1.0; }, (a.0.fst_length, a.1.1), ) in
-    record { blocks_asked = both.0; fst_len = both.1.0; stamps_len = both.1.1 }
+    record {
+      blocks_asked = record {
+            lent = lent_in _ _ _ _ _ _ c.requires.lengths (sym c.tables_ok.ensures ∙ not-false _ c.if-not-tables_ok.false-raw);
+            ct_length = c.requires.lengths.ct_length;
+            bst_length = c.requires.lengths.bst_length;
+            marks_long = c.requires.marks_len;
+          };
+      fst_len = c.requires.lengths.fst_length;
+      stamps_len = c.requires.stamps_len;
+    }
 
 pub returns-then-not-regions_ok : goal.returns-then-not-regions_ok
 unfolding order_ok_to

@@ -41,7 +41,8 @@ pub loop-i-preserved : goal.loop-i-preserved
 unfolding word_at
 loop-i-preserved c =
     let l = c.loop-i in
-    let m = c.args.marks.now in (
+    let m = c.args.marks.now in
+    (
       omega arith,
       omega (arith, l.invariant.1, c.count-k.ensures.upper_bound),
       count_word (bit_at m) l.i l.k c.count-k.result l.invariant.2

@@ -9,8 +9,10 @@ use Rattle.check_board.proofs.entry_ok.Goals as goal
 
 pub empty_at-requires : goal.empty_at-requires
 empty_at-requires c =
-    let both = let a = (c.requires.p_value, (c.requires.bt_len, (c.requires.r_lt_mu, c.requires.sg_bound))) in (a.1.0, a.1.1.0) in
-    record { bt_len = both.0; r_lt_mu = both.1 }
+    record {
+      bt_len = c.requires.bt_len;
+      r_lt_mu = c.requires.r_lt_mu;
+    }
 
 pub returns-then-empty_at : goal.returns-then-empty_at
 unfolding entry_ok
@@ -25,13 +27,18 @@ returns-then-sg-p c = rw (← c.empty_at.ensures, c.if-empty_at.false, le-ltb _ 
 
 pub vblock_of-requires : goal.vblock_of-requires
 vblock_of-requires c =
-    let both = let a = (c.requires.p_value, (c.requires.bt_len, (c.requires.r_lt_mu, c.requires.sg_bound))) in (a.0, omega (arith, a.1.1.1)) in
-    record { p_value = both.0; sg_bound = both.1 }
+    record {
+      p_value = c.requires.p_value;
+      sg_bound = omega (arith, c.requires.sg_bound);
+    }
 
 pub bt_at-requires : goal.bt_at-requires
 bt_at-requires c =
-    let both = let a = (c.requires.p_value, (c.requires.bt_len, (c.requires.r_lt_mu, c.requires.sg_bound))) in (a.1.0, (a.1.1.0, rw c.vblock_of.ensures (vblock_low_lem _ _ _ (sizes _ a.0).segments c.if-sg-p.false))) in
-    record { bt_len = both.0; r_lt_mu = both.1.0; v_lt_gamma = both.1.1 }
+    record {
+      bt_len = c.requires.bt_len;
+      r_lt_mu = c.requires.r_lt_mu;
+      v_lt_gamma = rw c.vblock_of.ensures (vblock_low_lem _ _ _ (sizes _ c.requires.p_value).segments c.if-sg-p.false);
+    }
 
 pub returns : goal.returns
 unfolding entry_ok

@@ -6,12 +6,16 @@ use Rattle.check_board.specs.Order.{region_held_to}
 use Rattle.check_board.proofs.region_ok.Goals as goal
 
 pub fst_at-sg-requires : goal.fst_at-sg-requires
-fst_at-sg-requires c = let a = (c.requires.blocks_asked, (c.requires.fst_len, c.requires.r_lt_mu)) in omega (arith, a.1.0, a.1.1)
+fst_at-sg-requires c = omega (arith, c.requires.fst_len, c.requires.r_lt_mu)
 
 pub entry_ok-requires : goal.entry_ok-requires
 entry_ok-requires c =
-    let both = let a = (c.requires.blocks_asked, (c.requires.fst_len, c.requires.r_lt_mu)) in (a.0.lent.fine, (a.0.lent.bt_length, (a.1.1, c.fst_at-sg.ensures.result_bound))) in
-    record { p_value = both.0; bt_len = both.1.0; r_lt_mu = both.1.1.0; sg_bound = both.1.1.1 }
+    record {
+      p_value = c.requires.blocks_asked.lent.fine;
+      bt_len = c.requires.blocks_asked.lent.bt_length;
+      r_lt_mu = c.requires.r_lt_mu;
+      sg_bound = c.fst_at-sg.ensures.result_bound;
+    }
 
 pub returns-then-not-entry_ok : goal.returns-then-not-entry_ok
 unfolding region_held_to
@@ -19,8 +23,11 @@ returns-then-not-entry_ok c = rw (← c.fst_at-sg.ensures.result_value, ← c.en
 
 pub vblocks_ok-requires : goal.vblocks_ok-requires
 vblocks_ok-requires c =
-    let both = let a = (c.requires.blocks_asked, (c.requires.fst_len, c.requires.r_lt_mu)) in (a.0, (a.1.1, c.fst_at-sg.ensures.result_bound)) in
-    record { blocks_asked = both.0; r_lt_mu = both.1.0; sg_bound = both.1.1 }
+    record {
+      blocks_asked = c.requires.blocks_asked;
+      r_lt_mu = c.requires.r_lt_mu;
+      sg_bound = c.fst_at-sg.ensures.result_bound;
+    }
 
 pub returns : goal.returns
 unfolding region_held_to

@@ -9,12 +9,22 @@ use Rattle.check_board.proofs.Open.{to_block, to_le}
 use Rattle.check_board.proofs.vblock_ok.Goals as goal
 
 pub vblock_frames-k-requires : goal.vblock_frames-k-requires
-vblock_frames-k-requires c = let a = (c.requires.blocks_asked, (c.requires.r_lt_mu, (c.requires.o_value, c.requires.v_lt_gamma))) in (a.0.lent, (a.0.bst_length, (a.1.0, a.1.1.1)))
+vblock_frames-k-requires c =
+    record {
+      lent = c.requires.blocks_asked.lent;
+      bst_len = c.requires.blocks_asked.bst_length;
+      r_lt_mu = c.requires.r_lt_mu;
+      v_lt_gamma = c.requires.v_lt_gamma;
+    }
 
 pub frames_ok-requires : goal.frames_ok-requires
 frames_ok-requires c =
-    let both = let a = (c.requires.blocks_asked, (c.requires.r_lt_mu, (c.requires.o_value, c.requires.v_lt_gamma))) in (a.0.lent.fine, (a.1.1.0, (a.1.1.1, rw c.vblock_frames-k.ensures (to_le _ (sizes _ a.0.lent.fine) _ _ _ _ _ _)))) in
-    record { p_value = both.0; o_value = both.1.0; v_lt_gamma = both.1.1.0; k_bound = both.1.1.1 }
+    record {
+      p_value = c.requires.blocks_asked.lent.fine;
+      o_value = c.requires.o_value;
+      v_lt_gamma = c.requires.v_lt_gamma;
+      k_bound = rw c.vblock_frames-k.ensures (to_le _ (sizes _ c.requires.blocks_asked.lent.fine) _ _ _ _ _ _);
+    }
 
 pub returns-then-not-frames_ok : goal.returns-then-not-frames_ok
 unfolding block_held_to
@@ -22,10 +32,9 @@ returns-then-not-frames_ok c = rw (← c.vblock_frames-k.ensures, ← c.frames_o
 
 pub marks_ok-requires : goal.marks_ok-requires
 marks_ok-requires c =
-    let a = (c.requires.blocks_asked, (c.requires.r_lt_mu, (c.requires.o_value, c.requires.v_lt_gamma))) in
-    let ok = to_block _ (sizes _ a.0.lent.fine) _ _ _ _ _ c.args.sg.0 _
+    let ok = to_block _ (sizes _ c.requires.blocks_asked.lent.fine) _ _ _ _ _ c.args.sg.0 _
     (rw c.vblock_frames-k.ensures at (sym c.frames_ok.ensures ∙ not-false _ c.if-not-frames_ok.false-raw)) in
-    check_asked _ _ _ _ _ _ ok _ _ a.0 a.1.0 a.1.1.1
+    check_asked _ _ _ _ _ _ ok _ _ c.requires.blocks_asked c.requires.r_lt_mu c.requires.v_lt_gamma
 
 pub returns : goal.returns
 unfolding block_held_to

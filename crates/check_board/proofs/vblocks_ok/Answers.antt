@@ -8,15 +8,23 @@ use Rattle.loops.proofs.Below.{all_end, all_fails, all_more, all_start}
 use Rattle.check_board.proofs.vblocks_ok.Goals as goal
 
 pub vblock_of-o-requires : goal.vblock_of-o-requires
-vblock_of-o-requires c = let a = (c.requires.blocks_asked, (c.requires.r_lt_mu, c.requires.sg_bound)) in (a.0.lent.fine, omega (arith, a.1.1))
+vblock_of-o-requires c =
+    record {
+      p_value = c.requires.blocks_asked.lent.fine;
+      sg_bound = omega (arith, c.requires.sg_bound);
+    }
 
 pub loop-v-init : goal.loop-v-init
 loop-v-init c = (omega arith, all_start _)
 
 pub vblock_ok-requires : goal.vblock_ok-requires
 vblock_ok-requires c =
-    let both = let a = (c.requires.blocks_asked, (c.requires.r_lt_mu, c.requires.sg_bound)) in (a.0, (a.1.0, (c.vblock_of-o.ensures, c.loop-v-test.true))) in
-    record { blocks_asked = both.0; r_lt_mu = both.1.0; o_value = both.1.1.0; v_lt_gamma = both.1.1.1 }
+    record {
+      blocks_asked = c.requires.blocks_asked;
+      r_lt_mu = c.requires.r_lt_mu;
+      o_value = c.vblock_of-o.ensures;
+      v_lt_gamma = c.loop-v-test.true;
+    }
 
 pub returns-then-not-vblock_ok : goal.returns-then-not-vblock_ok
 returns-then-not-vblock_ok c = sym (all_fails _ c.loop-v.v _ c.loop-v-test.true (sym c.vblock_ok.ensures ∙ not-true _ c.if-not-vblock_ok.true-raw))

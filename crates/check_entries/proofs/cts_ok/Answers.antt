@@ -23,8 +23,11 @@ region_of-requires c =
 
 pub cluster_ok-requires : goal.cluster_ok-requires
 cluster_ok-requires c =
-    let both = let a = (c.requires.lent, c.requires.ct_len) in (a.0, (rw c.region_of.ensures (mod-lt c.loop-c.c (sizes _ a.0.fine).regions), omega (arith, a.1, c.loop-c-test.true))) in
-    record { lent = both.0; r_lt_mu = both.1.0; c_in_bounds = both.1.1 }
+    record {
+      lent = c.requires.lent;
+      r_lt_mu = rw c.region_of.ensures (mod-lt c.loop-c.c (sizes _ c.requires.lent.fine).regions);
+      c_in_bounds = omega (arith, c.requires.ct_len, c.loop-c-test.true);
+    }
 
 pub returns-then-not-cluster_ok : goal.returns-then-not-cluster_ok
 returns-then-not-cluster_ok c = sym (all_fails _ c.loop-c.c _ c.loop-c-test.true (rw (← c.region_of.ensures) (sym c.cluster_ok.ensures ∙ not-true _ c.if-not-cluster_ok.true-raw)))

@@ -17,7 +17,12 @@ unfolding full_ok
 returns-then-v-o c = rw (eq-eqb _ _ c.if-v-o.true)
 
 pub bt_at-n-requires : goal.bt_at-n-requires
-bt_at-n-requires c = (c.requires.lent.bt_length, (c.requires.r_lt_mu, c.requires.v_lt_gamma))
+bt_at-n-requires c =
+    record {
+      bt_len = c.requires.lent.bt_length;
+      r_lt_mu = c.requires.r_lt_mu;
+      v_lt_gamma = c.requires.v_lt_gamma;
+    }
 
 pub returns-then-n-eq-NONE : goal.returns-then-n-eq-NONE
 unfolding full_ok

@@ -26,10 +26,19 @@ unfolding open_ok
 returns-then-sg-p c = rw (le-ltb _ _ c.if-sg-p.true)
 
 pub vblock_of-o-requires : goal.vblock_of-o-requires
-vblock_of-o-requires c = (c.requires.lent.fine, small (goal.at.vblock_of-o-requires c).Start c.if-sg-p.false)
+vblock_of-o-requires c =
+    record {
+      p_value = c.requires.lent.fine;
+      sg_bound = small (goal.at.vblock_of-o-requires c).Start c.if-sg-p.false;
+    }
 
 pub bt_at-n-requires : goal.bt_at-n-requires
-bt_at-n-requires c = (c.requires.lent.bt_length, (c.requires.r_lt_mu, vlow (goal.at.bt_at-n-requires c).Start _ c.vblock_of-o.ensures c.if-sg-p.false))
+bt_at-n-requires c =
+    record {
+      bt_len = c.requires.lent.bt_length;
+      r_lt_mu = c.requires.r_lt_mu;
+      v_lt_gamma = vlow (goal.at.bt_at-n-requires c).Start _ c.vblock_of-o.ensures c.if-sg-p.false;
+    }
 
 pub returns-then-n-eq-NONE : goal.returns-then-n-eq-NONE
 unfolding open_ok
@@ -45,17 +54,20 @@ block_of-requires c =
     }
 
 pub filled-k-requires : goal.filled-k-requires
-filled-k-requires c = (c.requires.lent.fine, c.block_of.ensures.result_len)
+filled-k-requires c =
+    record {
+      p_value = c.requires.lent.fine;
+      blk_len = c.block_of.ensures.result_len;
+    }
 
 pub segment_of-last-requires : goal.segment_of-last-requires
 segment_of-last-requires c =
-    let z = sizes _ c.requires.lent.fine in (
-      c.requires.lent.fine,
-      (
-        vlow (goal.at.segment_of-last-requires c).Start _ c.vblock_of-o.ensures c.if-sg-p.false,
-        omega (arith, c.one_less.ensures, c.filled-k.ensures, filled_le c.args.p c.block_of.result.now, z.short),
-      ),
-    )
+    let z = sizes _ c.requires.lent.fine in
+    record {
+      p_value = c.requires.lent.fine;
+      v_lt_gamma = vlow (goal.at.segment_of-last-requires c).Start _ c.vblock_of-o.ensures c.if-sg-p.false;
+      f_bound = omega (arith, c.one_less.ensures, c.filled-k.ensures, filled_le c.args.p c.block_of.result.now, z.short);
+    }
 
 pub returns-then-sg-last : goal.returns-then-sg-last
 unfolding open_ok

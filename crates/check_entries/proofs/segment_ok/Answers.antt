@@ -26,17 +26,30 @@ unfolding segment_ok
 returns-then-sg-p c = rw (le-ltb _ _ c.if-sg-p.true)
 
 pub vblock_of-v-requires : goal.vblock_of-v-requires
-vblock_of-v-requires c = (c.requires.lent.fine, small (goal.at.vblock_of-v-requires c).Start c.if-sg-p.false)
+vblock_of-v-requires c =
+    record {
+      p_value = c.requires.lent.fine;
+      sg_bound = small (goal.at.vblock_of-v-requires c).Start c.if-sg-p.false;
+    }
 
 pub bt_at-n-requires : goal.bt_at-n-requires
-bt_at-n-requires c = (c.requires.lent.bt_length, (c.requires.r_lt_mu, vlow (goal.at.bt_at-n-requires c).Start _ c.vblock_of-v.ensures c.if-sg-p.false))
+bt_at-n-requires c =
+    record {
+      bt_len = c.requires.lent.bt_length;
+      r_lt_mu = c.requires.r_lt_mu;
+      v_lt_gamma = vlow (goal.at.bt_at-n-requires c).Start _ c.vblock_of-v.ensures c.if-sg-p.false;
+    }
 
 pub returns-then-n-eq-NONE : goal.returns-then-n-eq-NONE
 unfolding segment_ok
 returns-then-n-eq-NONE c = rw (lt-ltb _ _ c.if-sg-p.false, ← c.vblock_of-v.ensures, ← c.bt_at-n.ensures.result_value, eq-eqb _ none c.if-n-eq-NONE.true)
 
 pub place_of-k-requires : goal.place_of-k-requires
-place_of-k-requires c = (c.requires.lent.fine, small (goal.at.place_of-k-requires c).Start c.if-sg-p.false)
+place_of-k-requires c =
+    record {
+      p_value = c.requires.lent.fine;
+      sg_bound = small (goal.at.place_of-k-requires c).Start c.if-sg-p.false;
+    }
 
 pub frames-f-requires : goal.frames-f-requires
 frames-f-requires c = c.requires.lent.fine

@@ -15,8 +15,11 @@ ct_at-requires c =
 
 pub segment_in-requires : goal.segment_in-requires
 segment_in-requires c =
-    let both = let a = (c.requires.one_frame, c.requires.k_value) in (a.0.block.fine, (a.0.block.low, place_is_low _ _ _ _ _ a.0 _ a.1)) in
-    record { p_value = both.0; v_lt_gamma = both.1.0; k_lt_d = both.1.1 }
+    record {
+      p_value = c.requires.one_frame.block.fine;
+      v_lt_gamma = c.requires.one_frame.block.low;
+      k_lt_d = place_is_low _ _ _ _ _ c.requires.one_frame _ c.requires.k_value;
+    }
 
 pub returns-then-ct_at-segment_in : goal.returns-then-ct_at-segment_in
 returns-then-ct_at-segment_in c =

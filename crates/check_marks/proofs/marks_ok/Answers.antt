@@ -5,7 +5,9 @@ use Rattle.check_marks.proofs.Asked.{block_low_lem, none_valid, one_block, shows
 use Rattle.check_marks.proofs.marks_ok.Goals as goal
 
 pub bt_at-n-requires : goal.bt_at-n-requires
-bt_at-n-requires c = let a = c.requires in (a.bt_length, (a.region, a.low))
+bt_at-n-requires c =
+    let both = let a = c.requires in (a.bt_length, (a.region, a.low)) in
+    record { bt_len = both.0; r_lt_mu = both.1.0; v_lt_gamma = both.1.1 }
 
 pub none_ok-requires : goal.none_ok-requires
 none_ok-requires c = words_asked _ _ _ _ _ _ _ c.requires

@@ -17,7 +17,11 @@ pub returns-then-word-eq0 : goal.returns-then-word-eq0
 returns-then-word-eq0 c = λ r vw s. sym (zero_only _ c.args.w _ c.if-word-eq0.true)
 
 pub first_place-k-requires : goal.first_place-k-requires
-first_place-k-requires c = (c.requires.one_block.fine, c.requires.w_bound)
+first_place-k-requires c =
+    record {
+      p_value = c.requires.one_block.fine;
+      w_bound = c.requires.w_bound;
+    }
 
 pub loop-rest-init : goal.loop-rest-init
 loop-rest-init c = (omega arith, c.first_place-k.ensures ∙ ap (λ (x : ℕ). x / c.args.p.beta) (sym (add-zero (64 * c.args.w))), sym (div-one c.args.word), λ r vw s. all_start _)
@@ -46,7 +50,12 @@ returns-then-not-mark_ok c =
     (c.mark_ok.ensures r vw s) ∙ not-true _ c.if-not-mark_ok.true-raw))
 
 pub next_place-k-requires : goal.next_place-k-requires
-next_place-k-requires c = (c.requires.one_block.fine, (omega (arith, c.requires.w_bound, left (goal.at.next_place-k-requires c).In-loop-rest), c.loop-rest.invariant.1))
+next_place-k-requires c =
+    record {
+      p_value = c.requires.one_block.fine;
+      f_bound = omega (arith, c.requires.w_bound, left (goal.at.next_place-k-requires c).In-loop-rest);
+      k_value = c.loop-rest.invariant.1;
+    }
 
 pub overflow_add-i : goal.overflow_add-i
 overflow_add-i c = omega (arith, left (goal.at.overflow_add-i c).In-loop-rest)

@@ -10,7 +10,7 @@ use Rattle.rules.specs.Tables.{bst_at}
 use Rattle.check_names.proofs.used_ok.Given as goal
 
 abbrev pub invariant-loop-n : goal.invariant-loop-n
-invariant-loop-n l = (l.n ≤ l.m) × (all_below l.n (λ l.n. beq (eqb (bst_at l.bst l.n) 1) (named l.p l.bt l.n)) ≡ true)
+invariant-loop-n l = (l.n ≤ l.m) × (all_below l.n (λ n'. beq (eqb (bst_at l.bst n') 1) (named l.p l.bt n')) ≡ true)
 
 abbrev pub decreases-loop-n : goal.decreases-loop-n
 decreases-loop-n l = l.m - l.n

@@ -11,7 +11,12 @@ use Rattle.check_pairs.proofs.place.Goals as goal
 pub head_of-h-requires : goal.head_of-h-requires
 head_of-h-requires c =
     let asked = c.requires.asked in
-    (asked.fine, (asked.size, (c.requires.n_lt_n, sound_at _ _ asked.sounds _ c.requires.n_lt_n)))
+    record {
+      p_value = asked.fine;
+      chip_len = asked.size;
+      n_lt_n = c.requires.n_lt_n;
+      n_value = sound_at _ _ asked.sounds _ c.requires.n_lt_n;
+    }
 
 pub returns-then-not-h : goal.returns-then-not-h
 returns-then-not-h c =

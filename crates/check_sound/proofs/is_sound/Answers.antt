@@ -5,7 +5,12 @@ use Rattle.check_sound.proofs.Sounds.{high_cluster, high_vblock, sound_is}
 use Rattle.check_sound.proofs.is_sound.Goals as goal
 
 pub frame_of-fr-requires : goal.frame_of-fr-requires
-frame_of-fr-requires c = (c.requires.p_value, (c.requires.blk_len, (sizes _ c.requires.p_value).some))
+frame_of-fr-requires c =
+    record {
+      p_value = c.requires.p_value;
+      blk_len = c.requires.blk_len;
+      f_bound = (sizes _ c.requires.p_value).some;
+    }
 
 pub returns-then-v-p : goal.returns-then-v-p
 returns-then-v-p c = high_vblock _ (sizes _ c.requires.p_value) _ _ c.frame_of-fr.ensures.result_value _ c.vblock_in-v.ensures c.if-v-p.true

@@ -10,7 +10,7 @@ use Rattle.rules.specs.Tables.{bst_at}
 use Rattle.check_tables.proofs.bst_ok.Given as goal
 
 abbrev pub invariant-loop-n : goal.invariant-loop-n
-invariant-loop-n l = (l.n ≤ length l.bst) × (all_below l.n (λ l.n. leb (bst_at l.bst l.n) 2) ≡ true)
+invariant-loop-n l = (l.n ≤ length l.bst) × (all_below l.n (λ n'. leb (bst_at l.bst n') 2) ≡ true)
 
 abbrev pub decreases-loop-n : goal.decreases-loop-n
 decreases-loop-n l = length l.bst - l.n

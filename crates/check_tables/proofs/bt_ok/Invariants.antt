@@ -9,7 +9,7 @@ use Rattle.rules.specs.Tables.{bt_entry, none}
 use Rattle.check_tables.proofs.bt_ok.Given as goal
 
 abbrev pub invariant-loop-i : goal.invariant-loop-i
-invariant-loop-i l = (l.i ≤ l.m) × (all_below l.i (λ l.i. eqb (bt_entry l.bt l.i) none || ltb (bt_entry l.bt l.i) l.p.N) ≡ true)
+invariant-loop-i l = (l.i ≤ l.m) × (all_below l.i (λ i'. eqb (bt_entry l.bt i') none || ltb (bt_entry l.bt i') l.p.N) ≡ true)
 
 abbrev pub decreases-loop-i : goal.decreases-loop-i
 decreases-loop-i l = l.m - l.i

@@ -10,7 +10,12 @@ use Rattle.check_tables.specs.Entries.{differs}
 use Rattle.check_tables.proofs.differs.Goals as goal
 
 pub bt_at-n-requires : goal.bt_at-n-requires
-bt_at-n-requires c = (c.requires.bt_len, (c.requires.r_lt_mu, c.requires.v_lt_gamma))
+bt_at-n-requires c =
+    record {
+      bt_len = c.requires.bt_len;
+      r_lt_mu = c.requires.r_lt_mu;
+      v_lt_gamma = c.requires.v_lt_gamma;
+    }
 
 pub loop-u-init : goal.loop-u-init
 loop-u-init c = (omega arith, all_start _)

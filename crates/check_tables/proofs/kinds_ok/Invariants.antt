@@ -11,8 +11,8 @@ use Rattle.check_tables.proofs.kinds_ok.Given as goal
 
 abbrev pub invariant-loop-n : goal.invariant-loop-n
 invariant-loop-n l =
-    (l.n ≤ length l.bst) × (l.used ≤ l.n) × (all_below l.n (λ l.n. leb (bst_at l.bst l.n) 2) ≡ true)
-    × (l.used ≡ count_below l.n (λ l.n. eqb (bst_at l.bst l.n) 1))
+    (l.n ≤ length l.bst) × (l.used ≤ l.n) × (all_below l.n (λ n'. leb (bst_at l.bst n') 2) ≡ true)
+    × (l.used ≡ count_below l.n (λ n'. eqb (bst_at l.bst n') 1))
 
 abbrev pub decreases-loop-n : goal.decreases-loop-n
 decreases-loop-n l = length l.bst - l.n

@@ -40,7 +40,8 @@ loop-f-smaller c = omega arith
 pub loop-f-preserved : goal.loop-f-preserved
 loop-f-preserved c =
     let i = c.loop-f.invariant in
-    let e = c.is_programmed.ensures ∙ ap (programmed c.args.p) c.frame_of.ensures.result_value in (
+    let e = c.is_programmed.ensures ∙ ap (programmed c.args.p) c.frame_of.ensures.result_value in
+    (
       omega arith,
       ⊎_elim (λ w. omega arith) (λ w. omega arith) c.if-is_programmed.branch,
       ⊎_elim (λ w. rw w.1 (count_yes _ _ _ i.2 (sym e ∙ w.0.taken))) (λ w. rw w.1 (count_no _ _ _ i.2 (sym e ∙ w.0.left))) c.if-is_programmed.branch,

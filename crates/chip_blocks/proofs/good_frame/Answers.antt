@@ -10,7 +10,11 @@ use Rattle.chip_blocks.proofs.Frames.{fit_is, fit_late, fit_not, good_high, good
 use Rattle.chip_blocks.proofs.good_frame.Goals as goal
 
 pub cluster_in-c-requires : goal.cluster_in-c-requires
-cluster_in-c-requires c = (c.requires.p_value, c.requires.fr_len)
+cluster_in-c-requires c =
+    record {
+      p_value = c.requires.p_value;
+      frame_len = c.requires.fr_len;
+    }
 
 pub returns-then-c-p : goal.returns-then-c-p
 returns-then-c-p c = fit_not _ _ _ _ _ (good_high _ _ _ _ _ c.cluster_in-c.ensures.result_value c.if-c-p.true)
@@ -28,7 +32,11 @@ returns-then-region_of-r c =
     (good_other _ _ _ _ _ c.cluster_in-c.ensures.result_value c.if-c-p.false (λ e. c.if-region_of-r.true (c.region_of.ensures ∙ e)))
 
 pub stamp_in-t-requires : goal.stamp_in-t-requires
-stamp_in-t-requires c = (c.requires.p_value, c.requires.fr_len)
+stamp_in-t-requires c =
+    record {
+      p_value = c.requires.p_value;
+      frame_len = c.requires.fr_len;
+    }
 
 pub returns-then-t-last : goal.returns-then-t-last
 returns-then-t-last c = fit_late _ _ _ _ _ _ c.stamp_in-t.ensures c.if-t-last.true
@@ -60,10 +68,9 @@ only_begun-requires c =
 
 pub returns-then-not-all_right : goal.returns-then-not-all_right
 returns-then-not-all_right c =
-    let pages = (c.right_pages.ensures.upper_bound, (c.right_pages.ensures.vblock_value, c.right_pages.ensures.vblock_value_2)) in
     fit_is _ _ _ _ _ _ c.stamp_in-t.ensures _ c.if-t-last.false
     (c.only_begun.ensures ∙ begun_decides _ (sizes _ c.requires.p_value) _ _ c.args.fr.now c.requires.fr_len _ c.cluster_in-c.ensures.result_value _
-    c.stamp_in-t.ensures c.if-c-p.false (sym c.region_of.ensures ∙ c.if-region_of-r.false) _ pages.0 pages.1.0 pages.1.1)
+    c.stamp_in-t.ensures c.if-c-p.false (sym c.region_of.ensures ∙ c.if-region_of-r.false) _ c.right_pages.ensures.upper_bound c.right_pages.ensures.vblock_value c.right_pages.ensures.vblock_value_2)
 
 pub returns : goal.returns
 returns c =

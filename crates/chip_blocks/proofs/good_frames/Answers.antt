@@ -33,7 +33,11 @@ good_frame-requires c =
 pub returns-then-not-good_frame : goal.returns-then-not-good_frame
 returns-then-not-good_frame c =
     let e = c.good_frame.ensures ∙ ap (fit_frame c.args.p c.args.r c.args.v.0 c.args.last) c.frame_of.ensures.result_value in
-    (omega (arith, c.loop-f-test.true, c.frames-n.ensures), (c.loop-f.invariant.1, λ h. sym e ∙ not-true _ c.if-not-good_frame.true-raw))
+    record {
+      upper_bound = omega (arith, c.loop-f-test.true, c.frames-n.ensures);
+      f_value = c.loop-f.invariant.1;
+      result_value = λ h. sym e ∙ not-true _ c.if-not-good_frame.true-raw;
+    }
 
 pub overflow_add-f : goal.overflow_add-f
 overflow_add-f c = omega arith

@@ -31,10 +31,18 @@ overflow_sub-f c = omega (arith, c.loop-i-test.true)
 pub frame_of-fr-requires : goal.frame_of-fr-requires
 frame_of-fr-requires c =
     let s = c.loop-i.invariant (sizes _ c.requires.p_value) in
-    (c.requires.p_value, (c.requires.blk_len, omega (arith, seg (goal.at.frame_of-fr-requires c).Start, c.loop-i-test.true, s.few)))
+    record {
+      p_value = c.requires.p_value;
+      blk_len = c.requires.blk_len;
+      f_bound = omega (arith, seg (goal.at.frame_of-fr-requires c).Start, c.loop-i-test.true, s.few);
+    }
 
 pub looked-looks-requires : goal.looked-looks-requires
-looked-looks-requires c = (c.requires.p_value, c.frame_of-fr.ensures.result_len)
+looked-looks-requires c =
+    record {
+      p_value = c.requires.p_value;
+      fr_len = c.frame_of-fr.ensures.result_len;
+    }
 
 seen : (a : Start) (n f : ℕ) (fr : List ℕ) → n ≡ cond (programmed a.args.p fr) 1 0 → fr ≡ frame a.args.p a.args.blk.now f
     → n ≡ cond (programmed a.args.p (frame a.args.p a.args.blk.now f)) 1 0
@@ -60,7 +68,11 @@ returns-then-holds c =
     let t = c.loop-i-test.true in
     let n = seen (goal.at.returns-then-holds c).Start _ _ _ c.looked-looks.ensures c.frame_of-fr.ensures.result_value in
     let h = sym (c.holds.ensures ∙ ap (λ (x : List ℕ). holds c.args.p x c.args.c.0) c.frame_of-fr.ensures.result_value) ∙ c.if-holds.true in
-    (found _ z _ _ _ _ _ s t _ n h, (looks_few _ z _ _ _ _ _ s t _ n, looked _ z _ _ _ _ _ s t _ n h))
+    record {
+      frame_value = found _ z _ _ _ _ _ s t _ n h;
+      looks_le_beta = looks_few _ z _ _ _ _ _ s t _ n;
+      looks_value = looked _ z _ _ _ _ _ s t _ n h;
+    }
 
 pub loop-i-smaller : goal.loop-i-smaller
 loop-i-smaller c = omega (arith, c.loop-i-test.true)

@@ -19,7 +19,12 @@ spare_right-requires c =
     }
 
 pub returns-then-not-spare_right : goal.returns-then-not-spare_right
-returns-then-not-spare_right c = (omega (arith, c.loop-j-test.true), (c.loop-j.invariant.1, λ h. sym c.spare_right.ensures ∙ not-true _ c.if-not-spare_right.true-raw))
+returns-then-not-spare_right c =
+    record {
+      upper_bound = omega (arith, c.loop-j-test.true);
+      vblock_value = c.loop-j.invariant.1;
+      vblock_value_2 = λ h. sym c.spare_right.ensures ∙ not-true _ c.if-not-spare_right.true-raw;
+    }
 
 pub overflow_add-j : goal.overflow_add-j
 overflow_add-j c = omega arith

@@ -10,21 +10,18 @@ use Rattle.chip_blocks.proofs.used_frames.Goals as goal
 
 pub returns-then-k-eq0 : goal.returns-then-k-eq0
 returns-then-k-eq0 c =
-    let k = (c.good_frames-k.ensures.upper_bound, (c.good_frames-k.ensures.f_value, c.good_frames-k.ensures.result_value)) in
     let e : false ≡ block_rule c.args.p c.args.r c.args.v.0 c.args.blk.now && stamps_to c.args.p c.args.last c.args.blk.now =
-    none_good _ (sizes _ c.requires.p_value) _ _ _ _ c.requires.blk_len _ k.0 k.1.0 k.1.1 c.if-k-eq0.true in
+    none_good _ (sizes _ c.requires.p_value) _ _ _ _ c.requires.blk_len _ c.good_frames-k.ensures.upper_bound c.good_frames-k.ensures.f_value c.good_frames-k.ensures.result_value c.if-k-eq0.true in
     rw (← e)
 
 pub returns-then-not-rest_erased : goal.returns-then-not-rest_erased
 returns-then-not-rest_erased c =
-    let k = (c.good_frames-k.ensures.upper_bound, (c.good_frames-k.ensures.f_value, c.good_frames-k.ensures.result_value)) in
     let e : false ≡ block_rule c.args.p c.args.r c.args.v.0 c.args.blk.now && stamps_to c.args.p c.args.last c.args.blk.now =
-    sym (not-true _ c.if-not-rest_erased.true-raw) ∙ c.rest_erased.ensures ∙ rest_is _ (sizes _ c.requires.p_value) _ _ _ _ c.requires.blk_len _ k.0 k.1.0 k.1.1 c.if-k-eq0.false in
+    sym (not-true _ c.if-not-rest_erased.true-raw) ∙ c.rest_erased.ensures ∙ rest_is _ (sizes _ c.requires.p_value) _ _ _ _ c.requires.blk_len _ c.good_frames-k.ensures.upper_bound c.good_frames-k.ensures.f_value c.good_frames-k.ensures.result_value c.if-k-eq0.false in
     rw (← e)
 
 pub returns : goal.returns
 returns c =
-    let k = (c.good_frames-k.ensures.upper_bound, (c.good_frames-k.ensures.f_value, c.good_frames-k.ensures.result_value)) in
     let e : true ≡ block_rule c.args.p c.args.r c.args.v.0 c.args.blk.now && stamps_to c.args.p c.args.last c.args.blk.now =
-    sym (not-false _ c.if-not-rest_erased.false-raw) ∙ c.rest_erased.ensures ∙ rest_is _ (sizes _ c.requires.p_value) _ _ _ _ c.requires.blk_len _ k.0 k.1.0 k.1.1 c.if-k-eq0.false in
-    rw (← e) (sym (filled_is _ (sizes _ c.requires.p_value) _ _ _ _ c.requires.blk_len _ k.0 k.1.0 k.1.1 (sym e)))
+    sym (not-false _ c.if-not-rest_erased.false-raw) ∙ c.rest_erased.ensures ∙ rest_is _ (sizes _ c.requires.p_value) _ _ _ _ c.requires.blk_len _ c.good_frames-k.ensures.upper_bound c.good_frames-k.ensures.f_value c.good_frames-k.ensures.result_value c.if-k-eq0.false in
+    rw (← e) (sym (filled_is _ (sizes _ c.requires.p_value) _ _ _ _ c.requires.blk_len _ c.good_frames-k.ensures.upper_bound c.good_frames-k.ensures.f_value c.good_frames-k.ensures.result_value (sym e)))

@@ -10,7 +10,12 @@ use Rattle.rules.proofs.Sizes.{sizes}
 use Rattle.chip_heads.proofs.elsewhere.Goals as goal
 
 pub frame_of-fr-requires : goal.frame_of-fr-requires
-frame_of-fr-requires c = (c.requires.p_value, (c.block_of.ensures.result_len, (sizes _ c.requires.p_value).some))
+frame_of-fr-requires c =
+    record {
+      p_value = c.requires.p_value;
+      blk_len = c.block_of.ensures.result_len;
+      f_bound = (sizes _ c.requires.p_value).some;
+    }
 
 pub overflow_cast-result-2 : goal.overflow_cast-result-2
 overflow_cast-result-2 c = let z = sizes _ c.requires.p_value in omega arith

@@ -8,7 +8,12 @@ use Rattle.chip_heads.proofs.Heads.{names_are}
 use Rattle.chip_heads.proofs.says.Goals as goal
 
 pub frame_of-fr-requires : goal.frame_of-fr-requires
-frame_of-fr-requires c = (c.requires.p_value, (c.requires.blk_len, (sizes _ c.requires.p_value).some))
+frame_of-fr-requires c =
+    record {
+      p_value = c.requires.p_value;
+      blk_len = c.requires.blk_len;
+      f_bound = (sizes _ c.requires.p_value).some;
+    }
 
 pub region_of-requires : goal.region_of-requires
 region_of-requires c =

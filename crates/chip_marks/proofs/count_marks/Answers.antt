@@ -15,7 +15,8 @@ pub loop-w-preserved : goal.loop-w-preserved
 loop-w-preserved c =
     let x = c.args in
     let w = c.loop-w.w in
-    let i = c.word_index-i in (
+    let i = c.word_index-i in
+    (
       search rules,
       omega (arith, c.loop-w.invariant.1, c.count-n.ensures.upper_bound),
       λ m e.

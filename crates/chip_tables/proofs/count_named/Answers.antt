@@ -27,7 +27,8 @@ loop-i-smaller c = omega arith
 pub loop-i-preserved : goal.loop-i-preserved
 loop-i-preserved c =
     let l = c.loop-i in
-    let d = c.entry.ensures.value in (
+    let d = c.entry.ensures.value in
+    (
       omega arith,
       ⊎_elim (λ w. omega arith) (λ w. omega arith) c.if-entry-ne-NONE.branch,
       ⊎_elim (λ w. rw w.1 (count_yes _ _ _ l.invariant.2 (ap not (ne_eqb _ _ (λ e. w.0.taken (d ∙ e))))))

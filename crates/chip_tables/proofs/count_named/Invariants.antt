@@ -10,7 +10,7 @@ use Rattle.rules.specs.Tables.{none}
 use Rattle.chip_tables.proofs.count_named.Given as goal
 
 abbrev pub invariant-loop-i : goal.invariant-loop-i
-invariant-loop-i l = (l.i ≤ length l.table) × (l.k ≤ l.i) × (l.k ≡ count_below l.i (λ l.i. not (eqb (get_or l.table l.i none) none)))
+invariant-loop-i l = (l.i ≤ length l.table) × (l.k ≤ l.i) × (l.k ≡ count_below l.i (λ i'. not (eqb (get_or l.table i' none) none)))
 
 abbrev pub decreases-loop-i : goal.decreases-loop-i
 decreases-loop-i l = length l.table - l.i

@@ -7,5 +7,7 @@ use Rattle.chip_tables.proofs.ct_at.Goals as goal
 pub returns : goal.returns
 unfolding ct_at
 returns c =
-    let both = search rules in
-    record { result_value = both.0; result_bound = both.1 }
+    record {
+      result_value = search rules;
+      result_bound = search rules;
+    }

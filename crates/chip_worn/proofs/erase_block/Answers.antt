@@ -16,14 +16,18 @@ mark_at-requires c =
 
 pub returns-then-out : goal.returns-then-out
 returns-then-out c =
-    let t = sym c.wears_out-out.ensures ∙ c.if-out.true in (
-      left_marked _ c.requires.p_value c.args.chip.now _ c.requires.chip_len c.requires.n_lt_n _ c.clear_block.ensures.chip_after _ t _ c.mark_at.ensures,
-      (c.clear_block.ensures.wear_after, c.wears_out-out.ensures),
-    )
+    let t = sym c.wears_out-out.ensures ∙ c.if-out.true in
+    record {
+      chip_after = left_marked _ c.requires.p_value c.args.chip.now _ c.requires.chip_len c.requires.n_lt_n _ c.clear_block.ensures.chip_after _ t _ c.mark_at.ensures;
+      wear_after = c.clear_block.ensures.wear_after;
+      value = c.wears_out-out.ensures;
+    }
 
 pub returns-else-out : goal.returns-else-out
 returns-else-out c =
-    let t = sym c.wears_out-out.ensures ∙ c.if-out.false in (
-      left_blank _ c.requires.p_value c.args.chip.now _ c.requires.chip_len c.requires.n_lt_n _ c.clear_block.ensures.chip_after _ t,
-      (c.clear_block.ensures.wear_after, c.wears_out-out.ensures),
-    )
+    let t = sym c.wears_out-out.ensures ∙ c.if-out.false in
+    record {
+      chip_after = left_blank _ c.requires.p_value c.args.chip.now _ c.requires.chip_len c.requires.n_lt_n _ c.clear_block.ensures.chip_after _ t;
+      wear_after = c.clear_block.ensures.wear_after;
+      value = c.wears_out-out.ensures;
+    }

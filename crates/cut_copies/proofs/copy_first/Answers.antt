@@ -20,7 +20,10 @@ pub copy_turn-j-requires : goal.copy_turn-j-requires
 copy_turn-j-requires c =
     let low : c.loop-f.f < frames c.args.p = omega (arith, c.frames-all.ensures, c.loop-f-test.true) in
     let e = holds c.args.p c.args.marks.now c.requires.words_asked.long c.shared_slice_known-1.given in
-    (turn_asked _ _ _ _ c.requires.between _ _ _ low _ _ (c.loop-f.invariant.2 c.requires.between _ e), c.requires.words_asked)
+    record {
+      turn_asked = turn_asked _ _ _ _ c.requires.between _ _ _ low _ _ (c.loop-f.invariant.2 c.requires.between _ e);
+      words_asked = c.requires.words_asked;
+    }
 
 pub overflow_add-j : goal.overflow_add-j
 overflow_add-j c =

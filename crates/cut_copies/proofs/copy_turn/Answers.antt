@@ -10,9 +10,7 @@ use Rattle.cut_copies.proofs.Turns.{turn_no, turn_past, turn_yes}
 use Rattle.cut_copies.proofs.copy_turn.Goals as goal
 
 pub is_marked-requires : goal.is_marked-requires
-is_marked-requires c =
-    let a = (c.requires.turn_asked, c.requires.words_asked) in
-    record { words = a.1; frame = omega (arith, a.0.frame, (sizes _ a.0.fine).short) }
+is_marked-requires c = record { words = c.requires.words_asked; frame = omega (arith, c.requires.turn_asked.frame, (sizes _ c.requires.turn_asked.fine).short) }
 
 pub returns-then-not-is_marked : goal.returns-then-not-is_marked
 returns-then-not-is_marked c m e = turn_no _ _ _ _ _ _ _ _ (sym (c.is_marked.ensures m e) ∙ not-true _ c.if-not-is_marked.true-raw)

@@ -10,7 +10,11 @@ pub loop-n-init : goal.loop-n-init
 loop-n-init c = (omega arith, omega arith, count_none _ _ _)
 
 pub ops_of-k-requires : goal.ops_of-k-requires
-ops_of-k-requires c = (omega (arith, c.requires.bst_len, c.loop-n-test.true), omega (arith, c.requires.wear_len, c.loop-n-test.true))
+ops_of-k-requires c =
+    record {
+      b_in_bounds = omega (arith, c.requires.bst_len, c.loop-n-test.true);
+      b_in_bounds_2 = omega (arith, c.requires.wear_len, c.loop-n-test.true);
+    }
 
 pub overflow_add-k : goal.overflow_add-k
 overflow_add-k c = omega (arith, c.loop-n.invariant.1, c.loop-n-test.true, c.ops_of-k.ensures, ops_few c.args.p c.args.bst.now c.args.wear.now c.loop-n.n, (sizes _ c.requires.p_value).blocks)

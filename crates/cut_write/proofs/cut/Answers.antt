@@ -17,7 +17,11 @@ cut_room-requires c =
 pub returns-then-k-room : goal.returns-then-k-room
 returns-then-k-room c =
     let left = lost_room _ _ _ _ _ _ _ _ c.requires _ _ _ _ _ _ _ _ _ _ _ _ _ _ c.lose.ensures refl refl refl refl refl refl c.if-k-room.true c.cut_room.ensures in
-    (c.spent.ensures.answer_value, (c.spent.ensures.left_value, left))
+    record {
+      answer_value = c.spent.ensures.answer_value;
+      left_value = c.spent.ensures.left_value;
+      stamps_value = left;
+    }
 
 pub make_room-made-requires : goal.make_room-made-requires
 make_room-made-requires c = room_asked _ _ _ _ _ _ _ _ c.requires
@@ -30,8 +34,13 @@ find_frame-old-requires c = lookup_asked _ _ _ _ _ _ _ _ c.requires _ _ _ _ _ _ 
 
 pub put_pages-requires : goal.put_pages-requires
 put_pages-requires c =
-    let both = let same = c.cluster_of-c.ensures in ( same, ( c.requires.made.region ∙ sym (ap (region_of c.args.p) same), ( put_asked _ _ _ _ _ _ _ _ c.requires _ _ _ _ _ _ _ _ _ c.make_room-made.ensures _ _ (rw same at c.find_frame-old.ensures.stands), pages_few _ _ _ _ _ _ _ _ c.requires, ), ), ) in
-    record { c_value = both.0; r_value = both.1.0; pages_asked = both.1.1.0; m_le_alpha = both.1.1.1 }
+    let same = c.cluster_of-c.ensures in
+    record {
+      c_value = same;
+      r_value = c.requires.made.region ∙ sym (ap (region_of c.args.p) same);
+      pages_asked = put_asked _ _ _ _ _ _ _ _ c.requires _ _ _ _ _ _ _ _ _ c.make_room-made.ensures _ _ (rw same at c.find_frame-old.ensures.stands);
+      m_le_alpha = pages_few _ _ _ _ _ _ _ _ c.requires;
+    }
 
 pub shape_of-chip : goal.shape_of-chip
 shape_of-chip c = c.chip-3-1.given ∙ c.chip-2-1.given

@@ -6,7 +6,11 @@ use Rattle.cut_write.proofs.cut_room.Goals as goal
 pub bt_at-o-requires : goal.bt_at-o-requires
 bt_at-o-requires c =
     let a = rw c.pl-1.given.1 at c.requires.copies_asked in
-    (a.bt_length, (a.words.region, a.words.vblock))
+    record {
+      bt_len = a.bt_length;
+      r_lt_mu = a.words.region;
+      v_lt_gamma = a.words.vblock;
+    }
 
 pub cut_reclaim-requires : goal.cut_reclaim-requires
 cut_reclaim-requires c =

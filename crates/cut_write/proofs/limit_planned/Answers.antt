@@ -17,7 +17,11 @@ abbrev request : Start → Request
 request a = request_of a.args.lba a.args.count a.args.bytes.now
 
 pub room_ops-room-requires : goal.room_ops-room-requires
-room_ops-room-requires c = ((write_checks _ (board (goal.at.room_ops-room-requires c).Start) (request (goal.at.room_ops-room-requires c).Start) c.requires.accepted).fine, count_asked _ (board (goal.at.room_ops-room-requires c).Start) (request (goal.at.room_ops-room-requires c).Start) _ _ _ c.requires)
+room_ops-room-requires c =
+    record {
+      p_value = (write_checks _ (board (goal.at.room_ops-room-requires c).Start) (request (goal.at.room_ops-room-requires c).Start) c.requires.accepted).fine;
+      count_asked = count_asked _ (board (goal.at.room_ops-room-requires c).Start) (request (goal.at.room_ops-room-requires c).Start) _ _ _ c.requires;
+    }
 
 pub overflow_add-ops : goal.overflow_add-ops
 overflow_add-ops c = omega (arith, c.room_ops-room.ensures.upper_bound, alpha_few _ _ _ c.requires.accepted)
@@ -27,10 +31,10 @@ write_planned-answer-requires c = c.requires
 
 pub returns-then-budget-ops : goal.returns-then-budget-ops
 returns-then-budget-ops c =
-    (
-      whole _ (board (goal.at.returns-then-budget-ops c).Start) (request (goal.at.returns-then-budget-ops c).Start) _ _ _ c.requires _ c.room_ops-room.ensures.value _ _ refl c.if-budget-ops.true _ c.write_planned-answer.ensures,
-      parts_left _ (board (goal.at.returns-then-budget-ops c).Start) (request (goal.at.returns-then-budget-ops c).Start) _ _ _ c.requires _ _ (left_is_lem _ (board (goal.at.returns-then-budget-ops c).Start) (request (goal.at.returns-then-budget-ops c).Start) _ _ _ c.requires _ c.room_ops-room.ensures.value _ _ refl),
-    )
+    record {
+      stamps_value = whole _ (board (goal.at.returns-then-budget-ops c).Start) (request (goal.at.returns-then-budget-ops c).Start) _ _ _ c.requires _ c.room_ops-room.ensures.value _ _ refl c.if-budget-ops.true _ c.write_planned-answer.ensures;
+      left_value = parts_left _ (board (goal.at.returns-then-budget-ops c).Start) (request (goal.at.returns-then-budget-ops c).Start) _ _ _ c.requires _ _ (left_is_lem _ (board (goal.at.returns-then-budget-ops c).Start) (request (goal.at.returns-then-budget-ops c).Start) _ _ _ c.requires _ c.room_ops-room.ensures.value _ _ refl);
+    }
 
 pub cut-requires : goal.cut-requires
 cut-requires c = cut_asked _ (board (goal.at.cut-requires c).Start) (request (goal.at.cut-requires c).Start) _ _ _ c.requires _ c.room_ops-room.ensures.value _ (omega (arith, c.if-budget-ops.false))

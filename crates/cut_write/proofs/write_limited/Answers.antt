@@ -12,12 +12,18 @@ cluster_of-requires c = sectors _ _ _ (checked _ _ _ c.requires)
 pub region_of-r-requires : goal.region_of-r-requires
 region_of-r-requires c =
     let look = lookup_entry _ _ _ (checked _ _ _ c.requires) _ c.cluster_of.ensures in
-    (look.fine, look.low)
+    record {
+      p_value = look.fine;
+      c_lt_c = look.low;
+    }
 
 pub plan_of-pl-requires : goal.plan_of-pl-requires
 plan_of-pl-requires c =
     let region = c.region_of-r.ensures ∙ ap (region_of c.args.p) c.cluster_of.ensures in
-    (plan_asked _ _ _ (checked _ _ _ c.requires) _ region, marks_full _ _ _ (checked _ _ _ c.requires))
+    record {
+      plan_asked = plan_asked _ _ _ (checked _ _ _ c.requires) _ region;
+      marks_len = marks_full _ _ _ (checked _ _ _ c.requires);
+    }
 
 pub plan_block-n-requires : goal.plan_block-n-requires
 plan_block-n-requires c =
@@ -31,7 +37,10 @@ returns-then-n-eq-NOT_FOUND c =
     let checks = checked _ _ _ c.requires in
     let plan = plan_is_lem _ _ _ checks _ region _ c.plan_of-pl.ensures in
     let none = none_left _ _ _ checks _ region _ plan _ (c.plan_block-n.ensures _ _ _ _ _) c.if-n-eq-NOT_FOUND.true in
-    (refused_is _ _ _ c.requires none _ _ c.no_block_left.ensures, all_left _ _ _ c.requires none _)
+    record {
+      stamps_value = refused_is _ _ _ c.requires none _ _ c.no_block_left.ensures;
+      left_value = all_left _ _ _ c.requires none _;
+    }
 
 pub limit_planned-requires : goal.limit_planned-requires
 limit_planned-requires c =

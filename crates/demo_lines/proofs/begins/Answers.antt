@@ -12,7 +12,10 @@ loop-i-init c = (omega arith, refl)
 pub returns-then-k-eq0 : goal.returns-then-k-eq0
 returns-then-k-eq0 c =
     let w = c.loop-i in
-    (w.invariant.0, field_here _ w.k c.if-k-eq0.true ∙ w.invariant.1)
+    record {
+      upper_bound = w.invariant.0;
+      s_value = field_here _ w.k c.if-k-eq0.true ∙ w.invariant.1;
+    }
 
 pub loop-i-preserved : goal.loop-i-preserved
 loop-i-preserved c =

@@ -61,7 +61,8 @@ pub loop-i-preserved : goal.loop-i-preserved
 loop-i-preserved c =
     let w = c.loop-i in
     let h = c.loop-i-test.true in
-    let d = sym c.is_digit.ensures ∙ not-false _ c.if-not-is_digit.false-raw in (
+    let d = sym c.is_digit.ensures ∙ not-false _ c.if-not-is_digit.false-raw in
+    (
       omega arith,
       w.invariant.1 ∙ digits_turn _ w.i h d,
       rw c.wide.ensures (w.invariant.2 ∙ value_turn _ w.i w.v h),

@@ -14,7 +14,10 @@ pub returns-then-s-i-eq9 : goal.returns-then-s-i-eq9
 returns-then-s-i-eq9 c =
     let w = c.loop-i in
     let s = c.args.s.now in
-    (w.invariant.0, first_stop s w.i c.loop-i-test.true (eq-eqb _ _ c.if-s-i-eq9.true) ∙ w.invariant.1)
+    record {
+      upper_bound = w.invariant.0;
+      s_value = first_stop s w.i c.loop-i-test.true (eq-eqb _ _ c.if-s-i-eq9.true) ∙ w.invariant.1;
+    }
 
 pub loop-i-preserved : goal.loop-i-preserved
 loop-i-preserved c =

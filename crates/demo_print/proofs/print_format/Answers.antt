@@ -7,6 +7,4 @@ use Rattle.demo_print.proofs.print_format.Goals as goal
 
 pub returns : goal.returns
 unfolding format_line
-returns c =
-    let t = (c.put_counts-end.ensures.put, c.put_counts-end.ensures.upper_bound) in
-    printed (then t.0 (one _ _ 10)) (omega (arith, t.1, c.requires))
+returns c = printed (then c.put_counts-end.ensures.put (one _ _ 10)) (omega (arith, c.put_counts-end.ensures.upper_bound, c.requires))

@@ -8,25 +8,14 @@ use native.Mathlib.Omega.{arith}
 use Rattle.demo_print.proofs.print_write.Goals as goal
 
 pub tabbed-end-requires : goal.tabbed-end-requires
-tabbed-end-requires c =
-    let t = (c.put_counts-looks.ensures.put, c.put_counts-looks.ensures.upper_bound) in
-    omega (arith, t.1, put_length t.0, c.requires)
+tabbed-end-requires c = omega (arith, c.put_counts-looks.ensures.upper_bound, put_length c.put_counts-looks.ensures.put, c.requires)
 
 pub bounds-out-end : goal.bounds-out-end
-bounds-out-end c =
-    let t = (c.put_counts-looks.ensures.put, c.put_counts-looks.ensures.upper_bound) in
-    let u = (c.tabbed-end.ensures.put, c.tabbed-end.ensures.upper_bound) in
-    omega (arith, t.1, u.1, put_length t.0, put_length u.0, c.requires)
+bounds-out-end c = omega (arith, c.put_counts-looks.ensures.upper_bound, c.tabbed-end.ensures.upper_bound, put_length c.put_counts-looks.ensures.put, put_length c.tabbed-end.ensures.put, c.requires)
 
 pub shape_of-out : goal.shape_of-out
-shape_of-out c =
-    let t = (c.put_counts-looks.ensures.put, c.put_counts-looks.ensures.upper_bound) in
-    let u = (c.tabbed-end.ensures.put, c.tabbed-end.ensures.upper_bound) in
-    simp length-set (put_length u.0 ∙ put_length t.0)
+shape_of-out c = simp length-set (put_length c.tabbed-end.ensures.put ∙ put_length c.put_counts-looks.ensures.put)
 
 pub returns : goal.returns
 unfolding write_line
-returns c =
-    let t = (c.put_counts-looks.ensures.put, c.put_counts-looks.ensures.upper_bound) in
-    let u = (c.tabbed-end.ensures.put, c.tabbed-end.ensures.upper_bound) in
-    printed (then t.0 (then u.0 (one _ _ 10))) (omega (arith, t.1, u.1, c.requires))
+returns c = printed (then c.put_counts-looks.ensures.put (then c.tabbed-end.ensures.put (one _ _ 10))) (omega (arith, c.put_counts-looks.ensures.upper_bound, c.tabbed-end.ensures.upper_bound, c.requires))

@@ -16,7 +16,14 @@ pub returns-then-reply-eq0 : goal.returns-then-reply-eq0
 returns-then-reply-eq0 c =
     let p = c.sectors.ensures in
     let l = c.args.bytes.now in
-    (rw (eq-eqb _ _ c.if-reply-eq0.true) p, omega (arith, p.next, sectors_length (length l / 16) l (le_refl _)))
+    record {
+      put = rw (eq-eqb _ _ c.if-reply-eq0.true) p;
+      upper_bound = omega (arith, p.next, sectors_length (length l / 16) l (le_refl _));
+    }
 
 pub returns-else-reply-eq0 : goal.returns-else-reply-eq0
-returns-else-reply-eq0 c = (rw (ne_eqb _ _ c.if-reply-eq0.false) (nothing _ _), omega arith)
+returns-else-reply-eq0 c =
+    record {
+      put = rw (ne_eqb _ _ c.if-reply-eq0.false) (nothing _ _);
+      upper_bound = omega arith;
+    }

@@ -19,7 +19,11 @@ returns-then-answers-items c = too_few _ (board (goal.at.returns-then-answers-it
 pub state_reply-state-requires : goal.state_reply-state-requires
 state_reply-state-requires c =
     let h = head_passed _ (board (goal.at.state_reply-state-requires c).Start) c.args.items c.args.answers _ c.board_reply-board.ensures _ c.number.ensures c.if-number-ne0.false in
-    (lengths_in _ (board (goal.at.state_reply-state-requires c).Start) h.fine h.fits, (marks_fit _ (board (goal.at.state_reply-state-requires c).Start) h.fits, (tables_in _ (board (goal.at.state_reply-state-requires c).Start) h.fits).stamps_length))
+    record {
+      lengths = lengths_in _ (board (goal.at.state_reply-state-requires c).Start) h.fine h.fits;
+      marks_len = marks_fit _ (board (goal.at.state_reply-state-requires c).Start) h.fits;
+      stamps_len = (tables_in _ (board (goal.at.state_reply-state-requires c).Start) h.fits).stamps_length;
+    }
 
 pub returns : goal.returns
 returns c =

@@ -21,7 +21,11 @@ pub has_bytes-fits-requires : goal.has_bytes-fits-requires
 has_bytes-fits-requires c = c.requires.fine
 
 pub item_reply-reply-requires : goal.item_reply-reply-requires
-item_reply-reply-requires c = (c.requires.fine, (lengths_in _ (board (goal.at.item_reply-reply-requires c).Start) c.requires.lengths).stamps_length)
+item_reply-reply-requires c =
+    record {
+      p_value = c.requires.fine;
+      stamps_len = (lengths_in _ (board (goal.at.item_reply-reply-requires c).Start) c.requires.lengths).stamps_length;
+    }
 
 pub returns-then-number-ne0 : goal.returns-then-number-ne0
 returns-then-number-ne0 c =

@@ -21,5 +21,8 @@ pub returns : goal.returns
 returns c =
     let pre = c.requires in
     let cluster = c.cluster_of-c.ensures in
-    let both = let found = (c.find_frame-at.ensures.stands, (c.find_frame-at.ensures.within, c.find_frame-at.ensures.looked)) in ( λ fst bst wear marks stamps. c.read_run.ensures ∙ read_is _ _ _ _ _ _ _ pre _ _ (rw cluster at found.0) _ c.sector_of-j.ensures fst bst wear marks stamps, rw cluster at found.1.1, ) in
-    record { bytes_after = both.0; looked = both.1 }
+    record {
+      bytes_after = λ fst bst wear marks stamps.
+              c.read_run.ensures ∙ read_is _ _ _ _ _ _ _ pre _ _ (rw cluster at c.find_frame-at.ensures.stands) _ c.sector_of-j.ensures fst bst wear marks stamps;
+      looked = rw cluster at c.find_frame-at.ensures.looked;
+    }

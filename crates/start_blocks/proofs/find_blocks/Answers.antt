@@ -8,21 +8,26 @@ use Rattle.start_blocks.proofs.find_blocks.Goals as goal
 
 pub name_fulls-requires : goal.name_fulls-requires
 name_fulls-requires c =
-    let a = (c.requires.start_asked, (c.requires.bst_len, c.requires.wear_len)) in
     record {
-      start_asked = still_asked _ _ _ a.0 _ (ap length c.clear.ensures ∙ length-replicate _ _);
-      bt_value = fulls_none _ _ _ a.0 _ c.clear.ensures;
+      start_asked = still_asked _ _ _ c.requires.start_asked _ (ap length c.clear.ensures ∙ length-replicate _ _);
+      bt_value = fulls_none _ _ _ c.requires.start_asked _ c.clear.ensures;
     }
 
 pub name_opens-k-requires : goal.name_opens-k-requires
 name_opens-k-requires c =
-    let a = (c.requires.start_asked, (c.requires.bst_len, c.requires.wear_len)) in
-    (still_asked _ _ _ a.0 _ (ap length c.name_fulls.ensures ∙ fulls_length _ _ _ a.0 _ ∙ sym a.0.bt_length), (a.1.1, c.name_fulls.ensures))
+    record {
+      start_asked = still_asked _ _ _ c.requires.start_asked _ (ap length c.name_fulls.ensures ∙ fulls_length _ _ _ c.requires.start_asked _ ∙ sym c.requires.start_asked.bt_length);
+      wear_len = c.requires.wear_len;
+      bt_value = c.name_fulls.ensures;
+    }
 
 pub reserve_bad-requires : goal.reserve_bad-requires
 reserve_bad-requires c =
-    let both = let a = (c.requires.start_asked, (c.requires.bst_len, c.requires.wear_len)) in (a.0.fine, (swept_length _ _ _ a.0 _ _ c.name_opens-k.ensures.chip_is, a.1.0)) in
-    record { p_value = both.0; chip_len = both.1.0; bst_len = both.1.1 }
+    record {
+      p_value = c.requires.start_asked.fine;
+      chip_len = swept_length _ _ _ c.requires.start_asked _ _ c.name_opens-k.ensures.chip_is;
+      bst_len = c.requires.bst_len;
+    }
 
 pub use_named-requires : goal.use_named-requires
 use_named-requires c =

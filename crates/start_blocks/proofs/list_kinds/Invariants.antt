@@ -9,7 +9,7 @@ use Rattle.rules.specs.Start.{left_over}
 use Rattle.start_blocks.proofs.list_kinds.Given as goal
 
 abbrev pub invariant-loop-n : goal.invariant-loop-n
-invariant-loop-n l = (l.n ≤ l.m) × (length l.bst ≡ length l.initial.bst) × (l.bst ≡ made_to l.p.N (λ l.n. cond (left_over l.p l.chip l.n) 0 2) (λ l.n. get_or l.initial.bst l.n 0) l.n)
+invariant-loop-n l = (l.n ≤ l.m) × (length l.bst ≡ length l.initial.bst) × (l.bst ≡ made_to l.p.N (λ n'. cond (left_over l.p l.chip n') 0 2) (λ n'. get_or l.initial.bst n' 0) l.n)
 
 abbrev pub decreases-loop-n : goal.decreases-loop-n
 decreases-loop-n l = l.m - l.n

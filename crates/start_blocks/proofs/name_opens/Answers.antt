@@ -10,14 +10,15 @@ loop-n-init c = (omega arith, λ a. opens_start _ _ _ _ a c.requires.bt_value)
 
 pub name_open-k-requires : goal.name_open-k-requires
 name_open-k-requires c =
-    let a = (c.requires.start_asked, (c.requires.wear_len, c.requires.bt_value)) in
-    let so = c.loop-n.invariant.1 a.0 in
-    (open_asked _ _ _ _ a.0 _ c.loop-n-test.true _ _ _ _ so, wear_same _ _ _ _ a.0 _ c.loop-n.invariant.0 _ _ _ _ so ∙ a.1.0)
+    let so = c.loop-n.invariant.1 c.requires.start_asked in
+    record {
+      block_asked = open_asked _ _ _ _ c.requires.start_asked _ c.loop-n-test.true _ _ _ _ so;
+      wear_len = wear_same _ _ _ _ c.requires.start_asked _ c.loop-n.invariant.0 _ _ _ _ so ∙ c.requires.wear_len;
+    }
 
 pub overflow_add-k : goal.overflow_add-k
 overflow_add-k c =
-    let a = (c.requires.start_asked, (c.requires.wear_len, c.requires.bt_value)) in
-    let turn = opens_turn _ _ _ _ a.0 _ c.loop-n-test.true _ _ _ _ (c.loop-n.invariant.1 a.0) _ _ _ _ c.name_open-k.ensures in
+    let turn = opens_turn _ _ _ _ c.requires.start_asked _ c.loop-n-test.true _ _ _ _ (c.loop-n.invariant.1 c.requires.start_asked) _ _ _ _ c.name_open-k.ensures in
     omega (arith, turn.erased.few, c.loop-n-test.true)
 
 pub overflow_add-n : goal.overflow_add-n
@@ -30,13 +31,13 @@ pub loop-n-preserved : goal.loop-n-preserved
 loop-n-preserved c = (omega arith, λ a. opens_turn _ _ _ _ a _ c.loop-n-test.true _ _ _ _ (c.loop-n.invariant.1 a) _ _ _ _ c.name_open-k.ensures)
 
 pub shape_of-chip : goal.shape_of-chip
-shape_of-chip c = let a = (c.requires.start_asked, (c.requires.wear_len, c.requires.bt_value)) in chip_same_lem _ _ _ _ a.0 _ c.loop-n.invariant.0 _ _ _ _ (c.loop-n.invariant.1 a.0)
+shape_of-chip c = chip_same_lem _ _ _ _ c.requires.start_asked _ c.loop-n.invariant.0 _ _ _ _ (c.loop-n.invariant.1 c.requires.start_asked)
 
 pub shape_of-bt : goal.shape_of-bt
-shape_of-bt c = let a = (c.requires.start_asked, (c.requires.wear_len, c.requires.bt_value)) in bt_same _ _ _ _ a.0 _ c.loop-n.invariant.0 _ _ _ _ (c.loop-n.invariant.1 a.0)
+shape_of-bt c = bt_same _ _ _ _ c.requires.start_asked _ c.loop-n.invariant.0 _ _ _ _ (c.loop-n.invariant.1 c.requires.start_asked)
 
 pub shape_of-wear : goal.shape_of-wear
-shape_of-wear c = let a = (c.requires.start_asked, (c.requires.wear_len, c.requires.bt_value)) in wear_same _ _ _ _ a.0 _ c.loop-n.invariant.0 _ _ _ _ (c.loop-n.invariant.1 a.0)
+shape_of-wear c = wear_same _ _ _ _ c.requires.start_asked _ c.loop-n.invariant.0 _ _ _ _ (c.loop-n.invariant.1 c.requires.start_asked)
 
 pub returns : goal.returns
 returns c =

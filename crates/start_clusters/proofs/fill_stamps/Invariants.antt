@@ -9,7 +9,7 @@ use Rattle.rules.specs.Start.{found_view}
 use Rattle.start_clusters.proofs.fill_stamps.Given as goal
 
 abbrev pub invariant-loop-r : goal.invariant-loop-r
-invariant-loop-r l = (l.r ≤ l.m) × (length l.stamps ≡ length l.initial.stamps) × (l.stamps ≡ made_to l.p.mu (λ l.r. largest_stamp l.p (found_view l.p l.chip l.bt l.r)) (λ l.r. get_or l.initial.stamps l.r 0) l.r)
+invariant-loop-r l = (l.r ≤ l.m) × (length l.stamps ≡ length l.initial.stamps) × (l.stamps ≡ made_to l.p.mu (λ r'. largest_stamp l.p (found_view l.p l.chip l.bt r')) (λ r'. get_or l.initial.stamps r' 0) l.r)
 
 abbrev pub decreases-loop-r : goal.decreases-loop-r
 decreases-loop-r l = l.m - l.r

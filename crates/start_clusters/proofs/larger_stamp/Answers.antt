@@ -11,7 +11,11 @@ pub returns-then-not-has_frame : goal.returns-then-not-has_frame
 returns-then-not-has_frame c = stamp_bare _ _ _ c.requires.found _ _ c.requires.i_bound _ c.requires.last_value _ c.has_frame.ensures c.if-not-has_frame.true-raw
 
 pub frame_at-fr-requires : goal.frame_at-fr-requires
-frame_at-fr-requires c = (c.requires.found, found_frame _ _ _ _ c.requires.r_lt_mu c.requires.i_bound _ c.has_frame.ensures c.if-not-has_frame.false-raw)
+frame_at-fr-requires c =
+    record {
+      found = c.requires.found;
+      has_frame = found_frame _ _ _ _ c.requires.r_lt_mu c.requires.i_bound _ c.has_frame.ensures c.if-not-has_frame.false-raw;
+    }
 
 pub returns-then-not-is_programmed : goal.returns-then-not-is_programmed
 returns-then-not-is_programmed c = stamp_begun _ _ _ c.requires.found _ _ c.requires.i_bound _ c.requires.last_value _ c.frame_at-fr.ensures.result_value (sym c.is_programmed.ensures ∙ not-true _ c.if-not-is_programmed.true-raw)

@@ -12,7 +12,13 @@ pub loop-i-init : goal.loop-i-init
 loop-i-init c = (omega arith, stamp_start _ _)
 
 pub larger_stamp-last-requires : goal.larger_stamp-last-requires
-larger_stamp-last-requires c = (c.requires.found, (c.requires.r_lt_mu, (omega (arith, c.region_frames-n.ensures, c.loop-i-test.true), c.loop-i.invariant.1)))
+larger_stamp-last-requires c =
+    record {
+      found = c.requires.found;
+      r_lt_mu = c.requires.r_lt_mu;
+      i_bound = omega (arith, c.region_frames-n.ensures, c.loop-i-test.true);
+      last_value = c.loop-i.invariant.1;
+    }
 
 pub overflow_add-i : goal.overflow_add-i
 overflow_add-i c = omega arith

@@ -11,7 +11,11 @@ pub returns-then-not-has_frame : goal.returns-then-not-has_frame
 returns-then-not-has_frame c = unassigned _ _ _ _ _ _ c.requires (eqb-true _ _ (not-false _ (sym c.has_frame.ensures ∙ not-true _ c.if-not-has_frame.true-raw)))
 
 pub frame_at-fr-requires : goal.frame_at-fr-requires
-frame_at-fr-requires c = (c.requires.found, found_frame _ _ _ _ c.requires.region c.requires.low _ c.has_frame.ensures c.if-not-has_frame.false-raw)
+frame_at-fr-requires c =
+    record {
+      found = c.requires.found;
+      has_frame = found_frame _ _ _ _ c.requires.region c.requires.low _ c.has_frame.ensures c.if-not-has_frame.false-raw;
+    }
 
 pub returns-then-not-is_whole : goal.returns-then-not-is_whole
 returns-then-not-is_whole c = begun _ _ _ _ _ _ c.requires _ c.frame_at-fr.ensures.result_value (sym c.is_whole.ensures ∙ not-true _ c.if-not-is_whole.true-raw)
@@ -25,8 +29,12 @@ ct_at-m-requires c =
 pub is_newer-requires : goal.is_newer-requires
 is_newer-requires c =
     let a = c.requires in
-    let both = let has = found_frame _ _ _ _ a.region a.low _ c.has_frame.ensures c.if-not-has_frame.false-raw in ( a.found, ( has, entry_has _ _ _ _ _ _ a has _ c.frame_at-fr.ensures.result_value (sym c.is_whole.ensures ∙ not-false _ c.if-not-is_whole.false-raw) _ c.last_cluster-c.ensures _ c.ct_at-m.ensures.result_value, ), ) in
-    record { found = both.0; has_frame = both.1.0; has_frame_2 = both.1.1 }
+    let has = found_frame _ _ _ _ a.region a.low _ c.has_frame.ensures c.if-not-has_frame.false-raw in
+    record {
+      found = a.found;
+      has_frame = has;
+      has_frame_2 = entry_has _ _ _ _ _ _ a has _ c.frame_at-fr.ensures.result_value (sym c.is_whole.ensures ∙ not-false _ c.if-not-is_whole.false-raw) _ c.last_cluster-c.ensures _ c.ct_at-m.ensures.result_value;
+    }
 
 pub overflow_cast-ct : goal.overflow_cast-ct
 overflow_cast-ct c = omega (arith, small _ _ _ _ _ _ c.requires)

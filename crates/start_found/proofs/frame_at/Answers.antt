@@ -8,7 +8,12 @@ pub nonzero_div-i : goal.nonzero_div-i
 nonzero_div-i c = omega (arith, divisor _ c.requires.found.fine _ _ c.requires.has_frame.low c.frames-f.ensures)
 
 pub bt_at-n-requires : goal.bt_at-n-requires
-bt_at-n-requires c = (c.requires.found.bt_length, (c.requires.has_frame.region, vblock_is_low _ c.requires.found.fine _ _ c.requires.has_frame.low c.frames-f.ensures))
+bt_at-n-requires c =
+    record {
+      bt_len = c.requires.found.bt_length;
+      r_lt_mu = c.requires.has_frame.region;
+      v_lt_gamma = vblock_is_low _ c.requires.found.fine _ _ c.requires.has_frame.low c.frames-f.ensures;
+    }
 
 pub block_of-requires : goal.block_of-requires
 block_of-requires c =

@@ -8,7 +8,7 @@ use Rattle.rules.specs.Start.{found_fst, found_view}
 use Rattle.start_fst.proofs.fill_fst.Given as goal
 
 abbrev pub invariant-loop-r : goal.invariant-loop-r
-invariant-loop-r l = (l.r ≤ l.m) × (l.fst ≡ made_to l.p.mu (λ l.r. found_fst l.p (found_view l.p l.chip l.bt l.r)) (λ l.r. get_or l.initial.fst l.r 0) l.r)
+invariant-loop-r l = (l.r ≤ l.m) × (l.fst ≡ made_to l.p.mu (λ r'. found_fst l.p (found_view l.p l.chip l.bt r')) (λ r'. get_or l.initial.fst r' 0) l.r)
 
 abbrev pub decreases-loop-r : goal.decreases-loop-r
 decreases-loop-r l = l.m - l.r

@@ -5,7 +5,11 @@ use Rattle.start_fst.proofs.Open.{fst_none, fst_some, open_spec}
 use Rattle.start_fst.proofs.segment_of.Goals as goal
 
 pub returns-then-v-eq-NOT_FOUND : goal.returns-then-v-eq-NOT_FOUND
-returns-then-v-eq-NOT_FOUND c = (fst_none _ _ _ c.requires.found _ c.requires.r_lt_mu _ c.open_vblock-v.ensures c.if-v-eq-NOT_FOUND.true, omega arith)
+returns-then-v-eq-NOT_FOUND c =
+    record {
+      result_value = fst_none _ _ _ c.requires.found _ c.requires.r_lt_mu _ c.open_vblock-v.ensures c.if-v-eq-NOT_FOUND.true;
+      result_bound = omega arith;
+    }
 
 pub last_segment-requires : goal.last_segment-requires
 last_segment-requires c =

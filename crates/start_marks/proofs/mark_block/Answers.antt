@@ -16,8 +16,14 @@ loop-f-init c = (omega arith, refl, λ views s e. e)
 
 pub mark_frame-requires : goal.mark_frame-requires
 mark_frame-requires c =
-    let both = let low : c.loop-f.f < frames c.args.p = omega (arith, c.frames-n.ensures, c.loop-f-test.true) in ( record { block = c.requires.one_block; low = low }, record { words = record { fine = c.requires.words_asked.fine; long = c.loop-f.invariant.1 ∙ c.requires.words_asked.long; region = c.requires.words_asked.region; vblock = c.requires.words_asked.vblock }; frame = omega (arith, low, (sizes _ c.requires.one_block.fine).short); }, ) in
-    record { one_frame = both.0; mark_asked = both.1 }
+    let low : c.loop-f.f < frames c.args.p = omega (arith, c.frames-n.ensures, c.loop-f-test.true) in
+    record {
+      one_frame = record { block = c.requires.one_block; low = low };
+      mark_asked = record {
+            words = record { fine = c.requires.words_asked.fine; long = c.loop-f.invariant.1 ∙ c.requires.words_asked.long; region = c.requires.words_asked.region; vblock = c.requires.words_asked.vblock };
+            frame = omega (arith, low, (sizes _ c.requires.one_block.fine).short);
+          };
+    }
 
 pub overflow_add-f : goal.overflow_add-f
 overflow_add-f c = omega arith

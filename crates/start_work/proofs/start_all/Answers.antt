@@ -4,7 +4,9 @@ use Rattle.start_work.proofs.Left.{board_is, long, start_asked, tables_asked}
 use Rattle.start_work.proofs.start_all.Goals as goal
 
 pub find_blocks-k-requires : goal.find_blocks-k-requires
-find_blocks-k-requires c = let a = c.requires in (start_asked _ _ a, ((long _ _ a).bst_length, (long _ _ a).wear_length))
+find_blocks-k-requires c =
+    let both = let a = c.requires in (start_asked _ _ a, ((long _ _ a).bst_length, (long _ _ a).wear_length)) in
+    record { start_asked = both.0; bst_len = both.1.0; wear_len = both.1.1 }
 
 pub fill_tables-requires : goal.fill_tables-requires
 fill_tables-requires c = tables_asked _ _ c.requires _ _ _ _ c.find_blocks-k.ensures.kept

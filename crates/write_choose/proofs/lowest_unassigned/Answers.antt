@@ -10,7 +10,12 @@ pub loop-v-init : goal.loop-v-init
 loop-v-init c = (omega arith, first_none _ _ _)
 
 pub bt_at-b-requires : goal.bt_at-b-requires
-bt_at-b-requires c = (c.requires.bt_len, (c.requires.r_lt_mu, c.loop-v-test.true))
+bt_at-b-requires c =
+    record {
+      bt_len = c.requires.bt_len;
+      r_lt_mu = c.requires.r_lt_mu;
+      v_lt_gamma = c.loop-v-test.true;
+    }
 
 pub overflow_add-v : goal.overflow_add-v
 overflow_add-v c = omega (arith, (sizes _ c.requires.p_value).gamma_high)

@@ -9,7 +9,11 @@ pub cluster_of-c-requires : goal.cluster_of-c-requires
 cluster_of-c-requires c = (sizes _ c.requires.standing.fine).sectors
 
 pub region_of-r-requires : goal.region_of-r-requires
-region_of-r-requires c = (c.requires.standing.fine, rw c.cluster_of-c.ensures c.requires.standing.asked.cluster)
+region_of-r-requires c =
+    record {
+      p_value = c.requires.standing.fine;
+      c_lt_c = rw c.cluster_of-c.ensures c.requires.standing.asked.cluster;
+    }
 
 pub put_pages-requires : goal.put_pages-requires
 put_pages-requires c =
@@ -21,7 +25,12 @@ put_pages-requires c =
     }
 
 pub segment_of-sg-requires : goal.segment_of-sg-requires
-segment_of-sg-requires c = (c.requires.standing.fine, (c.requires.standing.base.ready.mine, frame_few _ _ _ _ _ c.requires.standing))
+segment_of-sg-requires c =
+    record {
+      p_value = c.requires.standing.fine;
+      v_lt_gamma = c.requires.standing.base.ready.mine;
+      f_bound = frame_few _ _ _ _ _ c.requires.standing;
+    }
 
 pub set_ct-requires : goal.set_ct-requires
 set_ct-requires c =

@@ -7,10 +7,16 @@ use Rattle.write_cluster.proofs.put_pages.Goals as goal
 pub bt_at-n-requires : goal.bt_at-n-requires
 bt_at-n-requires c =
     let a = c.requires.pages_asked in
-    (a.bt_length, (region_at_lem _ _ _ _ _ _ _ _ _ c.requires.pages_asked _ _ c.requires.c_value c.requires.r_value, a.low))
+    record {
+      bt_len = a.bt_length;
+      r_lt_mu = region_at_lem _ _ _ _ _ _ _ _ _ c.requires.pages_asked _ _ c.requires.c_value c.requires.r_value;
+      v_lt_gamma = a.low;
+    }
 
 pub frame_at-to-requires : goal.frame_at-to-requires
-frame_at-to-requires c = (c.requires.pages_asked.fine, number_asked _ _ _ _ _ _ _ _ _ c.requires.pages_asked _ _ c.requires.c_value c.requires.r_value _ c.bt_at-n.ensures.result_value)
+frame_at-to-requires c =
+    let both = (c.requires.pages_asked.fine, number_asked _ _ _ _ _ _ _ _ _ c.requires.pages_asked _ _ c.requires.c_value c.requires.r_value _ c.bt_at-n.ensures.result_value) in
+    record { p_value = both.0; n_lt_n = both.1.0; f_bound = both.1.1 }
 
 pub sector_of-off-requires : goal.sector_of-off-requires
 sector_of-off-requires c = (sizes _ c.requires.pages_asked.fine).sectors

@@ -14,10 +14,19 @@ pub returns-then-sg-eq-NONE : goal.returns-then-sg-eq-NONE
 returns-then-sg-eq-NONE c = no_open _ _ _ _ _ c.requires _ c.fst_at-sg.ensures.result_value _ c.if-sg-eq-NONE.true c.frames.ensures
 
 pub vblock_of-v-requires : goal.vblock_of-v-requires
-vblock_of-v-requires c = (c.requires.fine, c.fst_at-sg.ensures.result_bound)
+vblock_of-v-requires c =
+    record {
+      p_value = c.requires.fine;
+      sg_bound = c.fst_at-sg.ensures.result_bound;
+    }
 
 pub bt_at-n-requires : goal.bt_at-n-requires
-bt_at-n-requires c = (c.requires.bt_length, (c.requires.low, open_low _ _ _ _ _ c.requires _ c.fst_at-sg.ensures.result_value c.if-sg-eq-NONE.false _ c.vblock_of-v.ensures))
+bt_at-n-requires c =
+    record {
+      bt_len = c.requires.bt_length;
+      r_lt_mu = c.requires.low;
+      v_lt_gamma = open_low _ _ _ _ _ c.requires _ c.fst_at-sg.ensures.result_value c.if-sg-eq-NONE.false _ c.vblock_of-v.ensures;
+    }
 
 pub place_of-requires : goal.place_of-requires
 place_of-requires c =

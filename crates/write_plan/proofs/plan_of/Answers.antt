@@ -22,7 +22,12 @@ returns-then-f-frames c =
     c.fst_at.ensures.result_value c.vblock_of.ensures
 
 pub lowest_unassigned-v-requires : goal.lowest_unassigned-v-requires
-lowest_unassigned-v-requires c = (c.requires.plan_asked.fine, (c.requires.plan_asked.bt_length, c.requires.plan_asked.low))
+lowest_unassigned-v-requires c =
+    record {
+      p_value = c.requires.plan_asked.fine;
+      bt_len = c.requires.plan_asked.bt_length;
+      r_lt_mu = c.requires.plan_asked.low;
+    }
 
 pub returns-then-v-ne-NOT_FOUND : goal.returns-then-v-ne-NOT_FOUND
 returns-then-v-ne-NOT_FOUND c =

@@ -18,7 +18,10 @@ pub move_marked-k-requires : goal.move_marked-k-requires
 move_marked-k-requires c =
     let low : c.loop-f.f < frames c.args.p = omega (arith, c.frames-all.ensures, c.loop-f-test.true) in
     let e = holds c.args.p c.args.marks.now c.requires.words_asked.long c.shared_slice_known-1.given in
-    (move_asked _ _ _ _ _ _ c.requires.from_to _ _ low _ _ _ (c.loop-f.invariant.1 c.requires.from_to _ e), c.requires.words_asked)
+    record {
+      move_asked = move_asked _ _ _ _ _ _ c.requires.from_to _ _ low _ _ _ (c.loop-f.invariant.1 c.requires.from_to _ e);
+      words_asked = c.requires.words_asked;
+    }
 
 pub overflow_add-k : goal.overflow_add-k
 overflow_add-k c =

@@ -8,9 +8,7 @@ use Rattle.write_reclaim.proofs.Places.{moved_yes, moved_no}
 use Rattle.write_reclaim.proofs.move_marked.Goals as goal
 
 pub is_marked-requires : goal.is_marked-requires
-is_marked-requires c =
-    let a = (c.requires.move_asked, c.requires.words_asked) in
-    record { words = a.1; frame = omega (arith, a.0.copy.from.frame, (sizes _ a.1.fine).short) }
+is_marked-requires c = record { words = c.requires.words_asked; frame = omega (arith, c.requires.move_asked.copy.from.frame, (sizes _ c.requires.words_asked.fine).short) }
 
 pub returns-then-is_marked : goal.returns-then-is_marked
 returns-then-is_marked c m e =

@@ -5,7 +5,9 @@ use Rattle.write_reclaim.proofs.Copies.{reclaimed}
 use Rattle.write_reclaim.proofs.reclaim.Goals as goal
 
 pub copy_marked-k-requires : goal.copy_marked-k-requires
-copy_marked-k-requires c = let a = c.requires in (a.blocks, a.words)
+copy_marked-k-requires c =
+    let both = let a = c.requires in (a.blocks, a.words) in
+    record { from_to = both.0; words_asked = both.1 }
 
 pub erase_block-requires : goal.erase_block-requires
 erase_block-requires c =

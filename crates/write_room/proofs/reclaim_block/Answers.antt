@@ -7,7 +7,12 @@ use Rattle.write_room.proofs.Rooms.{free_few, free_in, reclaim_asked, old_in, ol
 use Rattle.write_room.proofs.reclaim_block.Goals as goal
 
 pub bt_at-o-requires : goal.bt_at-o-requires
-bt_at-o-requires c = (c.requires.taking.bt_length, (c.requires.taking.region, c.requires.taking.low))
+bt_at-o-requires c =
+    record {
+      bt_len = c.requires.taking.bt_length;
+      r_lt_mu = c.requires.taking.region;
+      v_lt_gamma = c.requires.taking.low;
+    }
 
 pub wears_out-requires : goal.wears_out-requires
 wears_out-requires c = old_worn _ _ _ _ _ _ _ _ _ _ c.requires _ c.bt_at-o.ensures.result_value

@@ -11,12 +11,18 @@ cluster_of-requires c = sectors _ _ _ (checked _ _ _ c.requires)
 pub region_of-r-requires : goal.region_of-r-requires
 region_of-r-requires c =
     let look = lookup_entry _ _ _ (checked _ _ _ c.requires) _ c.cluster_of.ensures in
-    (look.fine, look.low)
+    record {
+      p_value = look.fine;
+      c_lt_c = look.low;
+    }
 
 pub plan_of-pl-requires : goal.plan_of-pl-requires
 plan_of-pl-requires c =
     let region = c.region_of-r.ensures ∙ ap (region_of c.args.p) c.cluster_of.ensures in
-    (plan_asked _ _ _ (checked _ _ _ c.requires) _ region, marks_full _ _ _ (checked _ _ _ c.requires))
+    record {
+      plan_asked = plan_asked _ _ _ (checked _ _ _ c.requires) _ region;
+      marks_len = marks_full _ _ _ (checked _ _ _ c.requires);
+    }
 
 pub plan_block-n-requires : goal.plan_block-n-requires
 plan_block-n-requires c =

@@ -41,13 +41,11 @@ find_again-old-requires c =
     let made = c.requires in
     let cluster = c.cluster_of-c.ensures in
     let room = c.make_room-room.ensures in
-    let found = (c.find_frame-at.ensures.stands, (c.find_frame-at.ensures.within, c.find_frame-at.ensures.looked)) in (
-      lookup_made _ _ _ made.accepted _ made.region _ made.plan _ _ _ _ _ _ _ _ _ room _ cluster,
-      (
-        λ still. stays _ _ _ made.accepted _ made.region _ made.plan _ _ _ _ _ _ _ _ _ room _ cluster still _ _ found.0,
-        λ still. stays_within _ _ _ made.accepted _ made.region _ made.plan _ _ _ _ _ _ _ _ _ room _ cluster still _ _ _ _ found.0 found.1.0,
-      ),
-    )
+    record {
+      lookup = lookup_made _ _ _ made.accepted _ made.region _ made.plan _ _ _ _ _ _ _ _ _ room _ cluster;
+      stands = λ still. stays _ _ _ made.accepted _ made.region _ made.plan _ _ _ _ _ _ _ _ _ room _ cluster still _ _ c.find_frame-at.ensures.stands;
+      within = λ still. stays_within _ _ _ made.accepted _ made.region _ made.plan _ _ _ _ _ _ _ _ _ room _ cluster still _ _ _ _ c.find_frame-at.ensures.stands c.find_frame-at.ensures.within;
+    }
 
 pub put_cluster-requires : goal.put_cluster-requires
 put_cluster-requires c =
@@ -64,10 +62,9 @@ keep_marks-requires c =
     let made = c.requires in
     let cluster = c.cluster_of-c.ensures in
     let room = c.make_room-room.ensures in
-    let old = (c.find_again-old.ensures.stands_2, c.find_again-old.ensures.within_2) in
     record {
       mark_asked = mark_asked _ _ _ made.accepted _ made.region _ made.plan _ _ _ _ _ _ _ _ _ room;
-      unmark_asked = old_asked _ _ _ made.accepted _ made.region _ made.plan _ _ _ _ _ _ _ _ _ room _ _ cluster _ _ _ old.0 old.1;
+      unmark_asked = old_asked _ _ _ made.accepted _ made.region _ made.plan _ _ _ _ _ _ _ _ _ room _ _ cluster _ _ _ c.find_again-old.ensures.stands_2 c.find_again-old.ensures.within_2;
     }
 
 pub answered-requires : goal.answered-requires
@@ -108,7 +105,5 @@ returns c =
     let made = c.requires in
     let cluster = c.cluster_of-c.ensures in
     let room = c.make_room-room.ensures in
-    let found = (c.find_frame-at.ensures.stands, (c.find_frame-at.ensures.within, c.find_frame-at.ensures.looked)) in
-    let old = (c.find_again-old.ensures.stands_2, c.find_again-old.ensures.within_2) in
-    gives _ _ _ made.accepted _ made.region _ made.plan _ _ _ _ _ _ _ _ _ room _ _ cluster _ _ _ old.0 old.1 _ found.1.1 _ _ _ _ _ _
+    gives _ _ _ made.accepted _ made.region _ made.plan _ _ _ _ _ _ _ _ _ room _ _ cluster _ _ _ c.find_again-old.ensures.stands_2 c.find_again-old.ensures.within_2 _ c.find_frame-at.ensures.looked _ _ _ _ _ _
     c.put_cluster.ensures c.keep_marks.ensures c.answered.ensures

@@ -29,6 +29,8 @@ use contract.Monad.{Fun, fact}
 use contract.Lifetimes.{Lfts, Shares}
 use contract.Running.{tables, tables_of}
 use types.Kit.{
+use Rattle.queue_list.proofs.queue.Goals as goal
+
   Given,
   Item as Entry,
   Sq,
@@ -196,7 +198,6 @@ use Rattle.queue_list.proofs.queue.Statement as stated
 use Rattle.queue_list.proofs.queue.Code as code
 use Rattle.queue_list.proofs.queue.Code.Mir as mir
 
--- each parameter is still owned at exit
 abbrev stayed : Stays (queue.ended).signature.params (queue.ended).kept
 stayed = (
   stay_none (λ _. Par.the_row) yes,
@@ -230,7 +231,6 @@ stayed = (
   ),
 )
 
--- the contracts that the proof cites
 module _ {M : Type 1} {𝓤 : Ura M} (𝓛 : Logic 𝓤) (mem : Memory → SProp 𝓤) (rn : Routine → Fun 𝓤) where
   abbrev HeadOf : Contract 𝓤
   HeadOf = triple_of 𝓛 head_of.signature (head_of.spec 𝓛 mem rn)
@@ -241,7 +241,6 @@ module _ {M : Type 1} {𝓤 : Ura M} (𝓛 : Logic 𝓤) (mem : Memory → SProp
   abbrev Idle : Contract 𝓤
   Idle = triple_of 𝓛 idle.signature (idle.spec 𝓛 mem rn)
 
--- ---- truth values and numbers
 holds : (t : Bool) → Holds t → t ≡ true
 holds true _ = refl
 holds false a = absurd a
@@ -250,7 +249,6 @@ fails : (t : Bool) → (Holds t → ⊥) → t ≡ false
 fails true f = absurd (f tt)
 fails false _ = refl
 
--- the places of request i, of 12 bytes, and of answer i, of 16
 place-fits : (i k n : ℕ) → i < k → k ≤ n → n * 12 < 2 ^ 63 → i * 12 < 2 ^ 64
 place-fits i k n l h g = omega (arith, l, h, g)
 
@@ -272,14 +270,12 @@ not-both i k h h' = omega (arith, h, h')
 not-less : (i k : ℕ) → (i < k → ⊥) → k ≤ i
 not-less i k h = omega (arith, h)
 
--- what stands where no item and no answer is
 abbrev none : Item
 none = item_of 0 0 0
 
 abbrev no_answer : Answer
 no_answer = answer_of Accepted [] 0
 
--- ---- the parameters, and what is had of them
 module _ {M : Type 1} {𝓤 : Ura M} (𝓛 : Logic 𝓤) (mem : Memory → SProp 𝓤) (rn : Routine → Fun 𝓤) (p : Params)
     (κ₁ : Lft) (q₁ : Share) (x₁ : Bor (List ℕ)) (κ₂ : Lft) (q₂ : Share) (x₂ : Bor (List ℕ)) (κ₃ : Lft) (q₃ : Share) (x₃ : Bor (List ℕ)) (κ₄ : Lft)
     (q₄ : Share) (x₄ : Bor (List ℕ)) (κ₅ : Lft) (q₅ : Share) (x₅ : Bor (List ℕ)) (κ₆ : Lft) (q₆ : Share) (x₆ : Bor (List ℕ)) (κ₇ : Lft)
@@ -1147,7 +1143,6 @@ module _ {M : Type 1} {𝓤 : Ura M} (𝓛 : Logic 𝓤) (mem : Memory → SProp
         spelled : (h : Head) (v : Val) → Is Hd.the_row h (v ∷ []) → Is Hd.the_row h (LL.vals Hd.the_type Hd'.the_laws h)
         spelled h v is = subst (Is Hd.the_row h) (LL.tells Hd.the_type Hd'.the_laws h (v ∷ []) is) is
 
--- ---- from the walk to the theorem
 module _ {M : Type 1} {𝓤 : Ura M} (𝓛 : Logic 𝓤) (mem : Memory → SProp 𝓤) (rn : Routine → Fun 𝓤) where
   open 𝓛 use {H}
 

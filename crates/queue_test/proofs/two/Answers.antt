@@ -70,8 +70,8 @@ use Rattle.queue_test.specs.contracts.two.Key.{name as #pair·two}
 use Rattle.queue_test.specs.contracts.two as two
 use Rattle.queue_test.proofs.two.Statement as stated
 use Rattle.queue_test.proofs.two.Code as code
+use Rattle.queue_test.proofs.two.Goals as goal
 
--- at exit nothing is had of what came by value or shared, and of each table what says its last list
 abbrev stayed : Stays (two.ended).signature.params (two.ended).kept
 stayed = (
   stay_dropped (plain (λ _. Par.the_row)) yes,
@@ -108,11 +108,9 @@ stayed = (
   ),
 )
 
--- the contract that the proof cites
 abbrev Queue : {M : Type 1} {𝓤 : Ura M} (𝓛 : Logic 𝓤) (mem : Memory → SProp 𝓤) (rn : Routine → Fun 𝓤) → Contract 𝓤
 Queue 𝓛 mem rn = triple_of 𝓛 queue.signature (queue.spec 𝓛 mem rn)
 
--- a list of two is its elements
 two-of : {X : Type 0} (d : X) (zs : List X) → length zs ≡ 2 → get_or zs 0 d ∷ get_or zs 1 d ∷ [] ≡ zs
 two-of d [] e = absurd (omega (arith, e))
 two-of d (x ∷ []) e = absurd (omega (arith, e))
@@ -125,7 +123,6 @@ first-in n e = omega (arith, e)
 second-in : (n : ℕ) → n ≡ 2 → 1 < n
 second-in n e = omega (arith, e)
 
--- ---- the parameters, and what is had of them
 module _ {M : Type 1} {𝓤 : Ura M} (𝓛 : Logic 𝓤) (mem' : Memory → SProp 𝓤) (rn : Routine → Fun 𝓤) (p : Params)
     (κ₁ : Lft) (q₁ : Share) (x₁ : Bor (List ℕ)) (κ₂ : Lft) (q₂ : Share) (x₂ : Bor (List ℕ)) (κ₃ : Lft) (q₃ : Share) (x₃ : Bor (List ℕ)) (κ₄ : Lft)
     (q₄ : Share) (x₄ : Bor (List ℕ)) (κ₅ : Lft) (q₅ : Share) (x₅ : Bor (List ℕ)) (κ₆ : Lft) (q₆ : Share) (x₆ : Bor (List ℕ)) (κ₇ : Lft)
@@ -571,7 +568,6 @@ module _ {M : Type 1} {𝓤 : Ura M} (𝓛 : Logic 𝓤) (mem' : Memory → SPro
         (ap (λ (os : List Answer). outcome r bs os (S (lists zs))) (two-of blank (answers zs) eo) ∙
         e)))))))))))))))))))))))))))))))))))))))))))))))))))))))))))))))))
 
--- ---- from the walk to the theorem
 module _ {M : Type 1} {𝓤 : Ura M} (𝓛 : Logic 𝓤) (mem' : Memory → SProp 𝓤) (rn : Routine → Fun 𝓤) where
   open 𝓛 use {H}
 
