@@ -27,26 +27,26 @@ list_left-requires c =
 
 pub count_listed-requires : goal.count_listed-requires
 count_listed-requires c =
-    let both = count_asked _ (board (goal.at.count_listed-requires c).Start) (reply_zero _ (board (goal.at.count_listed-requires c).Start) start _ c.start_reply-reply.ensures _ c.number.ensures c.if-number-ne0.false) _ c.List-left.ensures in
+    let both = count_asked _ (board (goal.at.count_listed-requires c).Start) (reply_zero _ (board (goal.at.count_listed-requires c).Start) start _ c.start_reply-reply.ensures _ c.number.ensures c.if-number-ne0.false) _ c.list_left.ensures in
     record { p_value = both.0; bst_len = both.1.0; wear_len = both.1.1 }
 
 pub rebuild-requires : goal.rebuild-requires
 rebuild-requires c =
     still_accepted _ (board (goal.at.rebuild-requires c).Start) (reply_zero _ (board (goal.at.rebuild-requires c).Start) start _ c.start_reply-reply.ensures _ c.number.ensures c.if-number-ne0.false) _ _ c.bt-1.given
-    c.List-left.ensures
+    c.list_left.ensures
 
 pub returns-then-budget-count_listed : goal.returns-then-budget-count_listed
 returns-then-budget-count_listed c =
     let e = reply_zero _ (board (goal.at.returns-then-budget-count_listed c).Start) start _ c.start_reply-reply.ensures _ c.number.ensures c.if-number-ne0.false in
-    start_whole _ (board (goal.at.returns-then-budget-count_listed c).Start) e _ _ c.bt-1.given c.List-left.ensures _ _ c.count_listed.ensures (omega (arith, c.if-budget-count_listed.true)) _ c.rebuild.ensures
+    start_whole _ (board (goal.at.returns-then-budget-count_listed c).Start) e _ _ c.bt-1.given c.list_left.ensures _ _ c.count_listed.ensures (omega (arith, c.if-budget-count_listed.true)) _ c.rebuild.ensures
 
 pub cut_after-requires : goal.cut_after-requires
 cut_after-requires c =
-    let both = cut_asked _ (board (goal.at.cut_after-requires c).Start) (reply_zero _ (board (goal.at.cut_after-requires c).Start) start _ c.start_reply-reply.ensures _ c.number.ensures c.if-number-ne0.false) _ _ c.bt-1.given c.List-left.ensures in
+    let both = cut_asked _ (board (goal.at.cut_after-requires c).Start) (reply_zero _ (board (goal.at.cut_after-requires c).Start) start _ c.start_reply-reply.ensures _ c.number.ensures c.if-number-ne0.false) _ _ c.bt-1.given c.list_left.ensures in
     record { p_value = both.0; stamps_value = both.1 }
 
 pub returns : goal.returns
 returns c =
     let e = reply_zero _ (board (goal.at.returns c).Start) start _ c.start_reply-reply.ensures _ c.number.ensures c.if-number-ne0.false in
-    start_ends _ (board (goal.at.returns c).Start) e _ _ c.bt-1.given c.List-left.ensures _ _ c.count_listed.ensures (omega (arith, c.if-budget-count_listed.false)) _
+    start_ends _ (board (goal.at.returns c).Start) e _ _ c.bt-1.given c.list_left.ensures _ _ c.count_listed.ensures (omega (arith, c.if-budget-count_listed.false)) _
     c.start_reply-reply.ensures _ c.idle-2.ensures _ c.cut_after.ensures

@@ -6,4 +6,4 @@ use Rattle.check_apart.proofs.Views.{found_apart}
 use Rattle.check_apart.proofs.stamps_apart.Goals as goal
 
 pub returns : goal.returns
-returns c bt r is = c.All-apart.ensures ∙ found_apart _ (sizes _ c.requires.fine) _ _ bt r is
+returns c bt r is = c.all_apart.ensures ∙ found_apart _ (sizes _ c.requires.fine) _ _ bt r is

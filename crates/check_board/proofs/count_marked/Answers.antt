@@ -40,13 +40,12 @@ loop-i-smaller c = omega arith
 pub loop-i-preserved : goal.loop-i-preserved
 unfolding word_at
 loop-i-preserved c =
-    let l = c.loop-i in
     let m = c.args.marks.now in
     (
       omega arith,
-      omega (arith, l.invariant.1, c.count-k.ensures.upper_bound),
-      count_word (bit_at m) l.i l.k c.count-k.result l.invariant.2
-          (c.count-k.ensures.by_index (bit_in (word_at m l.i)) (bits_of 64 (word_at m l.i) (omega (arith, c.shared_slice_known-1.given l.i))) ∙ word-bits m l.i),
+      omega (arith, c.loop-i.invariant.1, c.count-k.ensures.upper_bound),
+      count_word (bit_at m) c.loop-i.i c.loop-i.k c.count-k.result c.loop-i.invariant.2
+          (c.count-k.ensures.by_index (bit_in (word_at m c.loop-i.i)) (bits_of 64 (word_at m c.loop-i.i) (omega (arith, c.shared_slice_known-1.given c.loop-i.i))) ∙ word-bits m c.loop-i.i),
     )
 
 pub returns : goal.returns

@@ -6,8 +6,12 @@ use Rattle.check_marks.proofs.marks_ok.Goals as goal
 
 pub bt_at-n-requires : goal.bt_at-n-requires
 bt_at-n-requires c =
-    let both = let a = c.requires in (a.bt_length, (a.region, a.low)) in
-    record { bt_len = both.0; r_lt_mu = both.1.0; v_lt_gamma = both.1.1 }
+    let a = c.requires in
+    record {
+      bt_len = a.bt_length;
+      r_lt_mu = a.region;
+      v_lt_gamma = a.low;
+    }
 
 pub none_ok-requires : goal.none_ok-requires
 none_ok-requires c = words_asked _ _ _ _ _ _ _ c.requires
@@ -17,8 +21,12 @@ returns-then-n-eq-NONE c = none_valid _ _ _ _ _ _ _ c.requires _ c.bt_at-n.ensur
 
 pub block_of-requires : goal.block_of-requires
 block_of-requires c =
-    let both = let a = c.requires in (a.fine, (a.chip_length, block_low_lem _ _ _ _ _ _ _ a _ c.bt_at-n.ensures.result_value c.if-n-eq-NONE.false)) in
-    record { p_value = both.0; chip_len = both.1.0; n_lt_n = both.1.1 }
+    let a = c.requires in
+    record {
+      p_value = a.fine;
+      chip_len = a.chip_length;
+      n_lt_n = block_low_lem _ _ _ _ _ _ _ a _ c.bt_at-n.ensures.result_value c.if-n-eq-NONE.false;
+    }
 
 pub held_ok-requires : goal.held_ok-requires
 held_ok-requires c =

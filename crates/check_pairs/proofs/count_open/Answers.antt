@@ -7,6 +7,7 @@ use Rattle.loops.proofs.Below.{count_no, count_start, count_yes}
 use Rattle.check_pairs.specs.Rows.{open_of}
 use Rattle.check_pairs.proofs.Keeps.{open_read}
 use Rattle.check_pairs.proofs.count_open.Goals as goal
+use Rattle.check_pairs.proofs.count_open.Goals.{then-open_of, else-open_of}
 
 pub loop-v-init : goal.loop-v-init
 loop-v-init c = (omega arith, omega arith, count_start _)
@@ -30,10 +31,10 @@ pub loop-v-preserved : goal.loop-v-preserved
 loop-v-preserved c =
     let at = c.loop-v.invariant in
     let e = c.open_of.ensures ∙ open_read c.args.full.now c.args.part.now c.loop-v.v (omega arith) (omega arith) in
-    ⊎_elim
-    (λ w. (omega arith, omega (arith, w.1), rw w.1 (count_yes _ _ _ at.2 (sym e ∙ w.0.taken))))
-    (λ w. (omega arith, omega (arith, w.1), rw w.1 (count_no _ _ _ at.2 (sym e ∙ w.0.left))))
-    c.if-open_of.branch
+    elim c.if-open_of.branch [
+      then-open_of w ↦ (omega arith, omega arith, rw w.k-is (count_yes _ _ _ at.2 (sym e ∙ w.if-open_of.true)))
+    | else-open_of w ↦ (omega arith, omega arith, rw w.k-is (count_no _ _ _ at.2 (sym e ∙ w.if-open_of.false)))
+    ]
 
 pub returns : goal.returns
 returns c =

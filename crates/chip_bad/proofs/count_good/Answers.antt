@@ -6,6 +6,7 @@ use native.Mathlib.Omega.{arith}
 use Rattle.rules.specs.Format.{good_blocks}
 use Rattle.loops.proofs.Below.{count_start, count_yes, count_no}
 use Rattle.chip_bad.proofs.count_good.Goals as goal
+use Rattle.chip_bad.proofs.count_good.Goals.{then-stays_good, else-stays_good}
 
 pub loop-n-init : goal.loop-n-init
 loop-n-init c = (omega arith, omega arith, count_start _)
@@ -32,10 +33,10 @@ pub loop-n-preserved : goal.loop-n-preserved
 loop-n-preserved c =
     let at = c.loop-n.invariant in
     let e = c.stays_good.ensures in
-    ⊎_elim
-    (λ w. (omega arith, omega (arith, w.1), rw w.1 (count_yes _ _ _ at.2 (sym e ∙ w.0.taken))))
-    (λ w. (omega arith, omega (arith, w.1), rw w.1 (count_no _ _ _ at.2 (sym e ∙ w.0.left))))
-    c.if-stays_good.branch
+    elim c.if-stays_good.branch [
+      then-stays_good w ↦ (omega arith, omega arith, rw w.k-is (count_yes _ _ _ at.2 (sym e ∙ w.if-stays_good.true)))
+    | else-stays_good w ↦ (omega arith, omega arith, rw w.k-is (count_no _ _ _ at.2 (sym e ∙ w.if-stays_good.false)))
+    ]
 
 pub returns : goal.returns
 unfolding good_blocks

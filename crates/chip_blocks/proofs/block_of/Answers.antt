@@ -25,8 +25,7 @@ slice_bounds-result-end c = omega (arith, end (goal.at.slice_bounds-result-end c
 pub returns : goal.returns
 returns c =
     let a = c.args in
-    let w = c.block_bytes-w in
     record {
-      result_value = block_lent a.p a.chip.now a.n.0 w.result w.ensures;
-      result_len = lent_length w.result a.n.0 a.chip.now (end (goal.at.returns c).Start w.result w.ensures) ∙ w.ensures;
+      result_value = block_lent a.p a.chip.now a.n.0 c.block_bytes-w.result c.block_bytes-w.ensures;
+      result_len = lent_length c.block_bytes-w.result a.n.0 a.chip.now (end (goal.at.returns c).Start c.block_bytes-w.result c.block_bytes-w.ensures) ∙ c.block_bytes-w.ensures;
     }

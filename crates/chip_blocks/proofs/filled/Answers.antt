@@ -6,6 +6,7 @@ use native.Mathlib.Omega.{arith}
 use Rattle.rules.specs.Pages.{filled, programmed}
 use Rattle.loops.proofs.Below.{count_no, count_start, count_yes}
 use Rattle.chip_blocks.proofs.filled.Goals as goal
+use Rattle.chip_blocks.proofs.filled.Goals.{then-is_programmed, else-is_programmed}
 
 pub frames-n-requires : goal.frames-n-requires
 frames-n-requires c = c.requires.p_value
@@ -43,8 +44,11 @@ loop-f-preserved c =
     let e = c.is_programmed.ensures ∙ ap (programmed c.args.p) c.frame_of.ensures.result_value in
     (
       omega arith,
-      ⊎_elim (λ w. omega arith) (λ w. omega arith) c.if-is_programmed.branch,
-      ⊎_elim (λ w. rw w.1 (count_yes _ _ _ i.2 (sym e ∙ w.0.taken))) (λ w. rw w.1 (count_no _ _ _ i.2 (sym e ∙ w.0.left))) c.if-is_programmed.branch,
+      elim c.if-is_programmed.branch [ then-is_programmed w ↦ omega arith | else-is_programmed w ↦ omega arith ],
+      elim c.if-is_programmed.branch [
+        then-is_programmed w ↦ rw w.k-is (count_yes _ _ _ i.2 (sym e ∙ w.if-is_programmed.true))
+      | else-is_programmed w ↦ rw w.k-is (count_no _ _ _ i.2 (sym e ∙ w.if-is_programmed.false))
+      ],
     )
 
 pub returns : goal.returns

@@ -25,8 +25,7 @@ slice_bounds-result-end c = omega (arith, end (goal.at.slice_bounds-result-end c
 pub returns : goal.returns
 returns c =
     let a = c.args in
-    let w = c.frame_bytes-w in
     record {
-      result_value = frame_lent a.p a.blk.now a.f w.result w.ensures;
-      result_len = lent_length w.result a.f a.blk.now (end (goal.at.returns c).Start w.result w.ensures) ∙ w.ensures;
+      result_value = frame_lent a.p a.blk.now a.f c.frame_bytes-w.result c.frame_bytes-w.ensures;
+      result_len = lent_length c.frame_bytes-w.result a.f a.blk.now (end (goal.at.returns c).Start c.frame_bytes-w.result c.frame_bytes-w.ensures) ∙ c.frame_bytes-w.ensures;
     }

@@ -77,4 +77,4 @@ returns c =
     fit_is _ _ _ _ _ _ c.stamp_in-t.ensures _ c.if-t-last.false
     (all_good _ (sizes _ c.requires.p_value) _ _ c.args.fr.now c.requires.fr_len _ c.cluster_in-c.ensures.result_value _
     c.stamp_in-t.ensures c.if-c-p.false (sym c.region_of.ensures ∙ c.if-region_of-r.false) _ (omega arith)
-    (sym c.All-right.ensures ∙ not-false _ c.if-not-all_right.false-raw) (λ h. absurd (omega (arith, h))) refl)
+    (sym c.all_right.ensures ∙ not-false _ c.if-not-all_right.false-raw) (λ h. absurd (omega (arith, h))) refl)

@@ -9,8 +9,12 @@ overflow_sub-f c = let z = sizes _ c.requires.p_value in omega (arith, z.some, c
 
 pub frame_of-requires : goal.frame_of-requires
 frame_of-requires c =
-    let both = let z = sizes _ c.requires.p_value in (c.requires.p_value, (c.requires.blk_len, omega (arith, z.some, c.frames-f.ensures))) in
-    record { p_value = both.0; blk_len = both.1.0; f_bound = both.1.1 }
+    let z = sizes _ c.requires.p_value in
+    record {
+      p_value = c.requires.p_value;
+      blk_len = c.requires.blk_len;
+      f_bound = omega (arith, z.some, c.frames-f.ensures);
+    }
 
 pub returns : goal.returns
 returns c = rw (← c.frames-f.ensures, ← c.frame_of.ensures.result_value) c.is_programmed.ensures

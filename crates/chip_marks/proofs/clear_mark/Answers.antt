@@ -10,7 +10,6 @@ pub returns : goal.returns
 returns c m e =
     let x = c.args in
     let q = c.requires.words in
-    let i = c.word_index-i in
-    put_mark_lem x.p m x.marks.now x.r x.v.0 x.f i.result c.without_bit.result false e q.region q.vblock c.requires.frame i.ensures.0
+    put_mark_lem x.p m x.marks.now x.r x.v.0 x.f c.word_index-i.result c.without_bit.result false e q.region q.vblock c.requires.frame c.word_index-i.ensures.value
     (c.without_bit.ensures (λ j. m x.r x.v.0 (64 * (x.f / 64) + j))
-    (word_read x.p m x.marks.now x.r x.v.0 (x.f / 64) i.result e q.region q.vblock (omega (arith, c.requires.frame)) i.ensures.0))
+    (word_read x.p m x.marks.now x.r x.v.0 (x.f / 64) c.word_index-i.result e q.region q.vblock (omega (arith, c.requires.frame)) c.word_index-i.ensures.value))

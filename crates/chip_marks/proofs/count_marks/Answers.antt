@@ -15,14 +15,13 @@ pub loop-w-preserved : goal.loop-w-preserved
 loop-w-preserved c =
     let x = c.args in
     let w = c.loop-w.w in
-    let i = c.word_index-i in
     (
       search rules,
       omega (arith, c.loop-w.invariant.1, c.count-n.ensures.upper_bound),
       λ m e.
           count_word (m x.r x.v.0) w c.loop-w.n c.count-n.result (c.loop-w.invariant.2 m e)
           (c.count-n.ensures.by_index (λ j. m x.r x.v.0 (64 * w + j))
-          (word_read x.p m x.marks.now x.r x.v.0 w i.result e c.requires.region c.requires.vblock (omega (arith, c.loop-w-test.true)) i.ensures.0)),
+          (word_read x.p m x.marks.now x.r x.v.0 w c.word_index-i.result e c.requires.region c.requires.vblock (omega (arith, c.loop-w-test.true)) c.word_index-i.ensures.value)),
     )
 
 pub returns : goal.returns

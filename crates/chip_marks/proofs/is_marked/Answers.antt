@@ -9,7 +9,6 @@ pub returns : goal.returns
 returns c m e =
     let x = c.args in
     let q = c.requires.words in
-    let i = c.word_index-i in
     mark_read (m x.r x.v.0) x.f c.has_bit.result
     (c.has_bit.ensures (λ j. m x.r x.v.0 (64 * (x.f / 64) + j))
-    (word_read x.p m x.marks.now x.r x.v.0 (x.f / 64) i.result e q.region q.vblock (omega (arith, c.requires.frame)) i.ensures.0))
+    (word_read x.p m x.marks.now x.r x.v.0 (x.f / 64) c.word_index-i.result e q.region q.vblock (omega (arith, c.requires.frame)) c.word_index-i.ensures.value))

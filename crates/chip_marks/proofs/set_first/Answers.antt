@@ -14,13 +14,12 @@ loop-j-init c = (search rules, refl, λ m e. e ∙ first_start _ m _ _ _)
 pub loop-j-preserved : goal.loop-j-preserved
 loop-j-preserved c =
     let x = c.args in
-    let i = c.word_index-i in
     (
       search rules,
       simp length-set c.loop-j.invariant.1,
       λ m e.
-          first_stored x.p m c.loop-j.marks x.r x.v.0 x.k c.loop-j.j i.result c.in_word-n.result c.first_bits.result
-          (c.loop-j.invariant.2 m e) c.requires.region c.requires.vblock (omega (arith, c.loop-j-test.true)) i.ensures.0 c.in_word-n.ensures c.first_bits.ensures,
+          first_stored x.p m c.loop-j.marks x.r x.v.0 x.k c.loop-j.j c.word_index-i.result c.in_word-n.result c.first_bits.result
+          (c.loop-j.invariant.2 m e) c.requires.region c.requires.vblock (omega (arith, c.loop-j-test.true)) c.word_index-i.ensures.value c.in_word-n.ensures c.first_bits.ensures,
     )
 
 pub returns : goal.returns

@@ -11,18 +11,15 @@ use Rattle.chip_pages.proofs.copy_at.Goals as goal
 use Rattle.chip_pages.proofs.copy_at.Goals.{After-put}
 
 module _ (c : After-put) where
-  abbrev start : tie.Start
-  start = c.before.before.before.before.before
-
-  page-held : take start.args.w c.put.new.0 ≡ part start.args.w start.args.from start.args.chip.now
-  page-held = held_part _ _ _ _ start.pre.source (put_held _ _ _ c.put.ensures)
+  page-held : take c.args.w c.put.new.part ≡ part c.args.w c.args.from c.args.chip.now
+  page-held = held_part _ _ _ _ c.requires.source (put_held _ _ _ c.put.ensures)
 
 pub slice_bounds-program_copy-end-2 : goal.slice_bounds-program_copy-end-2
-slice_bounds-program_copy-end-2 c = sym (ap length (page-held (goal.at.slice_bounds-program_copy-end-2 c).After-put) ∙ part_length _ _ _ (start (goal.at.slice_bounds-program_copy-end-2 c).After-put).requires.source)
+slice_bounds-program_copy-end-2 c = sym (ap length (page-held (goal.at.slice_bounds-program_copy-end-2 c).After-put) ∙ part_length _ _ _ c.requires.source)
 
 pub program_copy-requires : goal.program_copy-requires
 unfolding part
-program_copy-requires c = rw width ((start (goal.at.program_copy-requires c).After-put).pre.page.clean ∙ ap (λ (n : ℕ). replicate n 255) (slice-aggregate-program-copy (goal.at.program_copy-requires c).After-buf-3-1))
+program_copy-requires c = rw width (c.requires.page.clean ∙ ap (λ (n : ℕ). replicate n 255) (sym (ap length (page-held (goal.at.program_copy-requires c).After-put) ∙ part_length _ _ _ c.requires.source)))
 
 pub returns : goal.returns
 returns c = rw (width, c.program_copy.ensures, page-held (goal.at.returns c).After-put) (back _ _ _ _)

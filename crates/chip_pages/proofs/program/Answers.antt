@@ -11,10 +11,10 @@ pub put-requires : goal.put-requires
 put-requires c = omega (arith, ap length c.requires ∙ length-replicate {A = ℕ} (length c.args.bytes.now + 16) 255)
 
 pub slice_bounds-put_spare-count : goal.slice_bounds-put_spare-count
-slice_bounds-put_spare-count c = omega (arith, c.put.auto.0, ap length c.requires ∙ length-replicate {A = ℕ} (length c.args.bytes.now + 16) 255)
+slice_bounds-put_spare-count c = omega (arith, c.put.auto.part, ap length c.requires ∙ length-replicate {A = ℕ} (length c.args.bytes.now + 16) 255)
 
 pub slice_bounds-put_spare-start : goal.slice_bounds-put_spare-start
-slice_bounds-put_spare-start c = omega (arith, c.put.auto.0, ap length c.requires ∙ length-replicate {A = ℕ} (length c.args.bytes.now + 16) 255)
+slice_bounds-put_spare-start c = omega (arith, c.put.auto.part, ap length c.requires ∙ length-replicate {A = ℕ} (length c.args.bytes.now + 16) 255)
 
 pub put_spare-requires : goal.put_spare-requires
 put_spare-requires c = spare_left c.args.bytes.now _ _ refl (put_erased c.args.bytes.now c.args.page.now _ c.requires c.put.ensures)

@@ -9,20 +9,17 @@ use Rattle.chip_pages.proofs.program_from.Goals as goal
 use Rattle.chip_pages.proofs.program_from.Goals.{After-put}
 
 module _ (c : After-put) where
-  abbrev start : tie.Start
-  start = c.before.before.before.before.before
+  data-held : take c.args.s c.put.new.part ≡ take c.args.s (part (c.args.s + 16) c.args.from c.args.chip.now)
+  data-held = held_data _ _ _ _ c.requires.source (put_held _ _ _ c.put.ensures)
 
-  data-held : take start.args.s c.put.new.0 ≡ take start.args.s (part (start.args.s + 16) start.args.from start.args.chip.now)
-  data-held = held_data _ _ _ _ start.pre.source (put_held _ _ _ c.put.ensures)
-
-  data-long : length (take start.args.s c.put.new.0) ≡ start.args.s
-  data-long = held_length _ _ _ _ start.pre.source (put_held _ _ _ c.put.ensures)
+  data-long : length (take c.args.s c.put.new.part) ≡ c.args.s
+  data-long = held_length _ _ _ _ c.requires.source (put_held _ _ _ c.put.ensures)
 
 pub slice_bounds-program_at-end : goal.slice_bounds-program_at-end
 slice_bounds-program_at-end c = sym (data-long (goal.at.slice_bounds-program_at-end c).After-put)
 
 pub program_at-requires : goal.program_at-requires
-program_at-requires c = rw (data-long (goal.at.program_at-requires c).After-put) (start (goal.at.program_at-requires c).After-put).requires.page
+program_at-requires c = rw (data-long (goal.at.program_at-requires c).After-put) c.requires.page
 
 pub returns : goal.returns
 returns c = rw (data-long (goal.at.returns c).After-put, data-held (goal.at.returns c).After-put) at c.program_at.ensures

@@ -8,6 +8,7 @@ use lib.ListN.{length}
 use borrow.Author.Tests.{eq-eqb, ne_eqb}
 use Rattle.loops.proofs.Below.{count_no, count_start, count_yes}
 use Rattle.chip_tables.proofs.count_named.Goals as goal
+use Rattle.chip_tables.proofs.count_named.Goals.{then-entry-ne-NONE, else-entry-ne-NONE}
 
 pub loop-i-init : goal.loop-i-init
 loop-i-init c = (omega arith, omega arith, count_start _)
@@ -26,13 +27,14 @@ loop-i-smaller c = omega arith
 
 pub loop-i-preserved : goal.loop-i-preserved
 loop-i-preserved c =
-    let l = c.loop-i in
     let d = c.entry.ensures.value in
     (
       omega arith,
-      ⊎_elim (λ w. omega arith) (λ w. omega arith) c.if-entry-ne-NONE.branch,
-      ⊎_elim (λ w. rw w.1 (count_yes _ _ _ l.invariant.2 (ap not (ne_eqb _ _ (λ e. w.0.taken (d ∙ e))))))
-          (λ w. rw w.1 (count_no _ _ _ l.invariant.2 (ap not (eq-eqb _ _ (sym d ∙ w.0.left))))) c.if-entry-ne-NONE.branch,
+      elim c.if-entry-ne-NONE.branch [ then-entry-ne-NONE w ↦ omega arith | else-entry-ne-NONE w ↦ omega arith ],
+      elim c.if-entry-ne-NONE.branch [
+        then-entry-ne-NONE w ↦ rw w.k-is (count_yes _ _ _ c.loop-i.invariant.2 (ap not (ne_eqb _ _ (λ e. w.if-entry-ne-NONE.true (d ∙ e)))))
+      | else-entry-ne-NONE w ↦ rw w.k-is (count_no _ _ _ c.loop-i.invariant.2 (ap not (eq-eqb _ _ (sym d ∙ w.if-entry-ne-NONE.false))))
+      ],
     )
 
 pub returns : goal.returns

@@ -25,15 +25,14 @@ pack-requires-3 c = (few_two _ (board (goal.at.pack-requires-3 c).After-queue_tw
 
 pub returns : goal.returns
 returns c =
-    let two = c.queue_two-r in
     record {
-      own = two.result.own;
-      first = two.result.first;
-      second = two.result.second;
-      whole = with_params _ _ c.params-p.ensures (board (goal.at.returns c).After-queue_two-r) _ _ two.ensures;
+      own = c.queue_two-r.result.own;
+      first = c.queue_two-r.result.first;
+      second = c.queue_two-r.result.second;
+      whole = with_params _ _ c.params-p.ensures (board (goal.at.returns c).After-queue_two-r) _ _ c.queue_two-r.ensures;
       result = c.pack-3.ensures;
       list =
           c.put_both.ensures
-          ∙ ap₂ (λ (first second : ℕ). placed (first ∷ second ∷ two.result.first.looks ∷ two.result.second.looks ∷ []) c.args.answers.now)
+          ∙ ap₂ (λ (first second : ℕ). placed (first ∷ second ∷ c.queue_two-r.result.first.looks ∷ c.queue_two-r.result.second.looks ∷ []) c.args.answers.now)
           c.pack.ensures c.pack-2.ensures;
     }

@@ -36,8 +36,13 @@ returns-then-bt_at-eq-NONE c = open_named _ _ _ _ c.requires.block_asked _ c.hea
 
 pub erase_block-requires : goal.erase_block-requires
 erase_block-requires c =
-    let both = let a = c.requires.block_asked in (a.fine, (a.chip_length ∙ chip_size c.args.p, (c.requires.wear_len, a.low))) in
-    record { p_value = both.0; chip_len = both.1.0; wear_len = both.1.1.0; n_lt_n = both.1.1.1 }
+    let a = c.requires.block_asked in
+    record {
+      p_value = a.fine;
+      chip_len = a.chip_length ∙ chip_size c.args.p;
+      wear_len = c.requires.wear_len;
+      n_lt_n = a.low;
+    }
 
 pub returns : goal.returns
 returns c = open_erased _ _ _ _ c.requires.block_asked _ c.head_of-h.ensures _ (not-false _ c.if-not-h.false) c.if-h.false _ c.bt_at.ensures.result_value c.if-bt_at-eq-NONE.false _ _ c.erase_block.ensures.chip_after c.erase_block.ensures.wear_after

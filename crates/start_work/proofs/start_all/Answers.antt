@@ -5,8 +5,12 @@ use Rattle.start_work.proofs.start_all.Goals as goal
 
 pub find_blocks-k-requires : goal.find_blocks-k-requires
 find_blocks-k-requires c =
-    let both = let a = c.requires in (start_asked _ _ a, ((long _ _ a).bst_length, (long _ _ a).wear_length)) in
-    record { start_asked = both.0; bst_len = both.1.0; wear_len = both.1.1 }
+    let a = c.requires in
+    record {
+      start_asked = start_asked _ _ a;
+      bst_len = (long _ _ a).bst_length;
+      wear_len = (long _ _ a).wear_length;
+    }
 
 pub fill_tables-requires : goal.fill_tables-requires
 fill_tables-requires c = tables_asked _ _ c.requires _ _ _ _ c.find_blocks-k.ensures.kept

@@ -6,8 +6,12 @@ use Rattle.write_reclaim.proofs.cluster_at.Goals as goal
 
 pub block_of-requires : goal.block_of-requires
 block_of-requires c =
-    let both = let a = c.requires in (a.whole.fine, (chip_length_lem _ _ a.whole, a.block)) in
-    record { p_value = both.0; chip_len = both.1.0; n_lt_n = both.1.1 }
+    let a = c.requires in
+    record {
+      p_value = a.whole.fine;
+      chip_len = chip_length_lem _ _ a.whole;
+      n_lt_n = a.block;
+    }
 
 pub returns : goal.returns
 returns c = c.cluster_in.ensures.result_value ∙ rw (c.frame_of.ensures.result_value, c.block_of.ensures.result_value)

@@ -6,8 +6,11 @@ use Rattle.write_reclaim.proofs.reclaim.Goals as goal
 
 pub copy_marked-k-requires : goal.copy_marked-k-requires
 copy_marked-k-requires c =
-    let both = let a = c.requires in (a.blocks, a.words) in
-    record { from_to = both.0; words_asked = both.1 }
+    let a = c.requires in
+    record {
+      from_to = a.blocks;
+      words_asked = a.words;
+    }
 
 pub erase_block-requires : goal.erase_block-requires
 erase_block-requires c =
