@@ -1,7 +1,7 @@
 // Document 01, "Read", on the lent chip and tables. No `requires`: the contract says that the whole outcome is the rules', for every input.
 #![tactic(auto)]
 ghost use Rattle.std.specs.Prelude.{◌≡◌, []};
-ghost use Rattle.rules.specs.Lent.{entry_board};
+ghost use Rattle.rules.specs.Lent.{seen_board};
 ghost use Rattle.rules.specs.Requests.{read, request_of};
 ghost use Rattle.rules.specs.Calls.{outcome_of};
 ghost use Rattle.outcomes.specs.Claims.{outcome};
@@ -23,7 +23,7 @@ pub fn read(
     count: u32,
     bytes: &mut [u8],
 ) -> Answer
-    ensures { outcome result bytes.new [] (entry_board chip ct bt fst bst wear marks stamps) ≡ outcome_of p (entry_board chip ct bt fst bst wear marks stamps)
+    ensures { outcome result bytes.new [] (seen_board chip ct bt fst bst wear marks stamps) ≡ outcome_of p (seen_board chip ct bt fst bst wear marks stamps)
         (read (request_of lba count bytes.old)) }
 {
     let reply = replies::read_reply(

@@ -1,7 +1,7 @@
 // Document 02, T-03, the release, on the lent chip and tables, with T-06's table of marks. No `requires`: the contract says that the whole outcome is the rules', for every input.
 #![tactic(auto)]
 ghost use Rattle.std.specs.Prelude.{◌≡◌, []};
-ghost use Rattle.rules.specs.Lent.{entry_board, exit_board};
+ghost use Rattle.rules.specs.Tables.{board_of};
 ghost use Rattle.rules.specs.Requests.{release};
 ghost use Rattle.rules.specs.Calls.{outcome_of};
 ghost use Rattle.outcomes.specs.Claims.{outcome};
@@ -21,7 +21,7 @@ pub fn release(
     stamps: &mut [u32],
     cluster: u32,
 ) -> Answer
-    ensures { outcome result [] [] (exit_board chip ct bt fst bst wear marks stamps) ≡ outcome_of p (entry_board chip ct bt fst bst wear marks stamps) (release cluster) }
+    ensures { outcome result [] [] (board_of chip.now ct.new bt.now fst.now bst.now wear.now marks.new stamps.new) ≡ outcome_of p (board_of chip.now ct.old bt.now fst.now bst.now wear.now marks.old stamps.old) (release cluster) }
 {
     let reply = replies::release_reply(p, chip, ct, bt, fst, bst, wear, marks, stamps, cluster);
     if rules::number(reply) != 0 {

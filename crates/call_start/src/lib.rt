@@ -3,7 +3,7 @@
 ghost use Rattle.std.specs.Prelude.{◌≡◌, []};
 ghost use Rattle.rules.specs.declared.Reply.TheVariants.{Accepted};
 ghost use Rattle.rules.specs.Tables.{board_of};
-ghost use Rattle.rules.specs.Lent.{entry_board, exit_board};
+ghost use Rattle.rules.specs.Lent.{entry_board, exit_board, seen_board};
 ghost use Rattle.rules.specs.Requests.{start};
 ghost use Rattle.rules.specs.Replies.{reply_of};
 ghost use Rattle.rules.specs.Calls.{outcome_of};
@@ -24,7 +24,7 @@ fn start_reply(
     marks: &[u64],
     stamps: &[u32],
 ) -> Reply
-    ensures { result ≡ reply_of p (entry_board chip ct bt fst bst wear marks stamps) start }
+    ensures { result ≡ reply_of p (seen_board chip ct bt fst bst wear marks stamps) start }
 {
     let reply = replies::board_reply(p, chip, ct, bt, fst, bst, wear, marks, stamps);
     if rules::number(reply) != 0 {

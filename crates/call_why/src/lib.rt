@@ -3,7 +3,7 @@
 ghost use Rattle.std.specs.Prelude.{◌≡◌, true, List, [], ℕ, ◌<◌, eqb, length};
 ghost use Rattle.rules.specs.Regions.{view, view_of};
 ghost use Rattle.rules.specs.Tables.{Board, board_of, not_found, stamp_at};
-ghost use Rattle.rules.specs.Lent.{entry_board};
+ghost use Rattle.rules.specs.Lent.{seen_board};
 ghost use Rattle.rules.specs.Write.{plan_block, plan_of};
 ghost use Rattle.rules.specs.Marks.{marks_of};
 ghost use Rattle.read_work.specs.Lookup.{Within};
@@ -119,7 +119,7 @@ pub fn explain(
     stamps: &[u32],
     lba: u32,
 ) -> Why
-    ensures result_value { numbers_of result ≡ why_of p (entry_board chip ct bt fst bst wear marks stamps) lba }
+    ensures result_value { numbers_of result ≡ why_of p (seen_board chip ct bt fst bst wear marks stamps) lba }
     ensures small { Small (numbers_of result) }
 {
     let reply = replies::why_reply(p, chip, ct, bt, fst, bst, wear, marks, stamps, lba);

@@ -1,7 +1,8 @@
 // The C interface: the calls of documents 01 and 02 with the parameters one by one, and the answer as one number. T-06's table of marks comes after the wear.
 #![tactic(auto)]
 ghost use Rattle.std.specs.Prelude.{◌≡◌, []};
-ghost use Rattle.rules.specs.Lent.{entry_board, exit_board};
+ghost use Rattle.rules.specs.Tables.{board_of};
+ghost use Rattle.rules.specs.Lent.{entry_board, exit_board, seen_board};
 ghost use Rattle.rules.specs.Calls.{outcome_of};
 ghost use Rattle.rules.specs.Cuts.{limited, step_outcome};
 ghost use Rattle.rules.specs.Requests.{format, read, write, release, start, request_of};
@@ -153,8 +154,8 @@ pub extern "C" fn cnftl_read(
     count: u32,
     bytes: &mut [u8],
 ) -> u64
-    ensures { Given (outcome_of (params_of s alpha beta d mu gamma c n e) (entry_board chip ct bt fst bst wear marks stamps) (read (request_of lba count bytes.old)))
-        result bytes.new (entry_board chip ct bt fst bst wear marks stamps) }
+    ensures { Given (outcome_of (params_of s alpha beta d mu gamma c n e) (seen_board chip ct bt fst bst wear marks stamps) (read (request_of lba count bytes.old)))
+        result bytes.new (seen_board chip ct bt fst bst wear marks stamps) }
 {
     let p = c_answer::params(s, alpha, beta, d, mu, gamma, c, n, e);
     c_answer::pack(calls::read(
@@ -318,7 +319,7 @@ pub extern "C" fn cnftl_release(
     stamps: &mut [u32],
     cluster: u32,
 ) -> u64
-    ensures { Given (outcome_of (params_of s alpha beta d mu gamma c n e) (entry_board chip ct bt fst bst wear marks stamps) (release cluster)) result [] (exit_board chip ct bt fst bst wear marks stamps) }
+    ensures { Given (outcome_of (params_of s alpha beta d mu gamma c n e) (board_of chip.now ct.old bt.now fst.now bst.now wear.now marks.old stamps.old) (release cluster)) result [] (board_of chip.now ct.new bt.now fst.now bst.now wear.now marks.new stamps.new) }
 {
     let p = c_answer::params(s, alpha, beta, d, mu, gamma, c, n, e);
     c_answer::pack(calls::release(p, chip, ct, bt, fst, bst, wear, marks, stamps, cluster))
@@ -347,7 +348,7 @@ pub extern "C" fn cnftl_why(
     lba: u32,
     list: &mut [u32],
 ) -> u64
-    ensures { Listed (params_of s alpha beta d mu gamma c n e) (entry_board chip ct bt fst bst wear marks stamps) lba list.old result list.new }
+    ensures { Listed (params_of s alpha beta d mu gamma c n e) (seen_board chip ct bt fst bst wear marks stamps) lba list.old result list.new }
 {
     let p = c_answer::params(s, alpha, beta, d, mu, gamma, c, n, e);
     if list.len() != c_why::WHY_NUMBERS {

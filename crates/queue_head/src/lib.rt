@@ -1,7 +1,7 @@
 // Document 02, T-01: the head of a queue of writes, which is what the call is answered as a whole, before its items. It looks at lengths and state once,
 // for all of them.
 #![tactic(auto)]
-ghost use Rattle.rules.specs.Lent.{entry_board};
+ghost use Rattle.rules.specs.Lent.{seen_board};
 ghost use Rattle.queue_head.specs.Heads.{FlatHead, HeadIs};
 
 use rules::{Params, Reply};
@@ -28,7 +28,7 @@ pub fn head_of(
     items: usize,
     answers: usize,
 ) -> Head
-    ensures { HeadIs p (entry_board chip ct bt fst bst wear marks stamps) items answers result }
+    ensures { HeadIs p (seen_board chip ct bt fst bst wear marks stamps) items answers result }
 {
     let board = replies::board_reply(p, chip, ct, bt, fst, bst, wear, marks, stamps);
     if rules::number(board) != 0 {
@@ -68,7 +68,7 @@ pub fn head_flat(
     len: usize,
     answers: usize,
 ) -> Head
-    ensures { FlatHead p (entry_board chip ct bt fst bst wear marks stamps) len answers result }
+    ensures { FlatHead p (seen_board chip ct bt fst bst wear marks stamps) len answers result }
 {
     if len % 3 == 0 {
         return head_of(

@@ -2,7 +2,7 @@
 #![tactic(auto)]
 ghost use Rattle.std.specs.Prelude.{◌≡◌, List, ℕ, length};
 ghost use Rattle.rules.specs.Tables.{board_of, marks_length};
-ghost use Rattle.rules.specs.Lent.{entry_board};
+ghost use Rattle.rules.specs.Lent.{seen_board};
 ghost use Rattle.rules.specs.Requests.{Request, format, read, release};
 ghost use Rattle.rules.specs.Replies.{early_rows, first_row, lent_rows, order_row, reply_of, why_reply};
 ghost use Rattle.check_rules.specs.Check.{Lengths};
@@ -21,7 +21,7 @@ pub fn board_reply(
     marks: &[u64],
     stamps: &[u32],
 ) -> Reply
-    ensures { result ≡ first_row Reply.Accepted (lent_rows p (entry_board chip ct bt fst bst wear marks stamps)) }
+    ensures { result ≡ first_row Reply.Accepted (lent_rows p (seen_board chip ct bt fst bst wear marks stamps)) }
 {
     if !chip_sizes::parameters_allowed(p) {
         return Reply::BadParameter;
@@ -80,7 +80,7 @@ pub fn read_reply(
     count: u32,
     len: usize,
 ) -> Reply
-    ensures { (q : Request) → q.lba ≡ lba → q.count ≡ count → length q.bytes ≡ len → result ≡ reply_of p (entry_board chip ct bt fst bst wear marks stamps) (read q) }
+    ensures { (q : Request) → q.lba ≡ lba → q.count ≡ count → length q.bytes ≡ len → result ≡ reply_of p (seen_board chip ct bt fst bst wear marks stamps) (read q) }
 {
     let head = board_reply(p, chip, ct, bt, fst, bst, wear, marks, stamps);
     if rules::number(head) != 0 {
@@ -108,7 +108,7 @@ pub fn write_reply(
     count: u32,
     len: usize,
 ) -> Reply
-    ensures { (q : Request) → q.lba ≡ lba → q.count ≡ count → length q.bytes ≡ len → result ≡ first_row Reply.Accepted (early_rows p (entry_board chip ct bt fst bst wear marks stamps) q) }
+    ensures { (q : Request) → q.lba ≡ lba → q.count ≡ count → length q.bytes ≡ len → result ≡ first_row Reply.Accepted (early_rows p (seen_board chip ct bt fst bst wear marks stamps) q) }
 {
     let reply = read_reply(
         p, chip, ct, bt, fst, bst, wear, marks, stamps, lba, count, len,
@@ -132,7 +132,7 @@ pub fn release_reply(
     stamps: &[u32],
     c: u32,
 ) -> Reply
-    ensures { result ≡ reply_of p (entry_board chip ct bt fst bst wear marks stamps) (release c) }
+    ensures { result ≡ reply_of p (seen_board chip ct bt fst bst wear marks stamps) (release c) }
 {
     let head = board_reply(p, chip, ct, bt, fst, bst, wear, marks, stamps);
     if rules::number(head) != 0 {
@@ -157,7 +157,7 @@ pub fn why_reply(
     stamps: &[u32],
     lba: u32,
 ) -> Reply
-    ensures { result ≡ why_reply p (entry_board chip ct bt fst bst wear marks stamps) lba }
+    ensures { result ≡ why_reply p (seen_board chip ct bt fst bst wear marks stamps) lba }
 {
     let head = board_reply(p, chip, ct, bt, fst, bst, wear, marks, stamps);
     if rules::number(head) != 0 {
@@ -181,7 +181,7 @@ pub fn format_reply(
     marks: &[u64],
     stamps: &[u32],
 ) -> Reply
-    ensures { result ≡ reply_of p (entry_board chip ct bt fst bst wear marks stamps) format }
+    ensures { result ≡ reply_of p (seen_board chip ct bt fst bst wear marks stamps) format }
 {
     let head = board_reply(p, chip, ct, bt, fst, bst, wear, marks, stamps);
     if rules::number(head) != 0 {

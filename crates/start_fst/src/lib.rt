@@ -48,7 +48,7 @@ fn first_named(p: Params, bt: &[u16], r: usize) -> usize
     requires bt_len { length bt.now ≡ p.mu * p.gamma }
     requires gamma_bound { p.gamma < 65535 }
     requires r_lt_mu { r < p.mu }
-    ensures* { λ v. ⌜ v ≡ first_below not_found p.gamma (λ v. not (eqb (bt_at p bt.now r v) none)) ⌝ }
+    ensures { result ≡ first_below not_found p.gamma (λ v. not (eqb (bt_at p bt.now r v) none)) }
 {
     let m = p.gamma;
     let mut v = 0;

@@ -5,7 +5,7 @@ use Rattle.check_rules.specs.Check.{fst_ok}
 use Rattle.check_entries.proofs.fst_ok.Goals as goal
 
 pub fst_at-sg-requires : goal.fst_at-sg-requires
-fst_at-sg-requires c = omega (arith, (c.requires.fst_len, c.requires.r_lt_mu))
+fst_at-sg-requires c = omega arith
 
 pub empty_at-requires : goal.empty_at-requires
 empty_at-requires c =

@@ -15,8 +15,12 @@ bt_at-n-requires c =
 
 pub frame_at-to-requires : goal.frame_at-to-requires
 frame_at-to-requires c =
-    let both = (c.requires.pages_asked.fine, number_asked _ _ _ _ _ _ _ _ _ c.requires.pages_asked _ _ c.requires.c_value c.requires.r_value _ c.bt_at-n.ensures.result_value) in
-    record { p_value = both.0; n_lt_n = both.1.0; f_bound = both.1.1 }
+    let n = number_asked _ _ _ _ _ _ _ _ _ c.requires.pages_asked _ _ c.requires.c_value c.requires.r_value _ c.bt_at-n.ensures.result_value in
+    record {
+      p_value = c.requires.pages_asked.fine;
+      n_lt_n = n.0;
+      f_bound = n.1;
+    }
 
 pub sector_of-off-requires : goal.sector_of-off-requires
 sector_of-off-requires c = (sizes _ c.requires.pages_asked.fine).sectors

@@ -17,7 +17,7 @@ erase_block-requires c =
     let a = c.requires.blocks.between in
     record {
       p_value = a.whole.fine;
-      chip_len = c.copy_marked-k.auto.1.0 ∙ a.whole.size;
+      chip_len = c.copy_marked-k.auto.chip ∙ a.whole.size;
       wear_len = c.requires.wear_length;
       n_lt_n = a.from;
     }
