@@ -57,6 +57,8 @@ Programs (mark n ∷ os) = ⊥
 programs_append : (xs ys : List Op) → Programs xs → Programs ys → Programs (xs ++ ys)
 programs_append [] ys h k = k
 programs_append (program n q x ∷ xs) ys h k = programs_append xs ys h k
+programs_append (erase _ ∷ xs) ys h k = elim h [ ]
+programs_append (mark _ ∷ xs) ys h k = elim h [ ]
 
 pub frame_programs : (p : Params) (n f : ℕ) (x : List ℕ) (k : ℕ) → Programs (frame_ops p n f x k)
 unfolding frame_ops join_below
@@ -72,15 +74,21 @@ pub programs_spare : (n : ℕ) (os : List Op) → Programs os → erases_block n
 unfolding erases_block
 programs_spare n [] h = refl
 programs_spare n (program m q x ∷ os) h = programs_spare n os h
+programs_spare n (erase _ ∷ os) h = elim h [ ]
+programs_spare n (mark _ ∷ os) h = elim h [ ]
 
 programs_worn : (p : Params) (n : ℕ) (wear : List ℕ) (os : List Op) → Programs os → MarksWorn p n wear os
 programs_worn p n wear [] h = tt
 programs_worn p n wear (program m q x ∷ os) h = programs_worn p n wear os h
+programs_worn p n wear (erase _ ∷ os) h = elim h [ ]
+programs_worn p n wear (mark _ ∷ os) h = elim h [ ]
 
 programs_wear : (wear : List ℕ) (os : List Op) → Programs os → replay_wear wear os ≡ wear
 unfolding replay_wear on_wear
 programs_wear wear [] h = refl
 programs_wear wear (program m q x ∷ os) h = programs_wear wear os h
+programs_wear wear (erase _ ∷ os) h = elim h [ ]
+programs_wear wear (mark _ ∷ os) h = elim h [ ]
 
 pub erases_append : (n : ℕ) (xs ys : List Op) → erases_block n xs ≡ false → erases_block n ys ≡ false → erases_block n (xs ++ ys) ≡ false
 unfolding erases_block

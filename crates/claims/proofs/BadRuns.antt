@@ -19,7 +19,7 @@ use Rattle.rules.specs.declared.Params.{Params}
 use Rattle.rules.specs.Parameters.{block_bytes, chip_bytes, page_bytes, pages}
 use Rattle.rules.specs.Tables.{wear_at}
 use Rattle.rules.specs.Pages.{block, page, spare}
-use Rattle.rules.specs.Traces.{Op, clean, erase, mark, on_chip, on_wear, page_at, program, replay_chip, replay_wear, worn}
+use Rattle.rules.specs.Traces.{Op, clean, erase, mark, on_chip, on_wear, page_at, program, replay_chip, replay_wear}
 use Rattle.rules.specs.Format.{bad, bad_mark}
 use Rattle.rules.proofs.BadBytes.{blank_good, bytes_bad, erased_fifth}
 use Rattle.rules.proofs.Replays.{block_size}

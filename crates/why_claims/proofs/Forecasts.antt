@@ -15,7 +15,7 @@ use Rattle.rules.specs.declared.Reply.{Reply}
 use Rattle.rules.specs.declared.Reply.TheVariants.{Accepted, NoBlockLeft, NoStampLeft}
 use Rattle.rules.specs.Calls.{answer_of, outcome_of}
 use Rattle.rules.specs.Numbers.{cluster_of, place_of, segment_of, vblock_of}
-use Rattle.rules.specs.Pages.{block, erased, last_in}
+use Rattle.rules.specs.Pages.{last_in}
 use Rattle.rules.specs.Regions.{View, looks_at, valid_frames, view, view_of}
 use Rattle.rules.specs.Replies.{access_rows, bad_address, bad_count, bad_parameter, block_row, early_rows, first_row, lent_rows, no_block_left, no_stamp_left, not_orderly, number_of, OrderlyBoard, order_row, reply_of, rows_of, stamp_row, why_reply, why_rows, wrong_data, wrong_length}
 use Rattle.rules.specs.Requests.{Request, request_cluster, request_region, write}

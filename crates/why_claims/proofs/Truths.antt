@@ -3,12 +3,11 @@
 use mathlib.Core.Path.{◌≡◌, refl, subst, sym, ap, ◌∙◌}
 use mathlib.Core.Logic.{◌⊎◌, inl, inr}
 use mathlib.Core.List.{List, [], ◌∷◌, ◌++◌}
-use Prim.Native.Nat.{◌<◌, ◌-◌, ℕ}
+use Prim.Native.Nat.{◌<◌, ℕ}
 use native.Mathlib.Nat.{div-lt_iff_lt-mul}
 use native.Mathlib.Decide.{ℕ_discrete}
 use native.Mathlib.Omega.{arith}
 use lib.ListN.{get_or, take}
-use lib.Dec.{leb}
 use borrow.Author.Tests.{eq-eqb, leb-false, lt-leb, ne_eqb}
 use mathlib.Core.Bool.{false, true}
 use Rattle.rules.specs.declared.Params.{Params}
