@@ -157,80 +157,59 @@ returns-then-not-cts_ok c =
     told
 
 module _ (c : Else-not-cts_ok) where
-  abbrev at-if7 : tie.Else7
-  at-if7 = c.before.before
+  abbrev a : Start
+  a = c.before.before.before.before.before.before.before.before.before.before.before.before.before.before.before.before.before.before.before.before.before.before.before.before
 
-  abbrev at-if6 : tie.Else6
-  at-if6 = at-if7.before.before
+  used : (wear : List ℕ) → c.blocks_ok.result ≡ blocks_rule c.args.p (board a wear)
+  used = used-blocks a _ _ c.bt_ok.ensures c.if-not-bt_ok.false-raw c.blocks_ok.ensures
 
-  abbrev at-if5 : tie.Else5
-  at-if5 = at-if6.before.before
-
-  abbrev at-if4 : tie.Else4
-  at-if4 = at-if5.before.before
-
-  abbrev at-if3 : tie.Else3
-  at-if3 = at-if4.before.before
-
-  abbrev at-if2 : tie.Else2
-  at-if2 = at-if3.before.before
-
-  abbrev at-if1 : tie.Else1
-  at-if1 = at-if2.before.before
-
-  abbrev a : tie.Start
-  a = at-if1.before.before.before.before.before.before.before.before.before
-
-  used : (wear : List ℕ) → at-if6.before.blocks-ok.result ≡ blocks_rule a.args.p (board a wear)
-  used = used-blocks a _ _ at-if2.before.bt-ok.ensures at-if2.if2.left at-if6.before.blocks-ok.ensures
-
-  fsts : (wear : List ℕ) → at-if7.before.fsts-ok.result ≡ fst_rule a.args.p (board a wear)
+  fsts : (wear : List ℕ) → c.fsts_ok.result ≡ fst_rule c.args.p (board a wear)
   fsts =
-      fst-entries a _ _ _ at-if2.before.bt-ok.ensures at-if2.if2.left at-if6.before.blocks-ok.ensures at-if6.if6.left
-      at-if7.before.fsts-ok.ensures
+      fst-entries a _ _ _ c.bt_ok.ensures c.if-not-bt_ok.false-raw c.blocks_ok.ensures c.if-not-blocks_ok.false-raw
+      c.fsts_ok.ensures
 
-  cts : (wear : List ℕ) → c.before.cts-ok.result ≡ ct_rule a.args.p (board a wear)
-  cts = ct-entries a _ _ at-if2.before.bt-ok.ensures at-if2.if2.left c.before.cts-ok.ensures
+  cts : (wear : List ℕ) → c.cts_ok.result ≡ ct_rule c.args.p (board a wear)
+  cts = ct-entries a _ _ c.bt_ok.ensures c.if-not-bt_ok.false-raw c.cts_ok.ensures
 
-  eight : (wear : List ℕ) → eight_rules a.args.p (board a wear) ≡ true
+  eight : (wear : List ℕ) → eight_rules c.args.p (board a wear) ≡ true
   unfolding eight_rules rules_of all_true
   eight wear =
       rw (
-        passed _ _ at-if1.before.bst-ok.ensures at-if1.if1.left,
-        passed _ _ at-if2.before.bt-ok.ensures at-if2.if2.left,
-        passed _ _ at-if3.before.once-ok.ensures at-if3.if3.left,
-        passed _ _ at-if4.before.used-ok.ensures at-if4.if4.left,
-        passed _ _ at-if5.before.frees-ok.ensures at-if5.if5.left,
-        passed _ _ (used wear) at-if6.if6.left,
-        passed _ _ (fsts wear) at-if7.if7.left,
-        passed _ _ (cts wear) c.if8.false,
+        passed _ _ c.bst_ok.ensures c.if-not-bst_ok.false-raw,
+        passed _ _ c.bt_ok.ensures c.if-not-bt_ok.false-raw,
+        passed _ _ c.once_ok.ensures c.if-not-once_ok.false-raw,
+        passed _ _ c.used_ok.ensures c.if-not-used_ok.false-raw,
+        passed _ _ c.frees_ok.ensures c.if-not-frees_ok.false-raw,
+        passed _ _ (used wear) c.if-not-blocks_ok.false-raw,
+        passed _ _ (fsts wear) c.if-not-fsts_ok.false-raw,
+        passed _ _ (cts wear) c.if-not-cts_ok.false-raw,
       )
 
   past : (wear : List ℕ) (told : Rule)
-      → told ≡ first_of (marks_rule a.args.p (board a wear) ∷ stamp_rule a.args.p (board a wear) ∷ []) (Marks ∷ Stamps ∷ [])
-      → told ≡ broken_rule a.args.p (board a wear)
+      → told ≡ first_of (marks_rule c.args.p (board a wear) ∷ stamp_rule c.args.p (board a wear) ∷ []) (Marks ∷ Stamps ∷ [])
+      → told ≡ broken_rule c.args.p (board a wear)
   unfolding broken_rule rules_of rule_names
   past wear told h =
-      skip _ _ _ _ _ told at-if1.before.bst-ok.ensures at-if1.if1.left
-      (skip _ _ _ _ _ told at-if2.before.bt-ok.ensures at-if2.if2.left
-      (skip _ _ _ _ _ told at-if3.before.once-ok.ensures at-if3.if3.left
-      (skip _ _ _ _ _ told at-if4.before.used-ok.ensures at-if4.if4.left
-      (skip _ _ _ _ _ told at-if5.before.frees-ok.ensures at-if5.if5.left
-      (skip _ _ _ _ _ told (used wear) at-if6.if6.left
-      (skip _ _ _ _ _ told (fsts wear) at-if7.if7.left
-      (skip _ _ _ _ _ told (cts wear) c.if8.false
+      skip _ _ _ _ _ told c.bst_ok.ensures c.if-not-bst_ok.false-raw
+      (skip _ _ _ _ _ told c.bt_ok.ensures c.if-not-bt_ok.false-raw
+      (skip _ _ _ _ _ told c.once_ok.ensures c.if-not-once_ok.false-raw
+      (skip _ _ _ _ _ told c.used_ok.ensures c.if-not-used_ok.false-raw
+      (skip _ _ _ _ _ told c.frees_ok.ensures c.if-not-frees_ok.false-raw
+      (skip _ _ _ _ _ told (used wear) c.if-not-blocks_ok.false-raw
+      (skip _ _ _ _ _ told (fsts wear) c.if-not-fsts_ok.false-raw
+      (skip _ _ _ _ _ told (cts wear) c.if-not-cts_ok.false-raw
       h)))))))
 
 pub returns-then-not-in_order_but_stamps : goal.returns-then-not-in_order_but_stamps
 returns-then-not-in_order_but_stamps c =
     λ wear.
-    let told : Marks ≡ broken_rule (a (goal.at.returns-then-not-in_order_but_stamps c).Else-not-cts_ok).args.p (board (a (goal.at.returns-then-not-in_order_but_stamps c).Else-not-cts_ok) wear) =
+    let told : Marks ≡ broken_rule c.args.p (board (a (goal.at.returns-then-not-in_order_but_stamps c).Else-not-cts_ok) wear) =
     past (goal.at.returns-then-not-in_order_but_stamps c).Else-not-cts_ok wear Marks (here _ _ _ _ _ (marks_test _ _ _ (c.in_order_but_stamps.ensures wear) (eight (goal.at.returns-then-not-in_order_but_stamps c).Else-not-cts_ok wear)) c.if-not-in_order_but_stamps.true-raw) in
     told
 
 pub returns : goal.returns
 returns c =
     λ wear.
-    let told : Stamps ≡ broken_rule (a (goal.at.returns c).Else-not-cts_ok).args.p (board (a (goal.at.returns c).Else-not-cts_ok) wear) =
+    let told : Stamps ≡ broken_rule c.args.p (board (a (goal.at.returns c).Else-not-cts_ok) wear) =
     past (goal.at.returns c).Else-not-cts_ok wear Stamps (skip _ _ _ _ _ _ (marks_test _ _ _ (c.in_order_but_stamps.ensures wear) (eight (goal.at.returns c).Else-not-cts_ok wear)) c.if-not-in_order_but_stamps.false-raw (end _)) in
     told
