@@ -5,7 +5,7 @@ use Rattle.cut_write.proofs.cut_room.Goals as goal
 
 pub bt_at-o-requires : goal.bt_at-o-requires
 bt_at-o-requires c =
-    let a = rw c.pl-1.given.1 at c.requires.copies_asked in
+    let a = rw c.in-Reclaims.is at c.requires.copies_asked in
     record {
       bt_len = a.bt_length;
       r_lt_mu = a.words.region;
@@ -14,7 +14,7 @@ bt_at-o-requires c =
 
 pub cut_reclaim-requires : goal.cut_reclaim-requires
 cut_reclaim-requires c =
-    let a = rw c.pl-1.given.1 at c.requires.copies_asked in
+    let a = rw c.in-Reclaims.is at c.requires.copies_asked in
     record {
       between = rw c.bt_at-o.ensures.result_value a.between;
       wear_len = a.wear_length;
@@ -23,13 +23,13 @@ cut_reclaim-requires c =
     }
 
 pub returns-in-Continues : goal.returns-in-Continues
-returns-in-Continues c = λ ct fst bst stamps e b h. rw c.enum_told-1.given.1 (none_first_continues _ _ _ _ _ c.requires.k_lt_room _ _ (rw c.enum_told-1.given.1 at h))
+returns-in-Continues c = λ ct fst bst stamps e b h. rw c.in-Continues.is (none_first_continues _ _ _ _ _ c.requires.k_lt_room _ _ (rw c.in-Continues.is at h))
 
 pub returns-in-Opens : goal.returns-in-Opens
-returns-in-Opens c = λ ct fst bst stamps e b h. rw c.enum_told-in-Opens-1.given.1 (none_first_opens _ _ _ _ _ c.requires.k_lt_room _ (rw c.enum_told-in-Opens-1.given.1 at h))
+returns-in-Opens c = λ ct fst bst stamps e b h. rw c.in-Opens.is (none_first_opens _ _ _ _ _ c.requires.k_lt_room _ (rw c.in-Opens.is at h))
 
 pub returns-in-Reclaims : goal.returns-in-Reclaims
 returns-in-Reclaims c =
-    let a = rw c.pl-1.given.1 at c.requires.copies_asked in
-    λ ct fst bst stamps e b h. rw c.pl-1.given.1 (copies_first _ _ ct _ fst bst _ _ stamps _ _ _ a _ c.bt_at-o.ensures.result_value (rw c.pl-1.given.1 at b) _ _ e
-    (rw c.pl-1.given.1 at h) _ _ c.cut_reclaim.ensures)
+    let a = rw c.in-Reclaims.is at c.requires.copies_asked in
+    λ ct fst bst stamps e b h. rw c.in-Reclaims.is (copies_first _ _ ct _ fst bst _ _ stamps _ _ _ a _ c.bt_at-o.ensures.result_value (rw c.in-Reclaims.is at b) _ _ e
+    (rw c.in-Reclaims.is at h) _ _ c.cut_reclaim.ensures)

@@ -6,7 +6,7 @@ use Rattle.write_room.proofs.plan_block.Goals as goal
 pub bt_at-requires : goal.bt_at-requires
 unfolding plan_vblock
 bt_at-requires c =
-    let a = rw c.pl-1.given.1 at c.requires in
+    let a = rw c.in-Continues.is at c.requires in
     record {
       bt_len = a.bt_length;
       r_lt_mu = a.region;
@@ -21,12 +21,12 @@ free_block-requires-in-Reclaims c = c.requires.pool
 
 pub returns-in-Continues : goal.returns-in-Continues
 unfolding plan_block
-returns-in-Continues c = λ chip ct fst marks stamps. rw c.pl-1.given.1 c.bt_at.ensures.result_value
+returns-in-Continues c = λ chip ct fst marks stamps. rw c.in-Continues.is c.bt_at.ensures.result_value
 
 pub returns-in-Opens : goal.returns-in-Opens
 unfolding plan_block
-returns-in-Opens c = λ chip ct fst marks stamps. rw c.enum_told-1.given.1 c.free_block.ensures
+returns-in-Opens c = λ chip ct fst marks stamps. rw c.in-Opens.is c.free_block.ensures
 
 pub returns-in-Reclaims : goal.returns-in-Reclaims
 unfolding plan_block
-returns-in-Reclaims c = λ chip ct fst marks stamps. rw c.enum_told-in-Reclaims-1.given.1 c.free_block-in-Reclaims.ensures
+returns-in-Reclaims c = λ chip ct fst marks stamps. rw c.in-Reclaims.is c.free_block-in-Reclaims.ensures
