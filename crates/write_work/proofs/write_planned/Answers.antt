@@ -2,24 +2,8 @@
 -- In each need `made` is what the call begins with.
 -- Assumes nothing.
 use mathlib.Core.Path.{◌∙◌}
-use Rattle.write_work.proofs.Writes.{
+use Rattle.write_work.proofs.Writes.{sectors, alpha_few, room_asked, lookup_entry, lookup_made, standing, stays, stays_within, copied_few, gives, mark_asked, old_asked}
 use Rattle.write_work.proofs.write_planned.Goals as goal
-
-  sectors,
-  alpha_few,
-  room_asked,
-  lookup_entry,
-  lookup_made,
-  standing,
-  stays,
-  stays_within,
-  copied_few,
-  gives,
-  mark_asked,
-  old_asked,
-}
-use Rattle.write_work.proofs.write_planned.Statement.{statement}
-use Rattle.write_work.proofs.write_planned.Tie as tie
 
 pub cluster_of-c-requires : goal.cluster_of-c-requires
 cluster_of-c-requires c =
