@@ -4,7 +4,7 @@
 
 ghost use Rattle.std.specs.Prelude.{◌≡◌, ℕ, ◌-◌, ◌^◌, ◌<◌, List, [], ◌∷◌, length, Some, OnOk, IfOk};
 ghost use Rattle.std.specs.Io.KnownBytes.{Appends};
-ghost use Rattle.rules.specs.Tables.{board_of};
+ghost use Rattle.rules.specs.Lent.{entry_board, exit_board};
 ghost use Rattle.demo_lines.specs.Held.{Holds};
 ghost use Rattle.demo_session.specs.Session.{bench, lines_from, turns};
 ghost use Rattle.demo.specs.Served.{Served, Ended};
@@ -27,7 +27,7 @@ fn take<W: Write>(
     held: Held,
     b: u8,
 ) -> io::Result<Held>
-    ensures { (l : List ℕ) → Holds held l → IfOk result (λ h. Served (W.contents to.old) (W.contents to.new) (board_of chip.old ct.old bt.old fst.old bst.old wear.old marks.old stamps.old) (board_of chip.new ct.new bt.new fst.new bst.new wear.new marks.new stamps.new) l (b ∷ []) h) }
+    ensures { (l : List ℕ) → Holds held l → IfOk result (λ h. Served (W.contents to.old) (W.contents to.new) (entry_board chip ct bt fst bst wear marks stamps) (exit_board chip ct bt fst bst wear marks stamps) l (b ∷ []) h) }
 {
     if b == b'\n' {
         demo_serve::answer(
@@ -62,7 +62,7 @@ fn take_all<W: Write>(
     held: Held,
     s: &[u8],
 ) -> io::Result<Held>
-    ensures { (l : List ℕ) → Holds held l → IfOk result (λ h. Served (W.contents to.old) (W.contents to.new) (board_of chip.old ct.old bt.old fst.old bst.old wear.old marks.old stamps.old) (board_of chip.new ct.new bt.new fst.new bst.new wear.new marks.new stamps.new) l s.now h) }
+    ensures { (l : List ℕ) → Holds held l → IfOk result (λ h. Served (W.contents to.old) (W.contents to.new) (entry_board chip ct bt fst bst wear marks stamps) (exit_board chip ct bt fst bst wear marks stamps) l s.now h) }
 {
     let mut h = held;
     for b in s {
@@ -85,7 +85,7 @@ fn take_input<R: Read, W: Write>(
     marks: &mut [u64],
     stamps: &mut [u32],
 ) -> io::Result<Held>
-    ensures { IfOk result (λ h. Ended (R.remaining from.old) (R.remaining from.new) (W.contents to.old) (W.contents to.new) (board_of chip.old ct.old bt.old fst.old bst.old wear.old marks.old stamps.old) (board_of chip.new ct.new bt.new fst.new bst.new wear.new marks.new stamps.new) h) }
+    ensures { IfOk result (λ h. Ended (R.remaining from.old) (R.remaining from.new) (W.contents to.old) (W.contents to.new) (entry_board chip ct bt fst bst wear marks stamps) (exit_board chip ct bt fst bst wear marks stamps) h) }
 {
     let mut held = demo_lines::none();
     let mut chunk = [0u8; 4096];
@@ -124,7 +124,7 @@ fn session<R: Read, W: Write>(
     marks: &mut [u64],
     stamps: &mut [u32],
 ) -> io::Result<()>
-    ensures { (input : List ℕ) → R.remaining from.old ≡ Some input → length input < 2 ^ 64 - 1 → OnOk result (Appends (W.contents to.old) (W.contents to.new) (turns (board_of chip.old ct.old bt.old fst.old bst.old wear.old marks.old stamps.old) (lines_from [] input))) }
+    ensures { (input : List ℕ) → R.remaining from.old ≡ Some input → length input < 2 ^ 64 - 1 → OnOk result (Appends (W.contents to.old) (W.contents to.new) (turns (entry_board chip ct bt fst bst wear marks stamps) (lines_from [] input))) }
 {
     let held = take_input(from, to, chip, ct, bt, fst, bst, wear, marks, stamps)?;
     if demo_lines::is_begun(held) {

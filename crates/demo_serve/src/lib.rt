@@ -5,7 +5,7 @@
 ghost use Rattle.std.specs.Prelude.{◌≡◌, ◌≤◌, ◌/◌, length, OnOk};
 ghost use Rattle.std.specs.Io.KnownBytes.{Appends};
 ghost use Rattle.rules.specs.Calls.{outcome_of};
-ghost use Rattle.rules.specs.Tables.{board_of};
+ghost use Rattle.rules.specs.Lent.{entry_board, exit_board, seen_board};
 ghost use Rattle.rules.specs.Requests.{read, request_of};
 ghost use Rattle.cases.specs.BoardT.{board_t};
 ghost use Rattle.demo_print.specs.Output.{format_line, read_line, unknown_line, write_line};
@@ -68,8 +68,8 @@ fn write<W: Write>(
     count: u32,
     value: u8,
 ) -> io::Result<()>
-    ensures turned { Turned (Line.Write lba count value) (board_of chip.old ct.old bt.old fst.old bst.old wear.old marks.old stamps.old) (board_of chip.new ct.new bt.new fst.new bst.new wear.new marks.new stamps.new) }
-    ensures text { OnOk result (Appends (W.contents to.old) (W.contents to.new) (turned_text (board_of chip.old ct.old bt.old fst.old bst.old wear.old marks.old stamps.old) (Line.Write lba count value))) }
+    ensures turned { Turned (Line.Write lba count value) (entry_board chip ct bt fst bst wear marks stamps) (exit_board chip ct bt fst bst wear marks stamps) }
+    ensures text { OnOk result (Appends (W.contents to.old) (W.contents to.new) (turned_text (entry_board chip ct bt fst bst wear marks stamps) (Line.Write lba count value))) }
 {
     let bytes = demo_board::filled(value);
     let n = demo_board::lent(count);
@@ -106,7 +106,7 @@ fn read_into<W: Write>(
     bytes: &mut [u8],
 ) -> io::Result<()>
     requires { length bytes.old ≤ 32 }
-    ensures { let o = outcome_of board_t (board_of chip.now ct.now bt.now fst.now bst.now wear.now marks.now stamps.now) (read (request_of lba count bytes.old)) in
+    ensures { let o = outcome_of board_t (seen_board chip ct bt fst bst wear marks stamps) (read (request_of lba count bytes.old)) in
         OnOk result (Appends (W.contents to.old) (W.contents to.new) (read_line o.answer (length bytes.old / 16) o.bytes)) }
 {
     let a = calls::read(
@@ -140,7 +140,7 @@ fn read<W: Write>(
     lba: u32,
     count: u32,
 ) -> io::Result<()>
-    ensures { OnOk result (Appends (W.contents to.old) (W.contents to.new) (turned_text (board_of chip.now ct.now bt.now fst.now bst.now wear.now marks.now stamps.now) (Line.Read lba count))) }
+    ensures { OnOk result (Appends (W.contents to.old) (W.contents to.new) (turned_text (seen_board chip ct bt fst bst wear marks stamps) (Line.Read lba count))) }
 {
     let mut bytes = demo_board::filled(0);
     let n = demo_board::lent(count);
@@ -173,8 +173,8 @@ pub fn answer<W: Write>(
     stamps: &mut [u32],
     line: Line,
 ) -> io::Result<()>
-    ensures turned { Turned line (board_of chip.old ct.old bt.old fst.old bst.old wear.old marks.old stamps.old) (board_of chip.new ct.new bt.new fst.new bst.new wear.new marks.new stamps.new) }
-    ensures text { OnOk result (Appends (W.contents to.old) (W.contents to.new) (turned_text (board_of chip.old ct.old bt.old fst.old bst.old wear.old marks.old stamps.old) line)) }
+    ensures turned { Turned line (entry_board chip ct bt fst bst wear marks stamps) (exit_board chip ct bt fst bst wear marks stamps) }
+    ensures text { OnOk result (Appends (W.contents to.old) (W.contents to.new) (turned_text (entry_board chip ct bt fst bst wear marks stamps) line)) }
 {
     match line {
         Line::Write(lba, count, value) => {
@@ -202,8 +202,8 @@ pub fn start<W: Write>(
     stamps: &mut [u32],
 ) -> io::Result<()>
     requires { length marks.old ≡ 16 }
-    ensures started { Started (board_of chip.old ct.old bt.old fst.old bst.old wear.old marks.old stamps.old) (board_of chip.new ct.new bt.new fst.new bst.new wear.new marks.new stamps.new) }
-    ensures text { OnOk result (Appends (W.contents to.old) (W.contents to.new) (started_text (board_of chip.old ct.old bt.old fst.old bst.old wear.old marks.old stamps.old))) }
+    ensures started { Started (entry_board chip ct bt fst bst wear marks stamps) (exit_board chip ct bt fst bst wear marks stamps) }
+    ensures text { OnOk result (Appends (W.contents to.old) (W.contents to.new) (started_text (entry_board chip ct bt fst bst wear marks stamps))) }
 {
     let a = calls::format(
         demo_board::board(),
