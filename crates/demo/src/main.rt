@@ -1,10 +1,21 @@
 // The bench program: formats Board T, then answers each line of standard input with a line on standard output.
+// All but `main` is for any reader and writer; where these say which bytes they have, `run` is proved to print what `bench` says of the input.
 #![tactic(auto)]
+
+ghost use Rattle.std.specs.Prelude.{◌≡◌, ℕ, ◌-◌, ◌^◌, ◌<◌, List, [], ◌∷◌, length, Some, OnOk, IfOk};
+ghost use Rattle.std.specs.Io.KnownBytes.{Appends};
+ghost use Rattle.rules.specs.Lent.{entry_board, exit_board};
+ghost use Rattle.demo_lines.specs.Held.{Holds};
+ghost use Rattle.demo_session.specs.Session.{bench, lines_from, turns};
+ghost use Rattle.demo.specs.Served.{Served, Ended};
+
 use demo_lines::Held;
-use libc::STDIN_FILENO;
+use std::io;
+use std::io::{Read, Write};
 
 // Takes one byte of the input: LF ends a line, and any other byte belongs to it.
-fn take(
+fn take<W: Write>(
+    to: &mut W,
     chip: &mut [u8],
     ct: &mut [u16],
     bt: &mut [u16],
@@ -15,9 +26,12 @@ fn take(
     stamps: &mut [u32],
     held: Held,
     b: u8,
-) -> Held {
+) -> io::Result<Held>
+    ensures { (l : List ℕ) → Holds held l → IfOk result (λ h. Served (W.contents to.old) (W.contents to.new) (entry_board chip ct bt fst bst wear marks stamps) (exit_board chip ct bt fst bst wear marks stamps) l (b ∷ []) h) }
+{
     if b == b'\n' {
         demo_serve::answer(
+            to,
             chip,
             ct,
             bt,
@@ -27,15 +41,16 @@ fn take(
             marks,
             stamps,
             demo_lines::asked(held),
-        );
-        demo_lines::none()
+        )?;
+        Ok(demo_lines::none())
     } else {
-        demo_lines::push(held, b)
+        Ok(demo_lines::push(held, b))
     }
 }
 
 // Takes the bytes that one read gave.
-fn take_all(
+fn take_all<W: Write>(
+    to: &mut W,
     chip: &mut [u8],
     ct: &mut [u16],
     bt: &mut [u16],
@@ -46,19 +61,21 @@ fn take_all(
     stamps: &mut [u32],
     held: Held,
     s: &[u8],
-) -> Held {
+) -> io::Result<Held>
+    ensures { (l : List ℕ) → Holds held l → IfOk result (λ h. Served (W.contents to.old) (W.contents to.new) (entry_board chip ct bt fst bst wear marks stamps) (exit_board chip ct bt fst bst wear marks stamps) l s.now h) }
+{
     let mut h = held;
-    let mut i = 0;
-    while i < s.len() {
-        h = take(chip, ct, bt, fst, bst, wear, marks, stamps, h, s[i]);
-        i += 1;
+    for b in s {
+        h = take(to, chip, ct, bt, fst, bst, wear, marks, stamps, h, *b)?;
     }
-    h
+    Ok(h)
 }
 
 // Takes the input to its end in chunks, and returns the line that no LF ended. A proved loop has to end, and nothing says that
-// an input does, so this one counts its turns down, from a number that no run uses up.
-fn take_input(
+// an input does, so this one counts its turns, up to a number that no run uses up.
+fn take_input<R: Read, W: Write>(
+    from: &mut R,
+    to: &mut W,
     chip: &mut [u8],
     ct: &mut [u16],
     bt: &mut [u16],
@@ -67,18 +84,18 @@ fn take_input(
     wear: &mut [u32],
     marks: &mut [u64],
     stamps: &mut [u32],
-) -> Held {
+) -> io::Result<Held>
+    ensures { IfOk result (λ h. Ended (R.remaining from.old) (R.remaining from.new) (W.contents to.old) (W.contents to.new) (entry_board chip ct bt fst bst wear marks stamps) (exit_board chip ct bt fst bst wear marks stamps) h) }
+{
     let mut held = demo_lines::none();
-    let mut buf = io::buffer();
-    let chunk: &mut [u8] = &mut buf;
-    let mut turns = u64::MAX;
-    while turns > 0 {
-        let got = libc::read(STDIN_FILENO, chunk);
-        let n = io::count(got, chunk);
+    let mut chunk = [0u8; 4096];
+    for turn in 0..u64::MAX {
+        let n = from.read(&mut chunk)?;
         if n == 0 {
-            return held;
+            return Ok(held);
         }
         held = take_all(
+            to,
             chip,
             ct,
             bt,
@@ -89,14 +106,15 @@ fn take_input(
             stamps,
             held,
             &chunk[..n],
-        );
-        turns -= 1;
+        )?;
     }
-    held
+    Ok(held)
 }
 
 // Answers the lines of the input; a last line without LF counts.
-fn session(
+fn session<R: Read, W: Write>(
+    from: &mut R,
+    to: &mut W,
     chip: &mut [u8],
     ct: &mut [u16],
     bt: &mut [u16],
@@ -105,10 +123,13 @@ fn session(
     wear: &mut [u32],
     marks: &mut [u64],
     stamps: &mut [u32],
-) {
-    let held = take_input(chip, ct, bt, fst, bst, wear, marks, stamps);
+) -> io::Result<()>
+    ensures { (input : List ℕ) → R.remaining from.old ≡ Some input → length input < 2 ^ 64 - 1 → OnOk result (Appends (W.contents to.old) (W.contents to.new) (turns (entry_board chip ct bt fst bst wear marks stamps) (lines_from [] input))) }
+{
+    let held = take_input(from, to, chip, ct, bt, fst, bst, wear, marks, stamps)?;
     if demo_lines::is_begun(held) {
         demo_serve::answer(
+            to,
             chip,
             ct,
             bt,
@@ -118,11 +139,15 @@ fn session(
             marks,
             stamps,
             demo_lines::asked(held),
-        );
+        )?;
     }
+    Ok(())
 }
 
-fn main() {
+// The bench program on any reader and writer: what it prints is what `bench` says of the input.
+fn run<R: Read, W: Write>(from: &mut R, to: &mut W) -> io::Result<()>
+    ensures { (input : List ℕ) → R.remaining from.old ≡ Some input → length input < 2 ^ 64 - 1 → OnOk result (Appends (W.contents to.old) (W.contents to.new) (bench input)) }
+{
     let mut chip = demo_board::blank_chip();
     let mut ct = [0u16; 6];
     let mut bt = [0u16; 4];
@@ -132,6 +157,7 @@ fn main() {
     let mut marks = [0u64; 16];
     let mut stamps = [0u32; 2];
     demo_serve::start(
+        to,
         &mut chip,
         &mut ct,
         &mut bt,
@@ -140,8 +166,10 @@ fn main() {
         &mut wear,
         &mut marks,
         &mut stamps,
-    );
+    )?;
     session(
+        from,
+        to,
         &mut chip,
         &mut ct,
         &mut bt,
@@ -150,5 +178,11 @@ fn main() {
         &mut wear,
         &mut marks,
         &mut stamps,
-    );
+    )
+}
+
+fn main(rt: HostRuntime) -> io::Result<()> {
+    let mut from = rt.reader();
+    let mut to = io::writer(&rt);
+    run(&mut from, &mut to)
 }

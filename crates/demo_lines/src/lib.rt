@@ -1,5 +1,6 @@
 // The bench program's input: a line, cut out of a stream of bytes, and what it asks.
 #![tactic(auto)]
+
 ghost use Rattle.std.specs.Prelude.{◌≡◌, cond, List, [], ◌∷◌, ◌++◌, ℕ, ◌+◌, ◌-◌, ◌*◌, ◌≤◌, ◌<◌, eqb, ltb, length, take, drop};
 ghost use Rattle.lists.specs.Parts.{same_list};
 ghost use Rattle.demo_lines.specs.Grammar.{first_field, fields, field_at, is_digit, Found, line_of};

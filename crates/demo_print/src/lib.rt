@@ -1,5 +1,6 @@
 // The bench program's output: a line that is printed.
 #![tactic(auto)]
+
 ghost use Rattle.std.specs.Prelude.{◌≡◌, cond, [], ◌∷◌, ◌+◌, ◌*◌, ◌/◌, ◌≤◌, ◌<◌, eqb, length};
 ghost use Rattle.demo_print.specs.Output.{digit as digitOf, decimal as decimalOf, hex as hexOf, sectors as sectors_of, counts, format_line, write_line, read_line, unknown_line, Put, Printed};
 

@@ -1,14 +1,15 @@
--- `demo::take_all` is safe and ends. The invariant: the lent slices keep their lengths. The measure is what is left of the bytes.
+-- `demo::take_all`: the bytes passed are taken.
 -- Assumes nothing.
-use mathlib.Core.Path.{◌≡◌}
-use Prim.Native.Nat.{◌-◌}
-use lib.ListN.{length}
+use Rattle.std.proofs.Common.{ℕ, List, take}
+use Rattle.rules.specs.Tables.{board_of}
+use Rattle.demo_lines.specs.Held.{Holds}
+use Rattle.demo.specs.Served.{Served}
 use Rattle.demo.proofs.take_all.Given as goal
 
-abbrev pub invariant-loop-i : goal.invariant-loop-i
-invariant-loop-i l =
-(length l.chip ≡ length l.initial.chip) × (length l.ct ≡ length l.initial.ct) × (length l.bt ≡ length l.initial.bt)
-        × (length l.fst ≡ length l.initial.fst) × (length l.bst ≡ length l.initial.bst) × (length l.wear ≡ length l.initial.wear) × (length l.marks ≡ length l.initial.marks) × (length l.stamps ≡ length l.initial.stamps)
-
-abbrev pub decreases-loop-i : goal.decreases-loop-i
-decreases-loop-i l = length l.s - l.i
+abbrev pub invariant-loop-b : goal.invariant-loop-b
+invariant-loop-b g l =
+    (begun : List ℕ) → Holds l.fn.held begun
+    → Served (g.W.Write.contents l.fn.to) (g.W.Write.contents l.to)
+    (board_of l.fn.chip l.fn.ct l.fn.bt l.fn.fst l.fn.bst l.fn.wear l.fn.marks l.fn.stamps)
+    (board_of l.chip l.ct l.bt l.fst l.bst l.wear l.marks l.stamps)
+    begun (take l.b-index l.s) l.h

@@ -1,13 +1,13 @@
--- `demo::take_input` is safe and ends. The invariant: the lent slices keep their lengths. The measure is the turns that are left.
+-- `demo::take_input`: each turn's read gave bytes, and these are taken.
 -- Assumes nothing.
-use mathlib.Core.Path.{◌≡◌}
-use lib.ListN.{length}
+use Rattle.rules.specs.Tables.{board_of}
+use Rattle.demo.proofs.Served.{Going}
 use Rattle.demo.proofs.take_input.Given as goal
 
-abbrev pub invariant-loop-turns : goal.invariant-loop-turns
-invariant-loop-turns l =
-(length l.chip ≡ length l.initial.chip) × (length l.ct ≡ length l.initial.ct)
-        × (length l.bt ≡ length l.initial.bt) × (length l.fst ≡ length l.initial.fst) × (length l.bst ≡ length l.initial.bst) × (length l.wear ≡ length l.initial.wear) × (length l.marks ≡ length l.initial.marks) × (length l.stamps ≡ length l.initial.stamps)
-
-abbrev pub decreases-loop-turns : goal.decreases-loop-turns
-decreases-loop-turns l = l.turns
+abbrev pub invariant-loop-turn : goal.invariant-loop-turn
+invariant-loop-turn g l =
+    Going (g.R.Read.remaining l.fn.from) (g.R.Read.remaining l.from) (g.W.Write.contents l.fn.to) (g.W.Write.contents l.to)
+    (board_of l.fn.chip l.fn.ct l.fn.bt l.fn.fst l.fn.bst l.fn.wear l.fn.marks l.fn.stamps)
+    (board_of l.chip l.ct l.bt l.fst l.bst l.wear l.marks l.stamps)
+    l.held
+    l.turn

@@ -7,8 +7,6 @@ use lib.ListN.{length}
 use borrow.Author.Tests.{not-true, not-false}
 use Rattle.demo_lines.specs.Grammar.{value_of}
 use Rattle.demo_lines.proofs.Numerals.{
-use Rattle.demo_lines.proofs.decimal_in.Goals as goal
-
   digit_low,
   digit_high,
   digits_turn,
@@ -24,10 +22,8 @@ use Rattle.demo_lines.proofs.decimal_in.Goals as goal
   too_large,
   accepted,
 }
-use borrow.Author.Rules.{rules}
+use Rattle.demo_lines.proofs.decimal_in.Goals as goal
 use native.Mathlib.Omega.{arith}
-use Rattle.demo_lines.proofs.decimal_in.Statement.{statement}
-use Rattle.demo_lines.proofs.decimal_in.Tie as tie
 
 pub returns-then-f-eq0 : goal.returns-then-f-eq0
 returns-then-f-eq0 c = too_short _ _ c.if-f-eq0.true
@@ -61,8 +57,7 @@ pub loop-i-preserved : goal.loop-i-preserved
 loop-i-preserved c =
     let w = c.loop-i in
     let h = c.loop-i-test.true in
-    let d = sym c.is_digit.ensures ∙ not-false _ c.if-not-is_digit.false-raw in
-    (
+    let d = sym c.is_digit.ensures ∙ not-false _ c.if-not-is_digit.false-raw in (
       omega arith,
       w.invariant.1 ∙ digits_turn _ w.i h d,
       rw c.wide.ensures (w.invariant.2 ∙ value_turn _ w.i w.v h),

@@ -5,7 +5,6 @@ use mathlib.Core.Path.{◌≡◌}
 use Prim.Native.Nat.{◌-◌, ◌^◌, ◌≤◌, ◌<◌}
 use lib.ListN.{length, drop}
 use Rattle.demo_lines.specs.Grammar.{all_digits, value_from, value_of}
-use Rattle.demo_lines.proofs.Numerals.{
 use Rattle.demo_lines.proofs.decimal_in.Given as goal
 
 abbrev pub invariant-loop-i : goal.invariant-loop-i

@@ -13,4 +13,4 @@ pub returns : goal.returns
 returns c =
     let s = c.args.s.now in
     let b = c.begins-a in
-    c.width-w.ensures.s_value ∙ ap first_field (to_end s b.result) ∙ b.ensures.1
+    c.width-w.ensures.s_value ∙ ap first_field (to_end s b.result) ∙ b.ensures.s_value

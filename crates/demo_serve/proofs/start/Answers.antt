@@ -1,7 +1,10 @@
 -- `demo_serve::start`: the format of Board T.
 -- Assumes nothing.
-use Rattle.demo_serve.proofs.Turns.{started}
+use Rattle.demo_serve.proofs.Turns.{start_text, started}
 use Rattle.demo_serve.proofs.start.Goals as goal
 
-pub returns : goal.returns
-returns c = started _ _ (rw c.board.ensures at c.format-a.ensures)
+pub returns-clause-started : goal.returns-clause-started
+returns-clause-started g c = started _ _ (rw c.board.ensures at c.format-a.ensures)
+
+pub returns-clause-text : goal.returns-clause-text
+returns-clause-text g c = rw (start_text _ _ (rw c.board.ensures at c.format-a.ensures)) at c.say_format.ensures
