@@ -39,6 +39,12 @@ module _ (p : Params) (bytes : List ℕ) where
       ≡ served_from itself p bytes (drop (i + 1) (take k ys)) (i + 1) (item_outcome p bytes b (get_or ys i d)).board (set os i (item_outcome p bytes b (get_or ys i d)).answer)
   one_answered ys k i d b os lt fits = one_served itself p bytes ys k i (get_or ys i d) b os lt (drop-cons ys i d (omega (arith, lt, fits)))
 
+  -- the same, of an item, an answer and a board that are known by equations
+  pub next_served : (ys : List Item) (k i : ℕ) (d it : Item) (b b' : Board) (os : List Answer) (a : Answer) → i < k → k ≤ length ys → get_or ys i d ≡ it
+      → a ≡ (item_outcome p bytes b it).answer → b' ≡ (item_outcome p bytes b it).board
+      → served_from itself p bytes (drop i (take k ys)) i b os ≡ served_from itself p bytes (drop (i + 1) (take k ys)) (i + 1) b' (set os i a)
+  next_served ys k i d it b b' os a lt fits e x y = rw (x, y, ← e) (one_answered ys k i d b os lt fits)
+
   -- ---- the call
 
   module _ (b : Board) (ys : List Item) (os : List Answer) (h : Head) (head : HeadIs p b (length ys) (length os) h) (a : Answer) (a-is : a ≡ answer_of h.reply [] 0)

@@ -1,4 +1,1 @@
-mod Again
 mod Folded
-mod Lent
-mod Shown
