@@ -1,5 +1,6 @@
 // One word of marks: bit i is the mark of number i.
 #![tactic(auto)]
+
 ghost use Rattle.std.specs.Prelude.{◌≡◌, Bool, true, false, ℕ, ◌≤◌, ◌<◌, ltb};
 ghost use Rattle.lists.specs.Below.{count_below, updated, bits_below};
 

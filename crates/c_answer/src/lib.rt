@@ -1,5 +1,6 @@
 // What C passes and gets as plain numbers: the parameters one by one, and an answer as one number, also in its place of a list.
 #![tactic(auto)]
+
 ghost use Rattle.std.specs.Prelude.{◌≡◌, length, set, ◌<◌};
 ghost use Rattle.c_answer.specs.Packed.{packed, params_of};
 

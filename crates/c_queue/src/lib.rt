@@ -1,5 +1,6 @@
 // T-01's queue as C lends it: the requests as a flat list of numbers, three to each, and the answers as numbers. The items are those of `queue_item`.
 #![tactic(auto)]
+
 ghost use Rattle.std.specs.Prelude.{◌≡◌, take};
 ghost use Rattle.queue_turns.specs.Served.{served_from};
 ghost use Rattle.rules.specs.Tables.{board_of};

@@ -1,5 +1,6 @@
 // T-07: T-01's queue as C lends it, with a budget. Each item gets what is left of it; nothing left says that the queue is cut.
 #![tactic(auto)]
+
 ghost use Rattle.std.specs.Prelude.{◌≡◌, take};
 ghost use Rattle.rules.specs.Tables.{board_of};
 ghost use Rattle.rules.specs.Lent.{entry_board, exit_board};

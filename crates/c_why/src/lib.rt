@@ -1,5 +1,6 @@
 // The answer of why as thirteen numbers, as C gets it: in the lent list where it is told, and its reply.
 #![tactic(auto)]
+
 ghost use Rattle.std.specs.Prelude.{◌≡◌, cond, get_or, length};
 ghost use Rattle.call_why.specs.Why.{Small, forecast_numbers, numbers_of};
 ghost use Rattle.c_why.specs.Told.{tells};

@@ -1,5 +1,6 @@
 // Document 01, "Read", on the lent chip and tables. No `requires`: the contract says that the whole outcome is the rules', for every input.
 #![tactic(auto)]
+
 ghost use Rattle.std.specs.Prelude.{◌≡◌, []};
 ghost use Rattle.rules.specs.Lent.{seen_board};
 ghost use Rattle.rules.specs.Requests.{read, request_of};

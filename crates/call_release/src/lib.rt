@@ -1,5 +1,6 @@
 // Document 02, T-03, the release, on the lent chip and tables, with T-06's table of marks. No `requires`: the contract says that the whole outcome is the rules', for every input.
 #![tactic(auto)]
+
 ghost use Rattle.std.specs.Prelude.{◌≡◌, []};
 ghost use Rattle.rules.specs.Tables.{board_of};
 ghost use Rattle.rules.specs.Requests.{release};

@@ -1,5 +1,6 @@
 // Document 02's T-07, "Start from the chip alone", on the lent chip and tables. No `requires`: the contract says that the whole outcome is the rules', for every input.
 #![tactic(auto)]
+
 ghost use Rattle.std.specs.Prelude.{◌≡◌, []};
 ghost use Rattle.rules.specs.declared.Reply.TheVariants.{Accepted};
 ghost use Rattle.rules.specs.Tables.{board_of};

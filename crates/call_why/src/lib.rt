@@ -1,5 +1,6 @@
 // Document 02, T-05: why a sector reads so, and what a write of it would do; with T-06's table of marks.
 #![tactic(auto)]
+
 ghost use Rattle.std.specs.Prelude.{◌≡◌, true, List, [], ℕ, ◌<◌, eqb, length};
 ghost use Rattle.rules.specs.Regions.{view, view_of};
 ghost use Rattle.rules.specs.Tables.{Board, board_of, not_found, stamp_at};

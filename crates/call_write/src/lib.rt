@@ -1,5 +1,6 @@
 // Document 01, "Write", on the lent chip and tables, with T-06's table of marks. No `requires`: the contract says that the whole outcome is the rules', for every input.
 #![tactic(auto)]
+
 ghost use Rattle.std.specs.Prelude.{◌≡◌, []};
 ghost use Rattle.rules.specs.Lent.{entry_board, exit_board};
 ghost use Rattle.rules.specs.Requests.{write, request_of};

@@ -1,6 +1,7 @@
 // The third question of a start, of one region: whether two whole frames of a cluster in the kept blocks share a stamp. Each whole frame is looked for among the
 // earlier ones, but only where a bit for its stamp is set already: two stamps that are the same have the same bit.
 #![tactic(auto)]
+
 ghost use Rattle.std.specs.Prelude.{◌≡◌, true, List, ℕ, ◌≤◌, ◌<◌, get_or, length};
 ghost use Rattle.rules.specs.Parameters.{allowed, block_bytes, frame_bytes, frames};
 ghost use Rattle.rules.specs.Tables.{bt_at, none};

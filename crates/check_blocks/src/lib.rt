@@ -1,6 +1,7 @@
 // What the check of a state asks of the tables, of the free blocks, and of one virtual block. A block that two regions name would be one of both, which its first
 // page rules out; so no search goes beyond one region. The named blocks are used, so that every used block is named if there are as many.
 #![tactic(auto)]
+
 ghost use Rattle.std.specs.Prelude.{◌≡◌, true, not, ◌||◌, ◌-◌, ◌*◌, ◌<◌, length, eqb};
 ghost use Rattle.rules.specs.Parameters.{allowed, chip_bytes};
 ghost use Rattle.rules.specs.Tables.{bst_at};

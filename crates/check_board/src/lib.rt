@@ -1,6 +1,7 @@
 // Whether the state is in order, its table of marks included. One pass over the chip, in which FST's rule is held to the frames that it counts, and then two counts instead
 // of a look at each CT entry.
 #![tactic(auto)]
+
 ghost use Rattle.std.specs.Prelude.{◌≡◌, ◌&&◌, true, List, ℕ, ◌*◌, ◌<◌, ◌≤◌, length};
 ghost use Rattle.lists.specs.Below.{all_below, count_below};
 ghost use Rattle.rules.specs.Numbers.{vblock_of};

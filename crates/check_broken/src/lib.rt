@@ -1,6 +1,7 @@
 // Which rule of an orderly state a board breaks: the first in document 01's order, T-06's rule of the marks and T-07's of the stamps last. Each rule is
 // looked at only where those before it hold. It is asked only where a call is refused with 7.
 #![tactic(auto)]
+
 ghost use Rattle.std.specs.Prelude.{◌≡◌, true, not, List, ℕ, ◌<◌, length};
 ghost use Rattle.lists.specs.Below.{all_below};
 ghost use Rattle.rules.specs.Tables.{board_of, marks_length};

@@ -1,5 +1,6 @@
 // FST's and CT's rules entry by entry, over a chip and a BT whose own rules hold: for the question which rule is broken.
 #![tactic(auto)]
+
 ghost use Rattle.std.specs.Prelude.{◌≡◌, true, ◌-◌, ◌<◌, length};
 ghost use Rattle.lists.specs.Below.{all_below};
 ghost use Rattle.rules.specs.Numbers.{region_of};

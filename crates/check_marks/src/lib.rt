@@ -1,5 +1,6 @@
 // Which frames are valid, and whether each mark of a virtual block is that of a valid frame. Crate check_board has why no valid frame is then without one.
 #![tactic(auto)]
+
 ghost use Rattle.std.specs.Prelude.{◌≡◌, false, true, not, ◌||◌, ℕ, ◌+◌, ◌*◌, ◌/◌, ◌%◌, ◌<◌, eqb};
 ghost use Rattle.lists.specs.Below.{all_below};
 ghost use Rattle.rules.specs.Parameters.{allowed};

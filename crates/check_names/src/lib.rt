@@ -1,5 +1,6 @@
 // The rules of which blocks BT names: none twice, and exactly the used ones. They search BT as often as they need: only the question which rule is broken asks.
 #![tactic(auto)]
+
 ghost use Rattle.std.specs.Prelude.{◌≡◌, true, not, ◌||◌, ◌*◌, ◌<◌, length, eqb};
 ghost use Rattle.std.specs.Bool.{beq};
 ghost use Rattle.lists.specs.Below.{all_below};

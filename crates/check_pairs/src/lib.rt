@@ -1,6 +1,7 @@
 // The second question of a start, of one region: which blocks name its virtual blocks. One pass over the chip's heads puts them into two rows, the full ones and
 // those that are not full; a place that is taken already is refused. The row of full ones then becomes that of the blocks that are kept.
 #![tactic(auto)]
+
 ghost use Rattle.std.specs.Prelude.{◌≡◌, false, true, ℕ, ◌+◌, ◌≤◌, ◌<◌, eqb, get_or, length, replicate, set};
 ghost use Rattle.lists.specs.Below.{count_below};
 ghost use Rattle.rules.specs.Tables.{none};

@@ -1,5 +1,6 @@
 // The first question of a start: whether every good block of the chip is erased or orderly by itself.
 #![tactic(auto)]
+
 ghost use Rattle.std.specs.Prelude.{◌≡◌, true, not, ◌||◌, ◌<◌, length};
 ghost use Rattle.rules.specs.Parameters.{allowed, block_bytes, chip_bytes};
 ghost use Rattle.rules.specs.Pages.{block, erased};

@@ -1,5 +1,6 @@
 // Whether a chip can be started from: document 02's T-07, reply 7 of a start. The chip alone is read, and nothing is stored.
 #![tactic(auto)]
+
 ghost use Rattle.std.specs.Prelude.{◌≡◌, true, ◌<◌, length, replicate};
 ghost use Rattle.lists.specs.Below.{all_below};
 ghost use Rattle.rules.specs.Parameters.{allowed, chip_bytes};

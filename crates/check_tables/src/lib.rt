@@ -1,5 +1,6 @@
 // The rules of BT and BST that look at no byte of the chip, and what the check of a state asks of BT's entries.
 #![tactic(auto)]
+
 ghost use Rattle.std.specs.Prelude.{◌≡◌, true, cond, not, ◌||◌, ◌*◌, ◌+◌, ◌<◌, ◌≤◌, length, eqb, ltb};
 ghost use Rattle.lists.specs.Below.{count_below};
 ghost use Rattle.rules.specs.Parameters.{allowed};

@@ -1,5 +1,6 @@
 // Document 02's T-02: which blocks are bad, by the factory's marks on the chip.
 #![tactic(auto)]
+
 ghost use Rattle.std.specs.Prelude.{◌≡◌, ◌&&◌, not, true, ◌*◌, ◌<◌, length};
 ghost use Rattle.rules.specs.Parameters.{allowed, block_bytes, pages};
 ghost use Rattle.rules.specs.Traces.{worn};

@@ -1,5 +1,6 @@
 // One block of the chip, read: its frames, the clusters that they hold, and whether it is as its region wants it.
 #![tactic(auto)]
+
 ghost use Rattle.std.specs.Prelude.{◌≡◌, ◌&&◌, cond, false, not, true, ℕ, ◌*◌, ◌-◌, ◌≤◌, ◌<◌, eqb, drop, length};
 ghost use Rattle.lists.specs.Below.{all_below};
 ghost use Rattle.lists.specs.Parts.{all_are, same_list};

@@ -1,5 +1,6 @@
 // Whether a lent part of the chip is erased, that is 255 throughout.
 #![tactic(auto)]
+
 ghost use Rattle.std.specs.Prelude.{◌≡◌, ◌&&◌, length};
 ghost use Rattle.lists.specs.Parts.{all_are};
 ghost use Rattle.chip_erased.specs.Full.{full};

@@ -1,5 +1,6 @@
 // A frame of the chip, page by page.
 #![tactic(auto)]
+
 ghost use Rattle.std.specs.Prelude.{◌≡◌, true, List, ◌++◌, ℕ, ◌+◌, ◌*◌, ◌<◌, ◌≤◌, length, take, drop, replicate};
 ghost use Rattle.rules.specs.Parameters.{allowed, frames};
 ghost use Rattle.chip_frames.specs.Frame.{FrameAsked, PageAsked, HostAsked, first_pages, host_page, page_sector, host_frame, sectors_of};

@@ -1,5 +1,6 @@
 // What the first page of a block says of it, on a chip whose blocks in use are sound: one look at a block, not at its bytes.
 #![tactic(auto)]
+
 ghost use Rattle.std.specs.Prelude.{◌≡◌, false, true, ◌<◌, length};
 ghost use Rattle.rules.specs.Parameters.{allowed, block_bytes, chip_bytes};
 ghost use Rattle.rules.specs.Pages.{block};

@@ -1,5 +1,6 @@
 // What a cut leaves of the lent tables: nothing but ones. Power that goes takes the tables with it; the wear is kept elsewhere.
 #![tactic(auto)]
+
 ghost use Rattle.std.specs.Prelude.{◌≡◌, length, replicate};
 ghost use Rattle.chip_lost.specs.Lost.{Lost};
 

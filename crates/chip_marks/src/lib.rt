@@ -1,5 +1,6 @@
 // Document 02, T-06: the lent table of marks, read and written. A contract is over all marks that the table may hold.
 #![tactic(auto)]
+
 ghost use Rattle.std.specs.Prelude.{◌≡◌, true, false, ◌*◌, ◌-◌, ◌<◌, min, length, replicate};
 ghost use Rattle.lists.specs.Below.{count_below};
 ghost use Rattle.rules.specs.Marks.{Marks, table_of};

@@ -1,5 +1,6 @@
 // One page and one block of the chip. A page is programmed through a lent part that is that page and no more, and only where it is all ones.
 #![tactic(auto)]
+
 ghost use Rattle.std.specs.Prelude.{◌≡◌, ◌++◌, ◌+◌, ◌*◌, ◌≤◌, length, take, drop, replicate};
 ghost use Rattle.lists.specs.Parts.{part, put_part};
 ghost use Rattle.rules.specs.Pages.{spare_bytes};

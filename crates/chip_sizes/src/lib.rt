@@ -1,5 +1,6 @@
 // The sizes that follow from the parameters, and the two checks that look at numbers alone: replies 1 and 2.
 #![tactic(auto)]
+
 ghost use Rattle.std.specs.Prelude.{◌≡◌, true, ◌<◌, length};
 ghost use Rattle.rules.specs.Parameters.{allowed, frames, pages, page_bytes, frame_bytes, block_bytes, within};
 ghost use Rattle.rules.specs.Tables.{Board};

@@ -1,5 +1,6 @@
 // The spare bytes of a page: what a program writes there, and what those of a frame say.
 #![tactic(auto)]
+
 ghost use Rattle.std.specs.Prelude.{◌≡◌, true, ℕ, ◌-◌, ◌<◌, length, drop, take};
 ghost use Rattle.lists.specs.Parts.{same_list};
 ghost use Rattle.rules.specs.Parameters.{allowed, frame_bytes};

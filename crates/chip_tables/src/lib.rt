@@ -1,5 +1,6 @@
 // The lent tables, each read and written by its own kinds of numbers.
 #![tactic(auto)]
+
 ghost use Rattle.std.specs.Prelude.{◌≡◌, not, ◌*◌, ◌+◌, ◌<◌, min, eqb, get_or, length, replicate, set};
 ghost use Rattle.lists.specs.Below.{count_below};
 ghost use Rattle.rules.specs.Tables.{none, ct_at, bt_entry, bt_at, fst_at, bst_at, wear_at, stamp_at};

@@ -1,5 +1,6 @@
 // The bytes of the chip as numbers, low byte first: four or eight at a time.
 #![tactic(auto)]
+
 ghost use Rattle.std.specs.Prelude.{◌≡◌, ◌+◌, ◌<◌, ◌≤◌, length, drop, take};
 ghost use Rattle.rules.specs.Pages.{le32};
 ghost use Rattle.chip_words.specs.Words.{le};

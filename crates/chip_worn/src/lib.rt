@@ -1,5 +1,6 @@
 // Document 02's T-12: a block is erased, and marked where that wears it out. So a format, a start and a reclaim erase.
 #![tactic(auto)]
+
 ghost use Rattle.std.specs.Prelude.{◌≡◌, cond, true, ◌*◌, ◌<◌, length};
 ghost use Rattle.rules.specs.Parameters.{allowed, block_bytes};
 ghost use Rattle.rules.specs.Pages.{block, erased, page};

@@ -1,5 +1,6 @@
 // The C interface: the calls of documents 01 and 02 with the parameters one by one, and the answer as one number. T-06's table of marks comes after the wear.
 #![tactic(auto)]
+
 ghost use Rattle.std.specs.Prelude.{◌≡◌, []};
 ghost use Rattle.rules.specs.Tables.{board_of};
 ghost use Rattle.rules.specs.Lent.{entry_board, exit_board, seen_board};

@@ -1,5 +1,6 @@
 // Document 02, T-07, cuts: "Power may go after any page program". The copies of a reclaim, of which only the first pages are made.
 #![tactic(auto)]
+
 ghost use Rattle.std.specs.Prelude.{◌≡◌, min, take};
 ghost use Rattle.rules.specs.Pages.{block};
 ghost use Rattle.rules.specs.Traces.{replay_chip, frames_ops};

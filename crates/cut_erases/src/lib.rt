@@ -1,6 +1,7 @@
 // Document 02, T-07, cuts, of the calls that do nothing to the chip but erase blocks in rising order and mark those that they wear out, a format and a start. After such a cut every table but the wear is lost, so
 // BST is free to list what is to be erased: a block that it has as free is.
 #![tactic(auto)]
+
 ghost use Rattle.std.specs.Prelude.{◌≡◌, true, ◌<◌, length, take};
 ghost use Rattle.rules.specs.Parameters.{allowed};
 ghost use Rattle.rules.specs.Tables.{board_of};

@@ -1,6 +1,7 @@
 // Document 02, T-07, cuts, of a write on a state that is known to be orderly. How many operations it will make is known before the first; where the budget
 // has more, it is the plain write, and else as many are made as the budget has, and the tables are lost.
 #![tactic(auto)]
+
 ghost use Rattle.std.specs.Prelude.{◌≡◌, true, List, [], ◌++◌, ℕ, ◌-◌, ◌≤◌, ◌<◌, length, take};
 ghost use Rattle.rules.specs.Parameters.{allowed};
 ghost use Rattle.rules.specs.Pages.{block};

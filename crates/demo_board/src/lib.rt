@@ -1,5 +1,6 @@
 // Board T as the bench program has it: its parameters, its blank chip, and the bytes that a line lends.
 #![tactic(auto)]
+
 ghost use Rattle.std.specs.Prelude.{◌≡◌, ◌*◌, min, replicate};
 ghost use Rattle.cases.specs.BoardT.{board_t};
 

@@ -1,5 +1,6 @@
 // Document 01, "Format": what is made of each block.
 #![tactic(auto)]
+
 ghost use Rattle.std.specs.Prelude.{◌≡◌, cond, true, ◌*◌, ◌<◌, length, replicate};
 ghost use Rattle.lists.specs.Below.{list_below};
 ghost use Rattle.rules.specs.Parameters.{allowed, block_bytes};

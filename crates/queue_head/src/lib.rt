@@ -1,6 +1,7 @@
 // Document 02, T-01: the head of a queue of writes, which is what the call is answered as a whole, before its items. It looks at lengths and state once,
 // for all of them.
 #![tactic(auto)]
+
 ghost use Rattle.rules.specs.Lent.{seen_board};
 ghost use Rattle.queue_head.specs.Heads.{FlatHead, HeadIs};
 

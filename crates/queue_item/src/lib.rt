@@ -1,6 +1,7 @@
 // Document 02, T-01: one item of a queue of writes. The head has looked at lengths and state once, for all items; an item is then the single write
 // without that look.
 #![tactic(auto)]
+
 ghost use Rattle.std.specs.Prelude.{◌≡◌, true, List, ℕ, length};
 ghost use Rattle.rules.specs.Parameters.{allowed};
 ghost use Rattle.rules.specs.Tables.{board_of};

@@ -1,5 +1,6 @@
 // Document 02, T-01: one call that takes a list of write requests and fills a list of answers.
 #![tactic(auto)]
+
 ghost use Rattle.std.specs.Prelude.{◌≡◌};
 ghost use Rattle.rules.specs.Lent.{entry_board, exit_board};
 ghost use Rattle.rules.specs.Requests.{queue, queue_of};

@@ -1,5 +1,6 @@
 // A queue of two writes with plain parameters, so that the queue of crate `queue_list` can be run by a test.
 #![tactic(auto)]
+
 ghost use Rattle.std.specs.Prelude.{◌≡◌, [], ◌∷◌};
 ghost use Rattle.rules.specs.Lent.{entry_board, exit_board};
 ghost use Rattle.rules.specs.Requests.{item_of, queue, queue_of};

@@ -1,5 +1,6 @@
 // Document 01, "Read", on a state that is known to be orderly: the lookup of a cluster's valid frame, and the sectors read from it.
 #![tactic(auto)]
+
 ghost use Rattle.std.specs.Prelude.{◌≡◌, List, ℕ, ◌+◌};
 ghost use Rattle.lists.specs.Below.{join_below};
 ghost use Rattle.lists.specs.Parts.{put_part};

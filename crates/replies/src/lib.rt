@@ -1,5 +1,6 @@
 // Document 01, "Reply numbers": the rows of each call, checked in the table's order.
 #![tactic(auto)]
+
 ghost use Rattle.std.specs.Prelude.{◌≡◌, List, ℕ, length};
 ghost use Rattle.rules.specs.Tables.{board_of, marks_length};
 ghost use Rattle.rules.specs.Lent.{seen_board};

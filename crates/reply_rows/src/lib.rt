@@ -1,5 +1,6 @@
 // Document 01, "Reply numbers": the rows that look at the request and at its region's last stamp alone, and the answer of a call that is refused.
 #![tactic(auto)]
+
 ghost use Rattle.std.specs.Prelude.{◌≡◌, true, false, not, [], length};
 ghost use Rattle.rules.specs.Parameters.{allowed};
 ghost use Rattle.rules.specs.Tables.{Board};

@@ -1,6 +1,7 @@
 // Document 02, T-07, what a start makes of the blocks: BST and BT, and the erases. "If two blocks name one virtual block, the one with a page of every frame
 // programmed (full) stays and the other is erased."
 #![tactic(auto)]
+
 ghost use Rattle.std.specs.Prelude.{◌≡◌, Bool, ◌&&◌, cond, false, ℕ, ◌<◌, ◌≤◌, eqb, length, set};
 ghost use Rattle.lists.specs.Below.{list_below};
 ghost use Rattle.rules.specs.Tables.{bt_entry, none};

@@ -1,5 +1,6 @@
 // Document 02, T-07, what a start rebuilds of each cluster and region: CT, by "the whole frame with the largest stamp", and the last stamps.
 #![tactic(auto)]
+
 ghost use Rattle.std.specs.Prelude.{◌≡◌, true, ◌||◌, ◌+◌, ◌<◌, eqb, ltb, length};
 ghost use Rattle.lists.specs.Below.{list_below};
 ghost use Rattle.rules.specs.Parameters.{allowed};

@@ -1,5 +1,6 @@
 // The frames of a region as a start has found them, counted through its virtual blocks.
 #![tactic(auto)]
+
 ghost use Rattle.std.specs.Prelude.{◌≡◌, not, true, ◌*◌, ◌/◌, ◌<◌, eqb, length};
 ghost use Rattle.rules.specs.Parameters.{allowed, frames, frame_bytes};
 ghost use Rattle.rules.specs.Tables.{bt_at, none};

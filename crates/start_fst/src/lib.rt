@@ -1,6 +1,7 @@
 // Document 02, T-07, what a start rebuilds of FST: the last segment of each region's open block. "If all of a region's blocks are full, FST names the last segment
 // of the lowest virtual block."
 #![tactic(auto)]
+
 ghost use Rattle.std.specs.Prelude.{◌≡◌, not, ◌*◌, ◌-◌, ◌<◌, eqb, length};
 ghost use Rattle.lists.specs.Below.{first_below, list_below};
 ghost use Rattle.rules.specs.Numbers.{segment_of};

@@ -1,5 +1,6 @@
 // Document 02, T-07, what a start rebuilds of the marks: each is set by the validity rule, frame by frame, from the chip, CT and BT.
 #![tactic(auto)]
+
 ghost use Rattle.std.specs.Prelude.{◌≡◌, List, [], ℕ, ◌+◌, ◌*◌, ◌<◌, length};
 ghost use Rattle.rules.specs.Parameters.{frames};
 ghost use Rattle.rules.specs.Tables.{marks_length};

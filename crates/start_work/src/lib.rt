@@ -1,5 +1,6 @@
 // Document 02, T-07, the start, on a chip that has passed its checks: "The start rebuilds BST, BT, CT, FST, the marks and the stamps."
 #![tactic(auto)]
+
 ghost use Rattle.std.specs.Prelude.{◌≡◌, ◌≤◌};
 ghost use Rattle.rules.specs.Tables.{board_of};
 ghost use Rattle.rules.specs.Traces.{erases_in};

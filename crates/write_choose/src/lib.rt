@@ -1,5 +1,6 @@
 // What a write chooses: the free block, the lowest virtual block without a physical block, and the victim of a reclaim.
 #![tactic(auto)]
+
 ghost use Rattle.std.specs.Prelude.{◌≡◌, true, ◌&&◌, ◌||◌, cond, ◌*◌, ◌<◌, eqb, ltb, length};
 ghost use Rattle.rules.specs.Parameters.{allowed};
 ghost use Rattle.rules.specs.Write.{free_block};

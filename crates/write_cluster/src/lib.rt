@@ -1,5 +1,6 @@
 // Document 01, "Write", on a state that is known to be orderly: the cluster put in the room that a plan has made.
 #![tactic(auto)]
+
 ghost use Rattle.std.specs.Prelude.{◌≡◌, [], ◌≤◌};
 ghost use Rattle.rules.specs.Numbers.{cluster_of, region_of};
 ghost use Rattle.rules.specs.Tables.{board_of};

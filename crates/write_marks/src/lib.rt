@@ -1,5 +1,6 @@
 // Document 01, "Write", on a state that is known to be orderly: the marks that follow it, and its answer.
 #![tactic(auto)]
+
 ghost use Rattle.std.specs.Prelude.{◌≡◌, false, cond, ◌<◌, ◌≤◌, eqb};
 ghost use Rattle.rules.specs.Marks.{Marks, table_of};
 ghost use Rattle.marks.specs.Kept.{first_marks, put_mark};

@@ -1,5 +1,6 @@
 // Document 01, "Write", on a state that is known to be orderly: where the write goes.
 #![tactic(auto)]
+
 ghost use Rattle.std.specs.Prelude.{◌≡◌, List, [], ℕ, length};
 ghost use Rattle.rules.specs.Tables.{board_of, marks_length};
 ghost use Rattle.rules.specs.Regions.{view_of};

@@ -1,6 +1,7 @@
 // Document 01, "Reclaim": the victim's valid frames, which are those with a mark, are copied to the free block, CT follows each, and the victim is erased;
 // T-12: and marked where that wears it out.
 #![tactic(auto)]
+
 ghost use Rattle.std.specs.Prelude.{◌≡◌, ◌≤◌};
 ghost use Rattle.rules.specs.Pages.{block, frame, held};
 ghost use Rattle.rules.specs.Traces.{replay_chip, frame_ops};

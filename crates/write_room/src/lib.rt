@@ -1,5 +1,6 @@
 // Document 01, "Write", on a state that is known to be orderly: the room that its plan makes.
 #![tactic(auto)]
+
 ghost use Rattle.std.specs.Prelude.{◌≡◌, List, ℕ};
 ghost use Rattle.rules.specs.Tables.{board_of, bt_at};
 ghost use Rattle.rules.specs.Pages.{block};

@@ -1,5 +1,6 @@
 // Document 01, "Write", on a state that is known to be orderly: the plan, the block that it writes, the room that it makes, and the cluster put there.
 #![tactic(auto)]
+
 ghost use Rattle.std.specs.Prelude.{◌≡◌, []};
 ghost use Rattle.rules.specs.Tables.{board_of};
 ghost use Rattle.rules.specs.Lent.{entry_board, exit_board};

@@ -29,8 +29,7 @@ loop-i-smaller c = omega arith
 
 pub loop-i-preserved : goal.loop-i-preserved
 loop-i-preserved c =
-    let inv = c.loop-i.invariant in
-    (
+    let inv = c.loop-i.invariant in (
       omega (arith, c.loop-i-test.true),
       record {
         chip = c.chip-1.given ∙ inv.1.chip;

@@ -48,7 +48,7 @@ pub forecast_of-fc-requires : goal.forecast_of-fc-requires
 forecast_of-fc-requires c =
     record {
       forecast_asked = asked _ (board (goal.at.forecast_of-fc-requires c).Start) _ (passed _ (board (goal.at.forecast_of-fc-requires c).Start) _ _ c.why_reply-reply.ensures _ c.number-n.ensures c.if-n-ne0.false) _
-              c.cluster_of-c.ensures _ c.region_of.ensures;
+          c.cluster_of-c.ensures _ c.region_of.ensures;
       r_in_bounds = stamp_in_lem _ (board (goal.at.forecast_of-fc-requires c).Start) _ (passed _ (board (goal.at.forecast_of-fc-requires c).Start) _ _ c.why_reply-reply.ensures _ c.number-n.ensures c.if-n-ne0.false) _ _ c.region_of.ensures;
     }
 

@@ -27,11 +27,11 @@ pub regions_ok-requires : goal.regions_ok-requires
 regions_ok-requires c =
     record {
       blocks_asked = record {
-            lent = lent_in _ _ _ _ _ _ c.requires.lengths (sym c.tables_ok.ensures ∙ not-false _ c.if-not-tables_ok.false-raw);
-            ct_length = c.requires.lengths.ct_length;
-            bst_length = c.requires.lengths.bst_length;
-            marks_long = c.requires.marks_len;
-          };
+        lent = lent_in _ _ _ _ _ _ c.requires.lengths (sym c.tables_ok.ensures ∙ not-false _ c.if-not-tables_ok.false-raw);
+        ct_length = c.requires.lengths.ct_length;
+        bst_length = c.requires.lengths.bst_length;
+        marks_long = c.requires.marks_len;
+      };
       fst_len = c.requires.lengths.fst_length;
       stamps_len = c.requires.stamps_len;
     }

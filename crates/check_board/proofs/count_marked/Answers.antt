@@ -40,8 +40,7 @@ loop-i-smaller c = omega arith
 pub loop-i-preserved : goal.loop-i-preserved
 unfolding word_at
 loop-i-preserved c =
-    let m = c.args.marks.now in
-    (
+    let m = c.args.marks.now in (
       omega arith,
       omega (arith, c.loop-i.invariant.1, c.count-k.ensures.upper_bound),
       count_word (bit_at m) c.loop-i.i c.loop-i.k c.count-k.result c.loop-i.invariant.2

@@ -16,7 +16,7 @@ block_of-requires c =
       p_value = c.requires.lent.fine;
       chip_len = c.requires.lent.chip_length;
       n_lt_n = name_low c.args.p c.args.chip.now c.args.bt.now c.requires.lent c.args.r c.args.v.0
-                c.bt_at-n.result.0 c.requires.r_lt_mu c.requires.v_lt_gamma c.bt_at-n.ensures.result_value c.if-n-eq-NONE.false;
+          c.bt_at-n.result.0 c.requires.r_lt_mu c.requires.v_lt_gamma c.bt_at-n.ensures.result_value c.if-n-eq-NONE.false;
     }
 
 pub returns : goal.returns

@@ -50,7 +50,7 @@ block_of-requires c =
       p_value = c.requires.lent.fine;
       chip_len = c.requires.lent.chip_length;
       n_lt_n = name_low c.args.p c.args.chip.now c.args.bt.now c.requires.lent c.args.r _ c.bt_at-n.result.0 c.requires.r_lt_mu
-                (vlow (goal.at.block_of-requires c).Start _ c.vblock_of-o.ensures c.if-sg-p.false) c.bt_at-n.ensures.result_value c.if-n-eq-NONE.false;
+          (vlow (goal.at.block_of-requires c).Start _ c.vblock_of-o.ensures c.if-sg-p.false) c.bt_at-n.ensures.result_value c.if-n-eq-NONE.false;
     }
 
 pub filled-k-requires : goal.filled-k-requires

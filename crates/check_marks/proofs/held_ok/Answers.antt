@@ -39,14 +39,13 @@ pub loop-w-smaller : goal.loop-w-smaller
 loop-w-smaller c = omega arith
 
 pub loop-w-preserved : goal.loop-w-preserved
-loop-w-preserved c =
-    (
-      omega arith,
-      λ vw s.
-          all_more _ _ (c.loop-w.invariant.1 vw s)
-          (ap (only_in (marked c.args.p vw c.args.v.0) c.loop-w.w) (sym c.word_at.ensures) ∙ sym (c.word_ok.ensures _ vw s)
-          ∙ not-false _ c.if-not-word_ok.false-raw),
-    )
+loop-w-preserved c = (
+  omega arith,
+  λ vw s.
+      all_more _ _ (c.loop-w.invariant.1 vw s)
+      (ap (only_in (marked c.args.p vw c.args.v.0) c.loop-w.w) (sym c.word_at.ensures) ∙ sym (c.word_ok.ensures _ vw s)
+      ∙ not-false _ c.if-not-word_ok.false-raw),
+)
 
 pub returns : goal.returns
 returns c = λ vw s. sym (all_end _ _ _ (omega arith) (c.loop-w.invariant.1 vw s))

@@ -62,12 +62,11 @@ pub loop-g-smaller : goal.loop-g-smaller
 loop-g-smaller c = omega arith
 
 pub loop-g-preserved : goal.loop-g-preserved
-loop-g-preserved c =
-    (
-      omega (arith, c.loop-g.invariant.0),
-      one_more (λ j. holds c.args.p (frame c.args.p c.args.blk.now j) c.args.c.0) _ c.loop-g.g c.loop-g.invariant.1
-          (ap (λ (x : List ℕ). holds c.args.p x c.args.c.0) (sym c.frame_of.ensures.result_value) ∙ sym c.holds.ensures ∙ c.if-holds.false),
-    )
+loop-g-preserved c = (
+  omega (arith, c.loop-g.invariant.0),
+  one_more (λ j. holds c.args.p (frame c.args.p c.args.blk.now j) c.args.c.0) _ c.loop-g.g c.loop-g.invariant.1
+      (ap (λ (x : List ℕ). holds c.args.p x c.args.c.0) (sym c.frame_of.ensures.result_value) ∙ sym c.holds.ensures ∙ c.if-holds.false),
+)
 
 pub returns : goal.returns
 returns c = last_here_lem _ _ _ _ _ c.requires (λ g a b. c.loop-g.invariant.1 g a (omega (arith, c.loop-g-test.false)))

@@ -64,16 +64,15 @@ pub loop-rest-smaller : goal.loop-rest-smaller
 loop-rest-smaller c = omega (arith, left (goal.at.loop-rest-smaller c).In-loop-rest)
 
 pub loop-rest-preserved : goal.loop-rest-preserved
-loop-rest-preserved c =
-    (
-      omega (arith, left (goal.at.loop-rest-preserved c).In-loop-rest),
-      c.next_place-k.ensures ∙ ap (λ (x : ℕ). x / c.args.p.beta) (add_assoc (64 * c.args.w) c.loop-rest.i 1),
-      half _ _ _ c.loop-rest.invariant.2,
-      λ r vw s.
-          all_more _ _ (c.loop-rest.invariant.3 r vw s)
-          (ap (λ (x : ℕ). not (eqb (x % 2) 1) || marked c.args.p vw c.args.v.0 (64 * c.args.w + c.loop-rest.i))
-          (sym c.loop-rest.invariant.2) ∙ sym (c.mark_ok.ensures r vw s) ∙ not-false _ c.if-not-mark_ok.false-raw),
-    )
+loop-rest-preserved c = (
+  omega (arith, left (goal.at.loop-rest-preserved c).In-loop-rest),
+  c.next_place-k.ensures ∙ ap (λ (x : ℕ). x / c.args.p.beta) (add_assoc (64 * c.args.w) c.loop-rest.i 1),
+  half _ _ _ c.loop-rest.invariant.2,
+  λ r vw s.
+      all_more _ _ (c.loop-rest.invariant.3 r vw s)
+      (ap (λ (x : ℕ). not (eqb (x % 2) 1) || marked c.args.p vw c.args.v.0 (64 * c.args.w + c.loop-rest.i))
+      (sym c.loop-rest.invariant.2) ∙ sym (c.mark_ok.ensures r vw s) ∙ not-false _ c.if-not-mark_ok.false-raw),
+)
 
 pub returns : goal.returns
 returns c =

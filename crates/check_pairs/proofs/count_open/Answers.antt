@@ -32,8 +32,8 @@ loop-v-preserved c =
     let at = c.loop-v.invariant in
     let e = c.open_of.ensures ∙ open_read c.args.full.now c.args.part.now c.loop-v.v (omega arith) (omega arith) in
     elim c.if-open_of.branch [
-      then-open_of w ↦ (omega arith, omega arith, rw w.k-is (count_yes _ _ _ at.2 (sym e ∙ w.if-open_of.true)))
-    | else-open_of w ↦ (omega arith, omega arith, rw w.k-is (count_no _ _ _ at.2 (sym e ∙ w.if-open_of.false)))
+      | then-open_of w ↦ (omega arith, omega arith, rw w.k-is (count_yes _ _ _ at.2 (sym e ∙ w.if-open_of.true)))
+      | else-open_of w ↦ (omega arith, omega arith, rw w.k-is (count_no _ _ _ at.2 (sym e ∙ w.if-open_of.false)))
     ]
 
 pub returns : goal.returns

@@ -47,8 +47,7 @@ loop-n-smaller c = omega arith
 pub loop-n-preserved : goal.loop-n-preserved
 loop-n-preserved c =
     let i = c.loop-n.invariant in
-    let e = c.bst_at-s.ensures in
-    (
+    let e = c.bst_at-s.ensures in (
       omega arith,
       omega (arith, i.1, c.one_if-used.ensures.upper_bound),
       all_more _ _ i.2 (rw e at (le-leb _ _ c.if-s-gt-RESERVED.false)),

@@ -34,8 +34,8 @@ loop-n-preserved c =
     let at = c.loop-n.invariant in
     let e = c.stays_good.ensures in
     elim c.if-stays_good.branch [
-      then-stays_good w ↦ (omega arith, omega arith, rw w.k-is (count_yes _ _ _ at.2 (sym e ∙ w.if-stays_good.true)))
-    | else-stays_good w ↦ (omega arith, omega arith, rw w.k-is (count_no _ _ _ at.2 (sym e ∙ w.if-stays_good.false)))
+      | then-stays_good w ↦ (omega arith, omega arith, rw w.k-is (count_yes _ _ _ at.2 (sym e ∙ w.if-stays_good.true)))
+      | else-stays_good w ↦ (omega arith, omega arith, rw w.k-is (count_no _ _ _ at.2 (sym e ∙ w.if-stays_good.false)))
     ]
 
 pub returns : goal.returns

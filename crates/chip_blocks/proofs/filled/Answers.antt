@@ -41,13 +41,12 @@ loop-f-smaller c = omega arith
 pub loop-f-preserved : goal.loop-f-preserved
 loop-f-preserved c =
     let i = c.loop-f.invariant in
-    let e = c.is_programmed.ensures ∙ ap (programmed c.args.p) c.frame_of.ensures.result_value in
-    (
+    let e = c.is_programmed.ensures ∙ ap (programmed c.args.p) c.frame_of.ensures.result_value in (
       omega arith,
       elim c.if-is_programmed.branch [ then-is_programmed w ↦ omega arith | else-is_programmed w ↦ omega arith ],
       elim c.if-is_programmed.branch [
-        then-is_programmed w ↦ rw w.k-is (count_yes _ _ _ i.2 (sym e ∙ w.if-is_programmed.true))
-      | else-is_programmed w ↦ rw w.k-is (count_no _ _ _ i.2 (sym e ∙ w.if-is_programmed.false))
+        | then-is_programmed w ↦ rw w.k-is (count_yes _ _ _ i.2 (sym e ∙ w.if-is_programmed.true))
+        | else-is_programmed w ↦ rw w.k-is (count_no _ _ _ i.2 (sym e ∙ w.if-is_programmed.false))
       ],
     )
 

@@ -50,8 +50,7 @@ pub loop-f-preserved : goal.loop-f-preserved
 loop-f-preserved c =
     let f = c.loop-f.f in
     let e = c.is_programmed.ensures ∙ ap (programmed c.args.p) c.frame_of.ensures.result_value in
-    let here : f < frames c.args.p = omega (arith, c.loop-f-test.true, c.frames-n.ensures) in
-    (
+    let here : f < frames c.args.p = omega (arith, c.loop-f-test.true, c.frames-n.ensures) in (
       omega arith,
       λ k h w.
           let less : f < k = ltb-true f k (sym (w.are f here) ∙ sym e ∙ not-false _ c.if-not-is_programmed.false-raw) in

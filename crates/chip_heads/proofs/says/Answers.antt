@@ -28,5 +28,5 @@ returns c =
     record {
       used_value = refl;
       names = names_are _ (sizes _ c.requires.p_value) _ c.requires.blk_value _ c.frame_of-fr.ensures.result_value _ c.cluster_in.ensures.result_value _
-              c.region_of.ensures c.vblock_in.ensures c.is_full.ensures;
+          c.region_of.ensures c.vblock_in.ensures c.is_full.ensures;
     }

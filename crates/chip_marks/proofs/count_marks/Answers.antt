@@ -14,8 +14,7 @@ loop-w-init c = (search rules, search rules, λ m e. count_start (m _ _))
 pub loop-w-preserved : goal.loop-w-preserved
 loop-w-preserved c =
     let x = c.args in
-    let w = c.loop-w.w in
-    (
+    let w = c.loop-w.w in (
       search rules,
       omega (arith, c.loop-w.invariant.1, c.count-n.ensures.upper_bound),
       λ m e.

@@ -13,8 +13,7 @@ loop-j-init c = (search rules, refl, λ m e. e ∙ first_start _ m _ _ _)
 
 pub loop-j-preserved : goal.loop-j-preserved
 loop-j-preserved c =
-    let x = c.args in
-    (
+    let x = c.args in (
       search rules,
       simp length-set c.loop-j.invariant.1,
       λ m e.

@@ -27,13 +27,12 @@ loop-i-smaller c = omega arith
 
 pub loop-i-preserved : goal.loop-i-preserved
 loop-i-preserved c =
-    let d = c.entry.ensures.value in
-    (
+    let d = c.entry.ensures.value in (
       omega arith,
       elim c.if-entry-ne-NONE.branch [ then-entry-ne-NONE w ↦ omega arith | else-entry-ne-NONE w ↦ omega arith ],
       elim c.if-entry-ne-NONE.branch [
-        then-entry-ne-NONE w ↦ rw w.k-is (count_yes _ _ _ c.loop-i.invariant.2 (ap not (ne_eqb _ _ (λ e. w.if-entry-ne-NONE.true (d ∙ e)))))
-      | else-entry-ne-NONE w ↦ rw w.k-is (count_no _ _ _ c.loop-i.invariant.2 (ap not (eq-eqb _ _ (sym d ∙ w.if-entry-ne-NONE.false))))
+        | then-entry-ne-NONE w ↦ rw w.k-is (count_yes _ _ _ c.loop-i.invariant.2 (ap not (ne_eqb _ _ (λ e. w.if-entry-ne-NONE.true (d ∙ e)))))
+        | else-entry-ne-NONE w ↦ rw w.k-is (count_no _ _ _ c.loop-i.invariant.2 (ap not (eq-eqb _ _ (sym d ∙ w.if-entry-ne-NONE.false))))
       ],
     )
 

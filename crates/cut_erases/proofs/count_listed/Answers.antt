@@ -26,12 +26,11 @@ pub loop-n-smaller : goal.loop-n-smaller
 loop-n-smaller c = omega arith
 
 pub loop-n-preserved : goal.loop-n-preserved
-loop-n-preserved c =
-    (
-      omega arith,
-      omega (arith, c.loop-n.invariant.1, c.ops_of-k.ensures, ops_few c.args.p c.args.bst.now c.args.wear.now c.loop-n.n),
-      count_more _ _ _ _ _ _ c.loop-n.invariant.2 c.ops_of-k.ensures,
-    )
+loop-n-preserved c = (
+  omega arith,
+  omega (arith, c.loop-n.invariant.1, c.ops_of-k.ensures, ops_few c.args.p c.args.bst.now c.args.wear.now c.loop-n.n),
+  count_more _ _ _ _ _ _ c.loop-n.invariant.2 c.ops_of-k.ensures,
+)
 
 pub returns : goal.returns
 returns c =

@@ -63,6 +63,6 @@ returns c =
       answer_value = c.spent-2.ensures.answer_value;
       left_value = c.spent-2.ensures.left_value;
       stamps_value = lost_pages _ _ _ _ _ _ _ _ c.requires _ _ _ _ _ _ _ _ _ _ _ _ _ _ c.lose-2.ensures c.ct-2-1.given c.bt-2-1.given refl c.bst-2-1.given refl
-                c.stamps-2-1.given (omega (arith, c.if-k-room.false)) _ _ _ _ _ _ _ _ _ c.make_room-made.ensures _ _ (rw c.cluster_of-c.ensures at c.find_frame-old.ensures.stands)
-                c.put_pages.ensures;
+          c.stamps-2-1.given (omega (arith, c.if-k-room.false)) _ _ _ _ _ _ _ _ _ c.make_room-made.ensures _ _ (rw c.cluster_of-c.ensures at c.find_frame-old.ensures.stands)
+          c.put_pages.ensures;
     }

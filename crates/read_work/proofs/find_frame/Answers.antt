@@ -50,7 +50,7 @@ block_of-requires c =
       p_value = c.requires.fine;
       chip_len = chip_length_lem _ _ _ _ _ c.requires;
       n_lt_n = block_low_lem _ _ _ _ _ c.requires _ c.ct_at-sg.ensures.result_value c.if-sg-eq-NONE.false _ _
-                c.region_of-r.ensures c.vblock_of-v.ensures _ c.bt_at-n.ensures.result_value;
+          c.region_of-r.ensures c.vblock_of-v.ensures _ c.bt_at-n.ensures.result_value;
     }
 
 pub last_in-s-requires : goal.last_in-s-requires

@@ -23,6 +23,6 @@ returns c =
     let cluster = c.cluster_of-c.ensures in
     record {
       bytes_after = λ fst bst wear marks stamps.
-              c.read_run.ensures ∙ read_is _ _ _ _ _ _ _ pre _ _ (rw cluster at c.find_frame-at.ensures.stands) _ c.sector_of-j.ensures fst bst wear marks stamps;
+          c.read_run.ensures ∙ read_is _ _ _ _ _ _ _ pre _ _ (rw cluster at c.find_frame-at.ensures.stands) _ c.sector_of-j.ensures fst bst wear marks stamps;
       looked = rw cluster at c.find_frame-at.ensures.looked;
     }

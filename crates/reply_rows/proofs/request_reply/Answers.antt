@@ -19,7 +19,7 @@ unfolding access_rows
 returns-then-bad_address c =
     record {
       value = λ q l k d. skip _ _ _ _ _ (c.bad_count.ensures q l k) c.if-bad_count.false
-              (here _ _ _ _ (c.bad_address.ensures ∙ ap (bad_address _) (sym l)) c.if-bad_address.true);
+          (here _ _ _ _ (c.bad_address.ensures ∙ ap (bad_address _) (sym l)) c.if-bad_address.true);
       lba_value = λ z. absurd (omega (arith, z));
     }
 
@@ -28,8 +28,8 @@ unfolding access_rows
 returns-then-wrong c =
     record {
       value = λ q l k d. skip _ _ _ _ _ (c.bad_count.ensures q l k) c.if-bad_count.false
-              (skip _ _ _ _ _ (c.bad_address.ensures ∙ ap (bad_address _) (sym l)) c.if-bad_address.false
-              (here _ _ _ _ (sym (d (sym (c.bad_count.ensures q l k) ∙ c.if-bad_count.false))) c.if-wrong.true));
+          (skip _ _ _ _ _ (c.bad_address.ensures ∙ ap (bad_address _) (sym l)) c.if-bad_address.false
+          (here _ _ _ _ (sym (d (sym (c.bad_count.ensures q l k) ∙ c.if-bad_count.false))) c.if-wrong.true));
       lba_value = λ z. absurd (omega (arith, z));
     }
 
@@ -38,7 +38,7 @@ unfolding access_rows
 returns c =
     record {
       value = λ q l k d. skip _ _ _ _ _ (c.bad_count.ensures q l k) c.if-bad_count.false
-              (skip _ _ _ _ _ (c.bad_address.ensures ∙ ap (bad_address _) (sym l)) c.if-bad_address.false
-              (skip _ _ _ _ _ (sym (d (sym (c.bad_count.ensures q l k) ∙ c.if-bad_count.false))) c.if-wrong.false otherwise));
+          (skip _ _ _ _ _ (c.bad_address.ensures ∙ ap (bad_address _) (sym l)) c.if-bad_address.false
+          (skip _ _ _ _ _ (sym (d (sym (c.bad_count.ensures q l k) ∙ c.if-bad_count.false))) c.if-wrong.false otherwise));
       lba_value = λ z. sym c.bad_address.ensures ∙ c.if-bad_address.false;
     }

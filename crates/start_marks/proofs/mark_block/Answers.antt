@@ -20,9 +20,9 @@ mark_frame-requires c =
     record {
       one_frame = record { block = c.requires.one_block; low = low };
       mark_asked = record {
-            words = record { fine = c.requires.words_asked.fine; long = c.loop-f.invariant.1 ∙ c.requires.words_asked.long; region = c.requires.words_asked.region; vblock = c.requires.words_asked.vblock };
-            frame = omega (arith, low, (sizes _ c.requires.one_block.fine).short);
-          };
+        words = record { fine = c.requires.words_asked.fine; long = c.loop-f.invariant.1 ∙ c.requires.words_asked.long; region = c.requires.words_asked.region; vblock = c.requires.words_asked.vblock };
+        frame = omega (arith, low, (sizes _ c.requires.one_block.fine).short);
+      };
     }
 
 pub overflow_add-f : goal.overflow_add-f

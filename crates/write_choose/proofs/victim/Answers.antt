@@ -17,11 +17,10 @@ pub loop-v-smaller : goal.loop-v-smaller
 loop-v-smaller c = omega arith
 
 pub loop-v-preserved : goal.loop-v-preserved
-loop-v-preserved c =
-    (
-      omega arith,
-      λ m e. best_more _ _ _ _ _ _ _ _ (c.loop-v.invariant.1 m e) (c.count_marks-k.ensures m e) refl c.pick-least.ensures c.pick-best.ensures,
-    )
+loop-v-preserved c = (
+  omega arith,
+  λ m e. best_more _ _ _ _ _ _ _ _ (c.loop-v.invariant.1 m e) (c.count_marks-k.ensures m e) refl c.pick-least.ensures c.pick-best.ensures,
+)
 
 pub returns : goal.returns
 returns c m e =

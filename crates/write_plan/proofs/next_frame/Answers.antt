@@ -48,7 +48,7 @@ block_of-requires c =
       p_value = c.requires.fine;
       chip_len = chip_length_lem _ _ _ _ _ c.requires;
       n_lt_n = open_block _ _ _ _ _ c.requires _ c.fst_at-sg.ensures.result_value c.if-sg-eq-NONE.false _
-                c.vblock_of-v.ensures _ c.bt_at-n.ensures.result_value;
+          c.vblock_of-v.ensures _ c.bt_at-n.ensures.result_value;
     }
 
 pub next_free-requires : goal.next_free-requires
@@ -57,7 +57,7 @@ next_free-requires c =
       p_value = c.requires.fine;
       blk_len = c.block_of.ensures.result_len;
       from_bound = from_low _ _ _ _ _ c.requires _ c.fst_at-sg.ensures.result_value c.if-sg-eq-NONE.false _ c.vblock_of-v.ensures _
-                c.bt_at-n.ensures.result_value _ _ c.place_of.ensures refl;
+          c.bt_at-n.ensures.result_value _ _ c.place_of.ensures refl;
     }
 
 pub returns : goal.returns
