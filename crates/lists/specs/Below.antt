@@ -1,6 +1,6 @@
 -- Tests, counts, sums and searches over the numbers below n, each by one recursion on n, as a loop goes.
 -- Assumes nothing.
-use Rattle.std.specs.Prelude.{ℕ, zero, suc, ◌+◌, ◌^◌, Bool, true, false, ◌&&◌, ◌||◌, cond, List, [], ◌∷◌, ◌++◌, ltb, eqb}
+use Rattle.std.specs.Prelude.{ℕ, zero, suc, ◌+◌, ◌^◌, Bool, true, ◌&&◌, ◌||◌, cond, List, [], ◌∷◌, ◌++◌, ltb, eqb}
 
 -- every number below n passes
 unfoldable pub all_below : ℕ → (ℕ → Bool) → Bool

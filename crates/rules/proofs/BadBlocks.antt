@@ -13,9 +13,9 @@ use Rattle.lists.proofs.Parts.{next}
 use Rattle.lists.proofs.Tests.{never, so}
 use Rattle.rules.specs.declared.Params.{Params}
 use Rattle.rules.specs.declared.Reply.TheVariants.{Accepted}
-use Rattle.rules.specs.Parameters.{block_bytes, pages}
+use Rattle.rules.specs.Parameters.{block_bytes}
 use Rattle.rules.specs.Tables.{Board, bst_at, bt_at, bt_entry, none}
-use Rattle.rules.specs.Pages.{block, spare}
+use Rattle.rules.specs.Pages.{block}
 use Rattle.rules.specs.Regions.{assigned, view}
 use Rattle.rules.specs.Format.{bad, formatted}
 use Rattle.rules.specs.Write.{Plan, plan_block, plan_of, plan_vblock, written}

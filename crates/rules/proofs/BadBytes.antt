@@ -14,7 +14,6 @@ use lib.ListN.{length, drop, get_or, get_or-replicate, length-drop}
 use Rattle.lists.specs.Parts.{all_are}
 use Rattle.lists.proofs.Joins.{all_are_drop, all_are_part, replicate_of}
 use Rattle.lists.proofs.Parts.{next, part_length, part_part}
-use Rattle.lists.proofs.Tests.{so}
 use Rattle.rules.specs.declared.Params.{Params}
 use Rattle.rules.specs.Parameters.{block_bytes, frame_bytes, frames, page_bytes, pages}
 use Rattle.rules.specs.Pages.{block, bytes32, frame, page, spare, spare_bytes}

@@ -2,8 +2,7 @@
 -- Assumes nothing.
 use mathlib.Core.Path.{◌≡◌, ap, sym, ◌∙◌}
 use Prim.Native.Nat.{ℕ, ◌-◌, ◌/◌}
-use mathlib.Core.Bool.{false, ◌&&◌, and-false}
-use lib.Dec.{eqb}
+use mathlib.Core.Bool.{false, and-false}
 use lib.ListN.{drop, get_or}
 use borrow.Author.Tests.{ne_eqb}
 use Rattle.lists.proofs.Tests.{never}

@@ -4,7 +4,7 @@ use mathlib.Core.Path.{◌≡◌, sym, ap, ◌∙◌}
 use Prim.Native.Nat.{ℕ, ◌+◌, ◌-◌, ◌*◌, ◌/◌, ◌%◌, ◌<◌}
 use native.Mathlib.Nat.{mul-add-div_right, div-eq_of_lt, div-lt_iff_lt-mul, mul-add-mod_self_right, mod-eq_of_lt, add-zero, div-div-eq-div-mul, div-add-mod', mod-lt}
 use native.Mathlib.Omega.{arith}
-use mathlib.Core.Bool.{true, false, ◌&&◌}
+use mathlib.Core.Bool.{true, false}
 use mathlib.Core.List.{List}
 use lib.ListN.{drop}
 use Rattle.lists.specs.Parts.{all_are}
@@ -13,7 +13,7 @@ use Rattle.lists.proofs.Parts.{next}
 use Rattle.rules.specs.declared.Params.{Params}
 use Rattle.rules.specs.Parameters.{frames, page_bytes}
 use Rattle.rules.specs.Numbers.{place_of, segment_of, vblock_of}
-use Rattle.rules.specs.Pages.{bytes32, held, holds, le32, page, page_used, programmed, spare, spare_bytes, stamp_of, whole}
+use Rattle.rules.specs.Pages.{bytes32, held, holds, le32, page, page_used, programmed, spare, spare_bytes, whole}
 use Rattle.rules.proofs.Sizes.{Sizes}
 
 -- ---- segments

@@ -7,7 +7,7 @@ use Prim.Native.Nat.{ℕ, ◌+◌, ◌-◌, ◌*◌, ◌/◌, ◌≤◌, ◌<◌
 use native.Mathlib.Nat.{div-lt_iff_lt-mul, div-mul-le_self, mod-lt}
 use native.Mathlib.Omega.{arith}
 use native.Mathlib.Decide.{dec_lt}
-use mathlib.Core.Bool.{Bool, true, false, ◌&&◌}
+use mathlib.Core.Bool.{true, false, ◌&&◌}
 use mathlib.Core.List.{List}
 use lib.Dec.{eqb, leb}
 use borrow.Author.Tests.{eq-eqb, le-leb, lt-leb, ne_eqb}
@@ -16,13 +16,13 @@ use Rattle.lists.proofs.Parts.{in_place, over_place}
 use Rattle.lists.proofs.Tests.{and_no, count_between, never}
 use Rattle.rules.specs.declared.Params.{Params}
 use Rattle.rules.specs.Parameters.{frames}
-use Rattle.rules.specs.Numbers.{place_of, region_of, vblock_of}
-use Rattle.rules.specs.Tables.{Board, ct_at, none}
+use Rattle.rules.specs.Numbers.{place_of, region_of}
+use Rattle.rules.specs.Tables.{ct_at, none}
 use Rattle.rules.specs.Pages.{filled, frame, programmed, programmed_down_to}
 use Rattle.rules.specs.Regions.{View, looks_at, looks_in, view, view_of}
 use Rattle.rules.specs.Words.{LooksExactly, LooksListed}
 use Rattle.rules.proofs.Admitted.{orderly_region}
-use Rattle.rules.proofs.Frames.{erased_not, right_programmed}
+use Rattle.rules.proofs.Frames.{erased_not}
 use Rattle.rules.proofs.RegionFacts.{Entry, Neat, UpTo, filled_le, neat, neat_fronts}
 use Rattle.rules.proofs.Sizes.{Sizes, sizes}
 use Rattle.rules.proofs.ValidFrames.{block_of, found, frame_of_lem, held_is, is_valid_lem}

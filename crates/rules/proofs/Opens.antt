@@ -2,7 +2,7 @@
 -- Assumes nothing.
 use mathlib.Core.Path.{◌≡◌, refl, sym, ap, ◌∙◌}
 use mathlib.Core.Logic.{◌⊎◌, inl, inr}
-use Prim.Native.Nat.{ℕ, ◌-◌, ◌≤◌, ◌<◌}
+use Prim.Native.Nat.{ℕ, ◌≤◌, ◌<◌}
 use native.Mathlib.Omega.{arith}
 use native.Mathlib.Decide.{ℕ_discrete}
 use mathlib.Core.Bool.{true, false}
@@ -18,7 +18,7 @@ use Rattle.rules.specs.declared.Params.{Params}
 use Rattle.rules.specs.Parameters.{block_bytes, frame_bytes, frames}
 use Rattle.rules.specs.Numbers.{place_of, vblock_of}
 use Rattle.rules.specs.Tables.{Board, bst_at, bt_at, ct_at, none}
-use Rattle.rules.specs.Pages.{block, filled, frame, held, programmed}
+use Rattle.rules.specs.Pages.{block, filled, frame, programmed}
 use Rattle.rules.specs.Regions.{View, assigned, frame_of, sector_in, view}
 use Rattle.rules.specs.Traces.{clean, frames_ops, replay_chip}
 use Rattle.rules.specs.Write.{copies, victim_ops, follow_ct, free_block, has_room, opens, plan_block, plan_bst, plan_frame, plan_vblock, room_ops}

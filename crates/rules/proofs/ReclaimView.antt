@@ -2,7 +2,7 @@
 -- Assumes nothing.
 use mathlib.Core.Path.{◌≡◌, refl, sym, ap, ap₂, ◌∙◌}
 use mathlib.Core.Logic.{◌⊎◌, inl, inr}
-use Prim.Native.Nat.{ℕ, ◌+◌, ◌-◌, ◌*◌, ◌/◌, ◌≤◌, ◌<◌}
+use Prim.Native.Nat.{ℕ, ◌+◌, ◌*◌, ◌/◌, ◌≤◌, ◌<◌}
 use native.Mathlib.Nat.{div-lt_iff_lt-mul, div-add-mod', zero-add}
 use native.Mathlib.Omega.{arith}
 use native.Mathlib.Decide.{ℕ_discrete, dec_lt}
@@ -23,7 +23,7 @@ use Rattle.rules.specs.Numbers.{place_of, segment_of, vblock_of}
 use Rattle.rules.specs.Tables.{none}
 use Rattle.rules.specs.Pages.{filled, frame, held, holds, last_in, programmed}
 use Rattle.rules.specs.Regions.{View, assigned, frame_of, sector_in, valid, valid_frames}
-use Rattle.rules.specs.Write.{copies, has_room, reclaims, written}
+use Rattle.rules.specs.Write.{copies, has_room, reclaims}
 use Rattle.rules.specs.Machine.{erased_block, follow, put_frames, with_room}
 use Rattle.rules.proofs.Continues.{frames_pos}
 use Rattle.rules.proofs.Following.{follow_hit, follow_miss}
@@ -31,7 +31,7 @@ use Rattle.rules.proofs.FramePut.{last_holds}
 use Rattle.rules.proofs.Sizes.{Sizes}
 use Rattle.rules.proofs.Frames.{erased_holds, erased_not, seg_low, seg_place, seg_vblock}
 use Rattle.rules.proofs.Opens.{all_full, fresh_frame}
-use Rattle.rules.proofs.RegionFacts.{Entry, GoodFrame, Neat, UpTo, good_held, neat}
+use Rattle.rules.proofs.RegionFacts.{Entry, GoodFrame, Neat, UpTo, good_held}
 use Rattle.rules.proofs.RegionKept.{Base}
 use Rattle.rules.proofs.Stamps.{Stood}
 use Rattle.rules.proofs.Replays.{Wholes, fresh_size, one_fits, put_frames_else, put_frames_new, put_frames_size}

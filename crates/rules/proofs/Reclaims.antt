@@ -1,7 +1,7 @@
 -- A plan that reclaims makes room.
 -- Assumes nothing.
 use mathlib.Core.Path.{◌≡◌, refl, sym, ap, ◌∙◌}
-use Prim.Native.Nat.{ℕ, ◌+◌, ◌-◌, ◌*◌, ◌≤◌, ◌<◌}
+use Prim.Native.Nat.{ℕ, ◌+◌, ◌*◌, ◌≤◌, ◌<◌}
 use native.Mathlib.Omega.{arith}
 use mathlib.Core.Bool.{Bool, true, false, cond}
 use mathlib.Core.List.{List, [], ◌∷◌, ◌++◌}
@@ -24,7 +24,7 @@ use Rattle.rules.proofs.Sizes.{Sizes}
 use Rattle.rules.proofs.Isolation.{index_low}
 use Rattle.rules.proofs.Opens.{free_fresh, fresh_frame}
 use Rattle.rules.proofs.ReclaimView.{body_else_lem, body_here_lem, copies_fit, copies_length, copy_at, nth_spec, nth_valid, reclaim_base, reclaim_reads, reclaim_stood, seg_is, wholes}
-use Rattle.rules.proofs.RegionFacts.{GoodFrame, Neat, neat}
+use Rattle.rules.proofs.RegionFacts.{GoodFrame, Neat}
 use Rattle.rules.proofs.Replays.{Ran, frames_clean, frames_ran}
 use Rattle.rules.proofs.WornBlocks.{left_ran, left_block, wear_out_clean}
 use Rattle.rules.proofs.TableFacts.{Tables}

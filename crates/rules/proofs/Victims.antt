@@ -25,7 +25,7 @@ use Rattle.rules.specs.Write.{has_room, victim}
 use Rattle.rules.proofs.Continues.{frames_pos}
 use Rattle.rules.proofs.Frames.{seg_place, seg_vblock}
 use Rattle.rules.proofs.Opens.{all_full}
-use Rattle.rules.proofs.RegionFacts.{GoodFrame, Neat, neat}
+use Rattle.rules.proofs.RegionFacts.{GoodFrame, Neat}
 use Rattle.rules.proofs.Sizes.{Sizes}
 
 pub record Valid (p : Params) (vw : View) (v f : ℕ) : Type 0 where

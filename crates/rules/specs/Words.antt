@@ -3,10 +3,10 @@
 -- that the definitions say the same, no less and no more.
 -- The last part is a law of a reclaim's operations, which proofs/CopiesStand.antt shows.
 -- Assumes nothing.
-use Rattle.std.specs.Prelude.{ℕ, ◌+◌, ◌-◌, ◌*◌, ◌/◌, ◌%◌, ◌≤◌, ◌<◌, min, ◌≡◌, ◌⊎◌, ◌↔◌, true, false, not, cond, List, [], ◌∷◌, length, get_or, drop, set, take, eqb}
+use Rattle.std.specs.Prelude.{ℕ, ◌+◌, ◌-◌, ◌*◌, ◌/◌, ◌%◌, ◌≤◌, ◌<◌, min, ◌≡◌, ◌⊎◌, ◌↔◌, true, false, cond, List, [], ◌∷◌, length, get_or, drop, set, take, eqb}
 use Rattle.rules.specs.declared.Params.{Params}
 use Rattle.rules.specs.declared.Reply.TheVariants.{Accepted}
-use Rattle.rules.specs.Parameters.{allowed, chip_bytes, frames}
+use Rattle.rules.specs.Parameters.{allowed, chip_bytes}
 use Rattle.rules.specs.Tables.{Board, bt_at, bt_entry, bst_at, ct_at, stamp_at, wear_at}
 use Rattle.rules.specs.Pages.{block, erased, frame, held, last_in, le32, page, programmed, spare_bytes}
 use Rattle.rules.specs.Regions.{View, assigned, looks_at, valid, valid_frames, view}
