@@ -1,6 +1,6 @@
 -- What has been taken and printed: nothing yet, a byte of a line, a line's end, and one stretch of bytes after another; and the whole input in the end.
 -- Assumes nothing.
-use Rattle.std.proofs.Common.{ℕ, ◌+◌, ◌-◌, ◌^◌, ◌≤◌, ◌<◌, ◌≡◌, ◌⊎◌, inl, inr, Bool, true, false, cond, List, [], ◌∷◌, ◌++◌, length, eqb, ltb, refl, sym, ap, ◌∙◌, append_assoc, append-nil, length-append, arith, replicate, None, Some, Ok, Err}
+use Rattle.std.proofs.Common.{ℕ, ◌+◌, ◌-◌, ◌^◌, ◌≤◌, ◌<◌, ◌≡◌, ◌⊎◌, inl, inr, true, false, List, [], ◌∷◌, ◌++◌, length, eqb, ltb, refl, sym, ap, ◌∙◌, append_assoc, append-nil, length-append, arith, replicate, None, Some, Ok, Err}
 use Rattle.std.proofs.lemmas.Bool.{eq-eqb, ltb-false, ltb-true, ne_eqb}
 use Rattle.std.specs.declared.option.Option.{Option}
 use Rattle.std.specs.Io.KnownBytes.{Appends, Consumes, IsAtEnd}
@@ -11,7 +11,7 @@ use Rattle.cases.specs.BoardT.{blank_t}
 use Rattle.demo_lines.specs.declared.Held.{Held}
 use Rattle.demo_lines.specs.Grammar.{line_of}
 use Rattle.demo_lines.specs.Held.{Holds}
-use Rattle.demo_session.specs.Session.{bench, lines_from, turn, turns}
+use Rattle.demo_session.specs.Session.{bench, lines_from, turns}
 use Rattle.demo_serve.specs.Turned.{Started, started_text, Turned, turned_text}
 use Rattle.demo.specs.Served.{Served, Ended}
 

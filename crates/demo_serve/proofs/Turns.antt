@@ -4,7 +4,7 @@ use mathlib.Core.Path.{ap, refl, sym, ◌∙◌, ◌≡◌}
 use mathlib.Core.Logic.{◌⊎◌, inl, inr}
 use mathlib.Core.Bool.{false}
 use mathlib.Core.List.{List, []}
-use Prim.Native.Nat.{min, suc, zero, ◌+◌, ◌*◌, ◌/◌, ◌≤◌, ℕ}
+use Prim.Native.Nat.{min, suc, zero, ◌*◌, ◌/◌, ◌≤◌, ℕ}
 use native.Mathlib.Omega.{arith}
 use lib.ListN.{length, length-replicate, replicate, take}
 use Rattle.rules.specs.declared.Answer.{Answer}
