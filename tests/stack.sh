@@ -14,7 +14,7 @@ check "the deepest chain, $most bytes, is under $card" [ "$most" -gt 0 -a "$most
 reaches() { # NAME..: these crates and all under them
     local all="$*" more
     while :; do
-        more=$(for each in $all; do echo "$each"; sed -n "s/^$each: *//p" crates.txt | tr ' ' '\n'; done | sort -u | grep .)
+        more=$(for each in $all; do echo "$each"; sed -n "s/ staticlib:/:/; s/^$each: *//p" crates.txt | tr ' ' '\n'; done | sort -u | grep .)
         [ "$more" != "$all" ] || break
         all=$more
     done

@@ -1,14 +1,14 @@
 # Draws Board T's sixth write, cut after each of its operations: a row for each cut, with the two blocks that it is about as they then stand, and what a start finds. What it finds is read
-# from `cut_said`, which is proved to be what the rules compute: noCopy (block 0 stays, with how many erases), copyAlone (block 3 stays, old content), newFound (new content).
-/^cutSaid =/ { inside = 1; next }
+# from `cut_said`, which is proved to be what the rules compute: no_copy (block 0 stays, with how many erases), copy_alone (block 3 stays, old content), new_found (new content).
+/^cut_said =/ { inside = 1; next }
 inside && NF == 0 { inside = 0 }
 inside && $1 != "--" {
     for (i = 1; i <= NF; i++) {
         word = $i
         gsub(/[()]/, "", word)
-        if (word == "noCopy") found[rows++] = "0 " $(i + 1)
-        if (word == "copyAlone") found[rows++] = "3 old"
-        if (word == "newFound") found[rows++] = "3 new"
+        if (word == "no_copy") found[rows++] = "0 " $(i + 1)
+        if (word == "copy_alone") found[rows++] = "3 old"
+        if (word == "new_found") found[rows++] = "3 new"
     }
 }
 function text(x, y, size, anchor, weight, fill, s) {

@@ -9,6 +9,7 @@
 }
 /^#/ || NF == 0 { next }
 {
+    sub(/ staticlib:/, ":") # a static library is drawn as any other crate
     name = $1
     sub(/:$/, "", name)
     order[++crates] = name
