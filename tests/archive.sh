@@ -1,6 +1,6 @@
 #!/usr/bin/env bash
 # The archive as it is delivered, for x86-64, beside the model of document 01 in tests/c: a short run of the fuzz, on another processor under the emulator.
-# The long run (tests/fuzz.sh) takes the crate as it is compiled for this processor. CALLS and SEED may be set. The comparison counts as one.
+# The long run (tests/fuzz.sh) takes the archive for this processor. CALLS and SEED may be set. The comparison counts as one.
 set -u
 cd "$(dirname "$0")/.."
 . tests/c/common.sh

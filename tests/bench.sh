@@ -1,6 +1,6 @@
 #!/usr/bin/env bash
 # Runs the linked bench program on document 01's example, on a long file of odd lines, and on inputs that end or arrive in odd ways,
-# and compares what it prints to the byte. `rt run` in crates/demo links it, here too if that was not done before. The last line is 'N passed, M failed'.
+# and compares what it prints to the byte. `rt run` in crates/demo links it. The last line is 'N passed, M failed'.
 set -u
 cd "$(dirname "$0")/.."
 room=$(mktemp -d)
@@ -17,9 +17,9 @@ compare() { # NAME EXPECTED
     fi
 }
 
-if [ ! -f crates/demo/out/demo ] && ! (cd crates/demo && rt run <stdin) >"$room/printed" 2>"$room/said"; then
-    cat "$room/said"
-    echo "crates/demo/out/demo is not there: rt run in crates/demo does not link it"
+if ! tools/bench-program --make >"$room/made" 2>&1; then
+    cat "$room/made"
+    echo "the bench program is not proved, or does not link"
     echo "0 passed, 1 failed"
     exit 1
 fi
