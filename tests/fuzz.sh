@@ -7,7 +7,7 @@ cd "$(dirname "$0")/.."
 here=1
 . tests/c/common.sh
 seed=${SEED:-1}
-seconds=${SECONDS_EACH:-900}
+seconds=${SECONDS_EACH:-1800}
 calls=${CALLS:-1000000}
 
 "$cc" -std=c11 -O2 "${strict[@]}" -o "$room/fuzz" tests/c/fuzz.c tests/c/model.c "$archive" || exit 2
