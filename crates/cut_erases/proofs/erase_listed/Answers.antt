@@ -16,10 +16,12 @@ returns-then-left-eq1 c = only_erased _ _ _ _ _ c.bst_at.ensures _ _ c.if-bst_at
 
 pub returns-then-erase_block : goal.returns-then-erase_block
 returns-then-erase_block c =
-    all_made _ _ _ _ _ c.bst_at.ensures _ _ c.if-bst_at-ne-FREE.false (two_left _ c.if-left-eq0.false c.if-left-eq1.false) _ _ c.erase_block.ensures.chip_after c.erase_block.ensures.wear_after _
+    let worn = two_left _ c.if-left-eq0.false c.if-left-eq1.false in
+    all_made _ _ _ _ _ c.bst_at.ensures _ _ c.if-bst_at-ne-FREE.false worn _ _ c.erase_block.ensures.chip_after c.erase_block.ensures.wear_after _
     (long_worn _ _ _ _ _ c.bst_at.ensures c.if-bst_at-ne-FREE.false (sym c.erase_block.ensures.value ∙ c.if-erase_block.true))
 
 pub returns : goal.returns
 returns c =
-    all_made _ _ _ _ _ c.bst_at.ensures _ _ c.if-bst_at-ne-FREE.false (two_left _ c.if-left-eq0.false c.if-left-eq1.false) _ _ c.erase_block.ensures.chip_after c.erase_block.ensures.wear_after _
+    let fresh = two_left _ c.if-left-eq0.false c.if-left-eq1.false in
+    all_made _ _ _ _ _ c.bst_at.ensures _ _ c.if-bst_at-ne-FREE.false fresh _ _ c.erase_block.ensures.chip_after c.erase_block.ensures.wear_after _
     (long_fresh _ _ _ _ _ c.bst_at.ensures c.if-bst_at-ne-FREE.false (sym c.erase_block.ensures.value ∙ c.if-erase_block.false))
