@@ -43,19 +43,19 @@ pub const USED: u8 = 1;
 pub const RESERVED: u8 = 2;
 
 // A cluster number: an index of CT.
-#[derive(Clone, Copy)]
+#[derive(Clone, Copy, PartialEq, Eq)]
 pub struct Cluster(pub usize);
 
 // A segment number, counted within its region: what CT and FST hold.
-#[derive(Clone, Copy)]
+#[derive(Clone, Copy, PartialEq, Eq)]
 pub struct Segment(pub usize);
 
 // A virtual block number, counted within its region: with the region, an index of BT.
-#[derive(Clone, Copy)]
+#[derive(Clone, Copy, PartialEq, Eq)]
 pub struct VBlock(pub usize);
 
 // A physical block number: what BT holds, an index of BST and of the wear.
-#[derive(Clone, Copy)]
+#[derive(Clone, Copy, PartialEq, Eq)]
 pub struct PBlock(pub usize);
 
 // What the spare bytes of a frame's pages say beside the place of each: the cluster, the stamp, and the virtual block.
@@ -67,7 +67,7 @@ pub struct Label {
 }
 
 // Why a call is refused, or that it is accepted. `number_of` gives the number of each: document 01's, and 8, 9 and 10, which are document 02's.
-#[derive(Clone, Copy)]
+#[derive(Clone, Copy, PartialEq, Eq)]
 pub enum Reply {
     Accepted,
     BadParameter,
@@ -99,22 +99,39 @@ pub struct Item {
     pub first: u32,
 }
 
+// The chip and the tables where all of them are lent to be read.
+#[derive(Clone, Copy)]
+pub struct Seen<'a> {
+    pub chip: &'a [u8],
+    pub ct: &'a [u16],
+    pub bt: &'a [u16],
+    pub fst: &'a [u16],
+    pub bst: &'a [u8],
+    pub wear: &'a [u32],
+    pub marks: &'a [u64],
+    pub stamps: &'a [u32],
+}
+
 // The number that document 01 gives a reply.
-pub fn number(r: Reply) -> u32
-    ensures { result ≡ number_of r }
-{
-    match r {
-        Reply::Accepted => 0,
-        Reply::BadParameter => 1,
-        Reply::WrongLength => 2,
-        Reply::BadCount => 3,
-        Reply::BadAddress => 4,
-        Reply::WrongData => 5,
-        Reply::TooFewBlocks => 6,
-        Reply::NotOrderly => 7,
-        Reply::TooFewAnswers => 8,
-        Reply::NoStampLeft => 9,
-        Reply::NoBlockLeft => 10,
+impl From<Reply> for u32 {
+    ghost from_gives = { λ r n. n ≡ number_of r };
+
+    fn from(r: Reply) -> u32
+        ensures { result ≡ number_of r }
+    {
+        match r {
+            Reply::Accepted => 0,
+            Reply::BadParameter => 1,
+            Reply::WrongLength => 2,
+            Reply::BadCount => 3,
+            Reply::BadAddress => 4,
+            Reply::WrongData => 5,
+            Reply::TooFewBlocks => 6,
+            Reply::NotOrderly => 7,
+            Reply::TooFewAnswers => 8,
+            Reply::NoStampLeft => 9,
+            Reply::NoBlockLeft => 10,
+        }
     }
 }
 
