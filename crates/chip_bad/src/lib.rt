@@ -59,14 +59,7 @@ pub fn count_good(p: Params, chip: &[u8], wear: &[u32]) -> usize
     requires wear_len { length wear.now ≡ p.N }
     ensures { result ≡ good_blocks p chip.now wear.now }
 {
-    let m = p.N;
-    let mut k: usize = 0;
-    let mut n: usize = 0;
-    while n < m {
-        if stays_good(p, chip, wear, PBlock(n)) {
-            k += 1;
-        }
-        n += 1;
-    }
-    k
+    (0..p.N)
+        .filter(|n| stays_good(p, chip, wear, PBlock(*n)))
+        .count()
 }

@@ -1,6 +1,6 @@
 -- The blocks of the chip and the frames of a block: where they stand, when one is good, and the last in a place that holds a cluster.
 -- Assumes nothing.
-use mathlib.Core.Path.{ap, sym, ◌∙◌, ◌≡◌}
+use mathlib.Core.Path.{sym, ◌∙◌, ◌≡◌}
 use mathlib.Core.Bool.{◌&&◌, Bool, and-false, and-true, false}
 use mathlib.Core.List.{List}
 use Prim.Native.Nat.{◌%◌, ◌*◌, ◌+◌, ◌-◌, ◌/◌, ◌<◌, ℕ, ◌≤◌}
@@ -10,15 +10,13 @@ use lib.Dec.{eqb}
 use lib.ListN.{drop, length, length-drop, take}
 use lib.Seq.{take_all}
 use borrow.Author.Tests.{eq-eqb, le-leb, le-ltb, lt-leb, lt-ltb, ne_eqb}
-use Rattle.lists.specs.Below.{all_below, all_true, last_below}
-use Rattle.lists.specs.Parts.{same_list}
+use Rattle.lists.specs.Below.{all_true, last_below}
 use Rattle.lists.proofs.Parts.{in_place, next, over_place, under_place}
 use Rattle.rules.specs.declared.Params.{Params}
 use Rattle.rules.specs.Orderly.{good_frame}
 use Rattle.rules.specs.Pages.{block, frame, held, holds, last_in, programmed, stamp_of}
-use Rattle.rules.specs.Parameters.{block_bytes, chip_bytes, frame_bytes, frames, page_bytes}
+use Rattle.rules.specs.Parameters.{block_bytes, chip_bytes, frame_bytes, frames}
 use Rattle.rules.specs.Tables.{none}
-use Rattle.rules.proofs.Sizes.{Sizes}
 use Rattle.rules.proofs.TableFacts.{chip_size}
 use Rattle.chip_blocks.specs.First.{fit_frame}
 use Rattle.loops.proofs.Below.{last_skip}

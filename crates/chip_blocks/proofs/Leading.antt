@@ -1,26 +1,25 @@
 -- The frames of a block from the first on that fit, up to one that does not: the block is a used one with right stamps exactly if there is such a frame and
 -- everything after them is erased. A frame that fits is programmed and an erased one is not, so no other number of frames can be the programmed ones.
 -- Assumes nothing.
-use mathlib.Core.Path.{◌≡◌, ap, sym, ◌∙◌}
+use mathlib.Core.Path.{◌≡◌, sym, ◌∙◌}
 use mathlib.Core.Logic.{◌⊎◌, inl, inr}
 use mathlib.Core.Bool.{Bool, ◌&&◌, ◌||◌, cond, false, not, true}
 use mathlib.Core.List.{List}
-use Prim.Native.Nat.{ℕ, zero, suc, ◌*◌, ◌+◌, ◌-◌, ◌<◌, ◌≤◌}
-use native.Mathlib.Decide.{dec_lt}
+use Prim.Native.Nat.{ℕ, ◌*◌, ◌<◌, ◌≤◌}
+use native.Mathlib.Decide.{dec_lt, ℕ_discrete}
 use native.Mathlib.Omega.{arith}
 use lib.Dec.{eqb, leb, ltb}
-use native.Mathlib.Nat.{add-mul, zero-mul}
-use lib.ListN.{drop, length, length-drop, take}
-use lib.Seq.{take_all}
-use borrow.Author.Tests.{le-leb, lt-ltb, ltb-true, ne_eqb}
+use lib.ListN.{drop, length}
+use borrow.Author.Tests.{le-leb, le-ltb, lt-ltb, ltb-true, ne_eqb, not-false, not-true}
 use Rattle.lists.specs.Below.{all_below}
-use Rattle.lists.specs.Parts.{all_are, part}
+use Rattle.lists.specs.Parts.{all_are}
 use Rattle.lists.proofs.Tests.{all_at, all_below_intro, and_intro, and_left, and_right, never, or_right, so}
 use Rattle.chip_blocks.proofs.Rest.{parts_back, parts_from}
 use Rattle.rules.specs.declared.Params.{Params}
 use Rattle.rules.specs.Orderly.{block_rule, good_frame, stamps_to}
 use Rattle.rules.specs.Pages.{filled, frame, programmed, stamp_of}
-use Rattle.chip_blocks.specs.First.{fit_frame}
+use Rattle.loops.proofs.Ranges.{Stops}
+use Rattle.chip_blocks.specs.First.{FirstFrames, fit_frame}
 use Rattle.rules.specs.Parameters.{block_bytes, frame_bytes, frames}
 use Rattle.rules.proofs.Frames.{erased_not}
 use Rattle.rules.proofs.RegionFacts.{GoodFrame, UpTo, block_in, filled_le, good_frame_lem, good_frame_back, good_stamp, up_to, up_to_back, up_to_filled}
@@ -138,3 +137,19 @@ used_some p r v blk = go (so (block_rule p r v blk))
         let some : 0 < filled p blk = ltb-true 0 (filled p blk) (unfold block_rule in and_left (ltb 0 (filled p blk)) _ h) in
         rw (h, ne_eqb (filled p blk) 0 (λ e. omega (arith, some, e)))
     go (inr h) = rw h
+
+-- ---- the first frame that is not programmed
+
+pub free_is : (p : Params) (blk : List ℕ) (from n k : ℕ) {i : ℕ} → n ≡ frames p → Stops from n (λ f. not (programmed p (frame p blk f))) i → from ≤ k → FirstFrames p blk k → i ≡ k
+free_is p blk from n k {i} e s low w =
+    let above : i < k → ⊥ = λ l. never (w.are i (omega (arith, w.most)) ∙ lt-ltb i k l) (not-true _ (s.here (omega (arith, w.most)))) in
+    let below : k < i → ⊥ = λ l. never (not-false _ (s.passed k low l)) (w.are k (omega (arith, s.high)) ∙ le-ltb k k (omega arith)) in
+    go (ℕ_discrete i k) above below
+  where
+    go : Dec (i ≡ k) → (i < k → ⊥) → (k < i → ⊥) → i ≡ k
+    go (yes q) above below = q
+    go (no q) above below = absurd (go2 (dec_lt i k))
+      where
+        go2 : Dec (i < k) → ⊥
+        go2 (yes l) = above l
+        go2 (no l) = below (omega arith)

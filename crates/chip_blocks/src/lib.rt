@@ -1,10 +1,11 @@
 // One block of the chip, read: its frames, the clusters that they hold, and whether it is as its region wants it.
 #![tactic(auto)]
 
-ghost use Rattle.std.specs.Prelude.{◌≡◌, ◌&&◌, cond, false, not, true, ℕ, ◌*◌, ◌-◌, ◌≤◌, ◌<◌, eqb, drop, length};
+ghost use Rattle.std.specs.Prelude.{◌≡◌, ◌&&◌, cond, false, not, true, ℕ, ◌*◌, ◌-◌, ◌≤◌, ◌<◌, eqb, drop, length, MatchOption, IfSome};
 ghost use Rattle.lists.specs.Below.{all_below};
 ghost use Rattle.lists.specs.Parts.{all_are, same_list};
 ghost use Rattle.rules.specs.Parameters.{allowed, frames, page_bytes, frame_bytes, block_bytes, chip_bytes};
+ghost use Rattle.rules.specs.Tables.{not_found};
 ghost use Rattle.rules.specs.Pages.{block, frame, programmed, holds, filled, last_in, programmed_down_to, spare, spare_bytes};
 ghost use Rattle.rules.specs.Orderly.{block_rule, stamps_to};
 ghost use Rattle.chip_blocks.specs.First.{FirstFrames, fit_frame};
@@ -59,15 +60,7 @@ fn all_right(p: Params, fr: &[u8], of: Label) -> bool
     requires fr_len { length fr.now ≡ frame_bytes p }
     ensures { result ≡ all_below p.alpha (λ j. same_list (spare p fr.now j) (spare_bytes of.cluster.0 j of.stamp of.vblock)) }
 {
-    let m = p.alpha;
-    let mut j = 0;
-    while j < m {
-        if !chip_spares::spare_right(p, fr, of, j) {
-            return false;
-        }
-        j += 1;
-    }
-    true
+    (0..p.alpha).all(|j| chip_spares::spare_right(p, fr, of, j))
 }
 
 // How many pages of a frame, from the first on, have the spare bytes that the label says: up to the first that has not.
@@ -78,15 +71,9 @@ fn right_pages(p: Params, fr: &[u8], of: Label) -> usize
     ensures vblock_value { all_below result (λ j. same_list (spare p fr.now j) (spare_bytes of.cluster.0 j of.stamp of.vblock)) ≡ true }
     ensures vblock_value_2 { result < p.alpha → same_list (spare p fr.now result) (spare_bytes of.cluster.0 result of.stamp of.vblock) ≡ false }
 {
-    let m = p.alpha;
-    let mut j = 0;
-    while j < m {
-        if !chip_spares::spare_right(p, fr, of, j) {
-            return j;
-        }
-        j += 1;
-    }
-    j
+    (0..p.alpha)
+        .find(|j| !chip_spares::spare_right(p, fr, of, *j))
+        .unwrap_or(p.alpha)
 }
 
 // True if a frame is as programming leaves it, whole or in its first pages, with a cluster of region r, in virtual block v, and with a stamp up to `last`.
@@ -136,16 +123,9 @@ pub fn filled(p: Params, blk: &[u8]) -> usize
     requires blk_len { length blk.now ≡ block_bytes p }
     ensures { result ≡ filled p blk.now }
 {
-    let n = chip_sizes::frames(p);
-    let mut k = 0;
-    let mut f = 0;
-    while f < n {
-        if chip_spares::is_programmed(p, frame_of(p, blk, f)) {
-            k += 1;
-        }
-        f += 1;
-    }
-    k
+    (0..chip_sizes::frames(p))
+        .filter(|f| chip_spares::is_programmed(p, frame_of(p, blk, *f)))
+        .count()
 }
 
 // The first frame from frame `from` on that is not programmed, F if there is none: how many frames are programmed, where these are the first k of the
@@ -157,14 +137,9 @@ pub fn next_free(p: Params, blk: &[u8], from: usize) -> usize
     ensures { (k : ℕ) → from ≤ k → FirstFrames p blk.now k → result ≡ k }
 {
     let n = chip_sizes::frames(p);
-    let mut f = from;
-    while f < n {
-        if !chip_spares::is_programmed(p, frame_of(p, blk, f)) {
-            return f;
-        }
-        f += 1;
-    }
-    f
+    (from..n)
+        .find(|f| !chip_spares::is_programmed(p, frame_of(p, blk, *f)))
+        .unwrap_or(n)
 }
 
 // True if the last frame of the block is programmed. If the first k frames are and no others, the block is full exactly then.
@@ -187,14 +162,9 @@ fn good_frames(p: Params, r: usize, v: VBlock, last: u32, blk: &[u8]) -> usize
     ensures result_value { result < frames p → fit_frame p r v.0 last (frame p blk.now result) ≡ false }
 {
     let n = chip_sizes::frames(p);
-    let mut f = 0;
-    while f < n {
-        if !good_frame(p, r, v, last, frame_of(p, blk, f)) {
-            return f;
-        }
-        f += 1;
-    }
-    f
+    (0..n)
+        .find(|f| !good_frame(p, r, v, last, frame_of(p, blk, *f)))
+        .unwrap_or(n)
 }
 
 // True if the frames from frame k on are erased.
@@ -236,10 +206,10 @@ pub fn block_ok(p: Params, r: usize, v: VBlock, blk: &[u8]) -> bool
     used_frames(p, r, v, rules::LAST_STAMP, blk) != 0
 }
 
-// Where a search ended, and how many spare areas of programmed frames it looked at on its way.
+// Where a search ended, if it found what it looked for, and how many spare areas of programmed frames it looked at on its way.
 #[derive(Clone, Copy)]
 pub struct Search {
-    pub frame: usize,
+    pub frame: Option<usize>,
     pub looks: u32,
 }
 
@@ -256,29 +226,26 @@ fn looked(p: Params, fr: &[u8]) -> u32
     }
 }
 
-// The last of the β frames in place k of the block that holds cluster c, searched from the last one down, and what the search looked at; NOT_FOUND if none does.
+// The last of the β frames in place k of the block that holds cluster c, if one does, searched from the last one down, and what the search looked at.
 pub fn last_in(p: Params, blk: &[u8], k: usize, c: Cluster) -> Search
     requires p_value { allowed p ≡ true }
     requires blk_len { length blk.now ≡ block_bytes p }
     requires k_lt_d { k < p.d }
-    ensures frame_value { result.frame ≡ last_in p blk.now k c.0 }
+    ensures frame_value { MatchOption result.frame (last_in p blk.now k c.0 ≡ not_found) (λ f. (f ≡ last_in p blk.now k c.0) × (f < frames p)) }
     ensures looks_le_beta { result.looks ≤ p.beta }
-    ensures looks_value { result.frame < frames p → result.looks ≡ programmed_down_to p blk.now k result.frame }
+    ensures looks_value { IfSome result.frame (λ f. result.looks ≡ programmed_down_to p blk.now k f) }
 {
     let lo = k * p.beta;
-    let mut i = lo + p.beta;
     let mut looks = 0;
-    while lo < i {
-        let f = i - 1;
+    for f in (lo..lo + p.beta).rev() {
         let fr = frame_of(p, blk, f);
         looks += looked(p, fr);
         if holds(p, fr, c) {
-            return Search { frame: f, looks };
+            return Search {
+                frame: Some(f),
+                looks,
+            };
         }
-        i = f;
     }
-    Search {
-        frame: rules::NOT_FOUND,
-        looks,
-    }
+    Search { frame: None, looks }
 }

@@ -2,22 +2,20 @@
 -- Assumes nothing.
 use mathlib.Core.Path.{◌≡◌, refl, sym, ap, ◌∙◌}
 use mathlib.Core.Bool.{Bool, true, false, ◌&&◌, cond}
-use mathlib.Core.List.{List, [], ◌∷◌, ◌++◌, append_assoc}
-use Prim.Native.Nat.{ℕ, zero, suc, ◌+◌, ◌*◌, ◌-◌, ◌%◌, ◌≤◌, ◌<◌}
-use native.Mathlib.Numerals.{add-one}
+use mathlib.Core.List.{List, ◌++◌}
+use Prim.Native.Nat.{ℕ, ◌+◌, ◌*◌, ◌-◌, ◌%◌, ◌≤◌, ◌<◌}
 use native.Mathlib.Omega.{arith}
 use native.Mathlib.Nat.{mod-eq_of_lt, le-mul_of_pos_right}
 use lib.Dec.{leb, ltb}
-use lib.ListN.{length, take, drop, replicate, length-append, length-take, length-drop, length-replicate}
+use lib.ListN.{length, take, drop, replicate, length-append, length-take, length-replicate}
 use borrow.Author.Tests.{leb-true, ltb-true}
 use Rattle.chip_pages.specs.Asked.{Blank, CopyAsked}
 use Rattle.loops.proofs.Lent.{width}
 use Rattle.chip_frames.specs.Frame.{PageAsked, HostAsked, first_pages, host_page, page_sector, host_frame, sectors_of}
 use Rattle.chip_frames.proofs.Run.{run_length, run_next, run_other, run_more, page_fits, part_replicate}
-use Rattle.lists.specs.Below.{join_below}
-use Rattle.lists.proofs.Tests.{and_left, and_right, so}
+use Rattle.lists.proofs.Tests.{and_left, and_right}
 use Rattle.lists.specs.Parts.{part, put_part}
-use Rattle.lists.proofs.Parts.{next, part_part, part_length}
+use Rattle.lists.proofs.Parts.{next, part_length}
 use Rattle.lists.proofs.Joins.{join_length, join_part}
 use Rattle.rules.specs.Pages.{spare_bytes, bytes32}
 

@@ -1,11 +1,10 @@
 -- The first pages of a frame as the rules' operations: by the number of pages, one program more at each step.
 -- Assumes nothing.
-use mathlib.Core.Path.{◌≡◌, refl, ◌∙◌}
+use mathlib.Core.Path.{◌≡◌, refl}
 use mathlib.Core.List.{List, [], ◌∷◌}
 use Prim.Native.Nat.{ℕ, zero, suc, ◌+◌, ◌*◌}
 use native.Mathlib.Omega.{arith}
 use Rattle.lists.specs.Below.{join_below}
-use Rattle.lists.specs.Parts.{put_part}
 use Rattle.rules.specs.declared.Params.{Params}
 use Rattle.rules.specs.Parameters.{frames, pages, page_bytes}
 use Rattle.rules.specs.Pages.{page}

@@ -1,14 +1,14 @@
 -- The pages of a frame, programmed one after the other.
 -- Assumes nothing.
 use mathlib.Core.Path.{◌≡◌, refl, sym, ap, ◌∙◌}
-use mathlib.Core.List.{List, [], ◌∷◌, ◌++◌, append_assoc}
+use mathlib.Core.List.{List}
 use Prim.Native.Nat.{ℕ, zero, suc, ◌+◌, ◌*◌, ◌-◌, ◌≤◌, ◌<◌}
 use native.Mathlib.Numerals.{add-one}
 use native.Mathlib.Omega.{arith}
 use native.Mathlib.Nat.{le-mul_of_pos_right}
 use lib.ListN.{length, replicate, length-replicate, replicate-append-replicate}
 use lib.Seq.{take_at, drop_at}
-use Rattle.chip_pages.specs.Asked.{Blank, CopyAsked}
+use Rattle.chip_pages.specs.Asked.{CopyAsked}
 use Rattle.chip_frames.specs.Frame.{FrameAsked, first_pages}
 use Rattle.lists.specs.Parts.{part, put_part}
 use Rattle.lists.proofs.Parts.{next, part_part, part_length, put_length, put_other}

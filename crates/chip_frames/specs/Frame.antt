@@ -1,6 +1,6 @@
 -- What a frame's leaves ask and leave.
 -- Assumes nothing.
-use Rattle.std.specs.Prelude.{◌≡◌, Bool, true, false, ◌&&◌, cond, List, [], ◌∷◌, ◌++◌, ℕ, zero, suc, ◌+◌, ◌-◌, ◌*◌, ◌≤◌, ◌<◌, length, take, replicate, leb, ltb}
+use Rattle.std.specs.Prelude.{◌≡◌, Bool, true, ◌&&◌, cond, List, ◌++◌, ℕ, zero, suc, ◌+◌, ◌-◌, ◌*◌, ◌≤◌, ◌<◌, length, take, replicate, leb, ltb}
 use Rattle.lists.specs.Below.{join_below}
 use Rattle.lists.specs.Parts.{part, put_part}
 use Rattle.rules.specs.Pages.{spare_bytes}

@@ -27,10 +27,8 @@ pub fn copy_pages(chip: &mut [u8], w: usize, n: usize, from: usize, to: usize, m
 {
     let x = from * n;
     let y = to * n;
-    let mut k: usize = 0;
-    while k < m {
+    for k in 0..m {
         chip_pages::copy_at(chip, w, x + k, y + k);
-        k += 1;
     }
 }
 
@@ -88,9 +86,7 @@ pub fn host_pages(
 {
     let x = old * n;
     let y = to * n;
-    let mut k: usize = 0;
-    while k < m {
+    for k in 0..m {
         host_page(chip, s, y + k, kept, x + k, k, off, count, bytes, of);
-        k += 1;
     }
 }

@@ -1,18 +1,17 @@
 -- What is read in the first page and in the last frame makes a head.
 -- Assumes nothing.
 use mathlib.Core.Path.{◌≡◌, sym, ◌∙◌}
-use mathlib.Core.Bool.{Bool, true, false}
+use mathlib.Core.Bool.{Bool, true}
 use mathlib.Core.List.{List}
 use Prim.Native.Nat.{ℕ, ◌-◌}
-use Rattle.lists.proofs.Tests.{never}
 use Rattle.rules.specs.declared.Params.{Params}
 use Rattle.rules.specs.Numbers.{region_of}
 use Rattle.rules.specs.Parameters.{frames}
 use Rattle.rules.specs.Pages.{block, frame, held, programmed, vblock_in}
-use Rattle.rules.specs.Start.{in_use, region_named, sound, vblock_named}
+use Rattle.rules.specs.Start.{region_named, sound, vblock_named}
 use Rattle.rules.proofs.Sizes.{Sizes}
 use Rattle.chip_heads.specs.declared.Head.{Head}
-use Rattle.chip_heads.specs.Heads.{HeadOf, Names}
+use Rattle.chip_heads.specs.Heads.{Names}
 use Rattle.chip_heads.proofs.Sound.{full_is_lem, region_low_lem, region_read, vblock_low_lem, vblock_read}
 
 -- over the first frame fr of a sound block, and the cluster c that it holds
@@ -33,10 +32,3 @@ module _ (p : Params) (z : Sizes p) (blk : List ℕ) (fine : sound p blk ≡ tru
 pub first_read : (p : Params) (chip blk fr : List ℕ) (n : ℕ) (on : Bool) → blk ≡ block p chip n → fr ≡ frame p blk 0 → on ≡ programmed p fr
     → on ≡ programmed p (frame p (block p chip n) 0)
 first_read p chip blk fr n on a b e = rw (← a, ← b) e
-
--- the head of a block that is not in use, and of one that is
-pub unused_head : (p : Params) (chip : List ℕ) (n : ℕ) (h : Head) → h.used ≡ false → in_use p chip n ≡ false → HeadOf p chip n h
-unused_head p chip n h a b = record { used_is = a ∙ sym b; names = λ u. absurd (never u a) }
-
-pub used_head : (p : Params) (chip : List ℕ) (n : ℕ) (h : Head) → h.used ≡ true → in_use p chip n ≡ true → Names p (block p chip n) h → HeadOf p chip n h
-used_head p chip n h a b names = record { used_is = a ∙ sym b; names = λ u. names }

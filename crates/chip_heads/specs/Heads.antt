@@ -1,6 +1,6 @@
 -- What one look at a block tells of it.
 -- Assumes nothing.
-use Rattle.std.specs.Prelude.{◌≡◌, true, List, ℕ, ◌<◌}
+use Rattle.std.specs.Prelude.{◌≡◌, false, true, List, MatchOption, Option, ℕ, ◌<◌}
 use Rattle.rules.specs.declared.Params.{Params}
 use Rattle.rules.specs.Pages.{block, is_full}
 use Rattle.rules.specs.Start.{in_use, region_named, vblock_named}
@@ -14,7 +14,6 @@ pub record Names (p : Params) (blk : List ℕ) (h : Head) : Type 0 where
   pub vblock_low : h.vblock.0 < p.gamma
   pub full_is : h.full ≡ is_full p blk
 
--- of block n: whether it is in use, and these where it is
-pub record HeadOf (p : Params) (chip : List ℕ) (n : ℕ) (h : Head) : Type 0 where
-  pub used_is : h.used ≡ in_use p chip n
-  pub names : h.used ≡ true → Names p (block p chip n) h
+-- of block n: None where it is not in use, and these where it is
+abbrev pub HeadOf : Params → List ℕ → ℕ → Option Head → Type 0
+HeadOf p chip n h = MatchOption h (in_use p chip n ≡ false) (λ x. (in_use p chip n ≡ true) × Names p (block p chip n) x)

@@ -1,7 +1,7 @@
 // What the first page of a block says of it, on a chip whose blocks in use are sound: one look at a block, not at its bytes.
 #![tactic(auto)]
 
-ghost use Rattle.std.specs.Prelude.{◌≡◌, false, true, ◌<◌, length};
+ghost use Rattle.std.specs.Prelude.{◌≡◌, true, ◌<◌, length};
 ghost use Rattle.rules.specs.Parameters.{allowed, block_bytes, chip_bytes};
 ghost use Rattle.rules.specs.Pages.{block};
 ghost use Rattle.rules.specs.Start.{in_use, region_named, sound};
@@ -9,25 +9,12 @@ ghost use Rattle.chip_heads.specs.Heads.{HeadOf, Names};
 
 use rules::{PBlock, Params, VBlock};
 
-// Whether a block is in use; if so, whether it is full, and the region and the virtual block that it names.
+// What a block in use says: whether it is full, and the region and the virtual block that it names.
 #[derive(Clone, Copy)]
 pub struct Head {
-    pub used: bool,
     pub full: bool,
     pub region: usize,
     pub vblock: VBlock,
-}
-
-// What is said of a block that is not in use.
-fn unused() -> Head
-    ensures { result.used ≡ false }
-{
-    Head {
-        used: false,
-        full: false,
-        region: 0,
-        vblock: VBlock(0),
-    }
 }
 
 // What a sound block says.
@@ -35,20 +22,18 @@ fn says(p: Params, blk: &[u8]) -> Head
     requires p_value { allowed p ≡ true }
     requires blk_len { length blk.now ≡ block_bytes p }
     requires blk_value { sound p blk.now ≡ true }
-    ensures used_value { result.used ≡ true }
-    ensures names { Names p blk.now result }
+    ensures { Names p blk.now result }
 {
     let fr = chip_blocks::frame_of(p, blk, 0);
     Head {
-        used: true,
         full: chip_blocks::is_full(p, blk),
         region: rules::region_of(p, chip_spares::cluster_in(p, fr)),
         vblock: VBlock(chip_spares::vblock_in(p, fr) as usize),
     }
 }
 
-// What block n says. An erased block and a sound one differ in their first page; a bad one may be like either.
-pub fn head_of(p: Params, chip: &[u8], n: PBlock) -> Head
+// What block n says, if it is in use. An erased block and a sound one differ in their first page; a bad one may be like either.
+pub fn head_of(p: Params, chip: &[u8], n: PBlock) -> Option<Head>
     requires p_value { allowed p ≡ true }
     requires chip_len { length chip.now ≡ chip_bytes p }
     requires n_lt_n { n.0 < p.N }
@@ -56,13 +41,12 @@ pub fn head_of(p: Params, chip: &[u8], n: PBlock) -> Head
     ensures { HeadOf p chip.now n.0 result }
 {
     let blk = chip_blocks::block_of(p, chip, n);
-    if !chip_spares::is_programmed(p, chip_blocks::frame_of(p, blk, 0)) {
-        return unused();
+    if !chip_spares::is_programmed(p, chip_blocks::frame_of(p, blk, 0))
+        || chip_bad::is_bad(p, chip, n)
+    {
+        return None;
     }
-    if chip_bad::is_bad(p, chip, n) {
-        return unused();
-    }
-    says(p, blk)
+    Some(says(p, blk))
 }
 
 // True if the first page of block n names no cluster of region r, whatever else the block is.

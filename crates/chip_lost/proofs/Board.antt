@@ -1,9 +1,9 @@
 -- The board of a cut: chip and wear as the operations left them, and the tables that are lost.
 -- Assumes nothing.
-use mathlib.Core.Path.{◌≡◌, refl, sym, ap, ◌∙◌}
+use mathlib.Core.Path.{◌≡◌}
 use mathlib.Core.List.{List}
 use Prim.Native.Nat.{ℕ, ◌*◌}
-use lib.ListN.{length, replicate}
+use lib.ListN.{length}
 use Rattle.rules.specs.declared.Params.{Params}
 use Rattle.rules.specs.Tables.{Board, board_of, marks_length}
 use Rattle.rules.specs.Traces.{Op, replay_chip, replay_wear}

@@ -68,11 +68,9 @@ pub fn count_marks(p: Params, marks: &[u64], r: usize, v: VBlock) -> usize
     ensures { (m : Marks) → marks.now ≡ table_of p m → result ≡ count_below 256 (m r v.0) }
 {
     let mut n: usize = 0;
-    let mut w: usize = 0;
-    while w < 4 {
+    for w in 0..4 {
         let i = word_index(p, r, v, w);
         n += bits::count(marks[i]);
-        w += 1;
     }
     n
 }
@@ -99,12 +97,10 @@ pub fn set_first(p: Params, marks: &mut [u64], r: usize, v: VBlock, k: usize)
     requires { WordsAsked p marks.old r v.0 }
     ensures { (m : Marks) → marks.old ≡ table_of p m → marks.new ≡ table_of p (first_marks m r v.0 k) }
 {
-    let mut j: usize = 0;
-    while j < 4 {
+    for j in 0..4 {
         let i = word_index(p, r, v, j);
         let n = in_word(k, j);
         marks[i] = bits::first_bits(n);
-        j += 1;
     }
 }
 
@@ -113,9 +109,5 @@ pub fn set_first(p: Params, marks: &mut [u64], r: usize, v: VBlock, k: usize)
 pub fn clear_all(marks: &mut [u64])
     ensures { marks.new ≡ replicate (length marks.old) 0 }
 {
-    let mut i = 0;
-    while i < marks.len() {
-        marks[i] = 0;
-        i += 1;
-    }
+    marks.fill(0);
 }

@@ -13,11 +13,7 @@ pub fn put(part: &mut [u8], bytes: &[u8])
     requires { length bytes.now ≤ length part.old }
     ensures { part.new ≡ bytes.now ++ drop (length bytes.now) part.old }
 {
-    let mut i = 0;
-    while i < bytes.len() {
-        part[i] = bytes[i];
-        i += 1;
-    }
+    part[..bytes.len()].copy_from_slice(bytes);
 }
 
 // An erased spare area gets the spare bytes of its page.
@@ -59,11 +55,7 @@ pub fn program_copy(page: &mut [u8], bytes: &[u8])
 pub fn blank(part: &mut [u8])
     ensures { part.new ≡ replicate (length part.old) 255 }
 {
-    let mut i = 0;
-    while i < part.len() {
-        part[i] = 255;
-        i += 1;
-    }
+    part.fill(255);
 }
 
 // Page q of the chip is programmed, with the bytes of a sector.

@@ -1,7 +1,7 @@
 // The lent tables, each read and written by its own kinds of numbers.
 #![tactic(auto)]
 
-ghost use Rattle.std.specs.Prelude.{◌≡◌, not, ◌*◌, ◌+◌, ◌<◌, min, eqb, get_or, length, replicate, set};
+ghost use Rattle.std.specs.Prelude.{◌≡◌, MatchOption, not, ◌*◌, ◌+◌, ◌<◌, min, eqb, get_or, length, replicate, set};
 ghost use Rattle.lists.specs.Below.{count_below};
 ghost use Rattle.rules.specs.Tables.{none, ct_at, bt_entry, bt_at, fst_at, bst_at, wear_at, stamp_at};
 
@@ -16,19 +16,23 @@ fn entry(table: &[u16], i: usize) -> usize
     table[i] as usize
 }
 
+// Entry i of CT, BT or FST, if it is not none.
+fn named(table: &[u16], i: usize) -> Option<usize>
+    requires { i < length table.now }
+    ensures { MatchOption result (get_or table.now i none ≡ none) (λ x. (x ≡ get_or table.now i none) × (x < none)) }
+{
+    let x = entry(table, i);
+    if x == rules::NONE {
+        return None;
+    }
+    Some(x)
+}
+
 // How many entries of CT, BT or FST are not none.
 pub fn count_named(table: &[u16]) -> usize
     ensures { result ≡ count_below (length table.now) (λ i. not (eqb (get_or table.now i none) none)) }
 {
-    let mut k = 0;
-    let mut i = 0;
-    while i < table.len() {
-        if entry(table, i) != rules::NONE {
-            k += 1;
-        }
-        i += 1;
-    }
-    k
+    table.iter().filter(|x| **x as usize != rules::NONE).count()
 }
 
 // The segment that CT has for a cluster.
@@ -68,6 +72,40 @@ pub fn bt_at(p: Params, bt: &[u16], r: usize, v: VBlock) -> PBlock
 {
     let i = r * p.gamma + v.0;
     bt_entry(bt, i)
+}
+
+// The segment that CT names for a cluster, if it names one.
+pub fn segment_named(ct: &[u16], c: Cluster) -> Option<Segment>
+    requires { c.0 < length ct.now }
+    ensures { MatchOption result (ct_at ct.now c.0 ≡ none) (λ s. (s.0 ≡ ct_at ct.now c.0) × (s.0 < none)) }
+{
+    named(ct, c.0).map(|x| Segment(x))
+}
+
+// The segment that FST names for a region, if it names one.
+pub fn last_named(fst: &[u16], r: usize) -> Option<Segment>
+    requires { r < length fst.now }
+    ensures { MatchOption result (fst_at fst.now r ≡ none) (λ s. (s.0 ≡ fst_at fst.now r) × (s.0 < none)) }
+{
+    named(fst, r).map(|x| Segment(x))
+}
+
+// The block that entry i of BT names, if it names one.
+pub fn entry_named(bt: &[u16], i: usize) -> Option<PBlock>
+    requires { i < length bt.now }
+    ensures { MatchOption result (bt_entry bt.now i ≡ none) (λ n. (n.0 ≡ bt_entry bt.now i) × (n.0 < none)) }
+{
+    named(bt, i).map(|x| PBlock(x))
+}
+
+// The block that BT names for virtual block v of region r, if it names one.
+pub fn block_named(p: Params, bt: &[u16], r: usize, v: VBlock) -> Option<PBlock>
+    requires bt_len { length bt.now ≡ p.mu * p.gamma }
+    requires r_lt_mu { r < p.mu }
+    requires v_lt_gamma { v.0 < p.gamma }
+    ensures { MatchOption result (bt_at p bt.now r v.0 ≡ none) (λ n. (n.0 ≡ bt_at p bt.now r v.0) × (n.0 < none)) }
+{
+    entry_named(bt, r * p.gamma + v.0)
 }
 
 // What BST has for a block: 0 free, 1 used, 2 reserved.
@@ -136,23 +174,13 @@ pub fn set_bst(bst: &mut [u8], n: PBlock, s: u8)
     bst[i] = s;
 }
 
-// One erase more, up to the largest count.
-fn worn(x: u32) -> u32
-    ensures { result ≡ min (x + 1) 4294967295 }
-{
-    if x == 4294967295 {
-        return x;
-    }
-    x + 1
-}
-
-// The wear of a block counts one erase more.
+// The wear of a block counts one erase more, up to the largest count.
 pub fn count_erase(wear: &mut [u32], n: PBlock)
     requires { n.0 < length wear.old }
     ensures { wear.new ≡ set wear.old n.0 (min (wear_at wear.old n.0 + 1) 4294967295) }
 {
     let i = n.0;
-    wear[i] = worn(wear[i]);
+    wear[i] = wear[i].saturating_add(1);
 }
 
 // The next stamp of a region, which then is its last.
@@ -171,9 +199,5 @@ pub fn take_stamp(stamps: &mut [u32], r: usize) -> u32
 pub fn clear_stamps(stamps: &mut [u32])
     ensures { stamps.new ≡ replicate (length stamps.old) 0 }
 {
-    let mut r = 0;
-    while r < stamps.len() {
-        stamps[r] = 0;
-        r += 1;
-    }
+    stamps.fill(0);
 }

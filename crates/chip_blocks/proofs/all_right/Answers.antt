@@ -1,34 +1,8 @@
--- `chip_blocks::all_right`: every page passed has the spare bytes; one that has not ends the loop.
--- Assumes nothing.
-use mathlib.Core.Path.{sym, ◌∙◌}
-use mathlib.Core.Bool.{true}
-use native.Mathlib.Omega.{arith}
-use borrow.Author.Tests.{not-false, not-true}
-use Rattle.loops.proofs.Below.{all_end, all_fails, all_more, all_start}
+-- `chip_blocks::all_right`: every page has the spare bytes.
+use mathlib.Core.Path.{refl}
+use Rattle.std.proofs.Common.{rules, tests}
+use Rattle.loops.proofs.Ranges.{all_run}
 use Rattle.chip_blocks.proofs.all_right.Goals as goal
 
-pub loop-j-init : goal.loop-j-init
-loop-j-init c = (omega arith, all_start _)
-
-pub spare_right-requires : goal.spare_right-requires
-spare_right-requires c =
-    record {
-      p_value = c.requires.p_value;
-      frame_len = c.requires.fr_len;
-      j_lt_alpha = c.loop-j-test.true;
-    }
-
-pub returns-then-not-spare_right : goal.returns-then-not-spare_right
-returns-then-not-spare_right c = sym (all_fails _ c.loop-j.j _ c.loop-j-test.true (sym c.spare_right.ensures ∙ not-true _ c.if-not-spare_right.true-raw))
-
-pub overflow_add-j : goal.overflow_add-j
-overflow_add-j c = omega arith
-
-pub loop-j-smaller : goal.loop-j-smaller
-loop-j-smaller c = omega arith
-
-pub loop-j-preserved : goal.loop-j-preserved
-loop-j-preserved c = (omega arith, all_more _ _ c.loop-j.invariant.1 (sym c.spare_right.ensures ∙ not-false _ c.if-not-spare_right.false-raw))
-
 pub returns : goal.returns
-returns c = sym (all_end _ _ _ (omega (arith, c.loop-j-test.false, c.loop-j.invariant.0)) c.loop-j.invariant.1)
+returns c = all_run _ _ _ _ refl c.all.ensures.ran (λ x b q k. search (rules, tests))

@@ -3,7 +3,7 @@
 use mathlib.Core.Path.{ap, sym, ◌∙◌, ◌≡◌}
 use mathlib.Core.Bool.{cond}
 use mathlib.Core.List.{List}
-use Prim.Native.Nat.{◌*◌, ◌+◌, ℕ, ◌≤◌}
+use Prim.Native.Nat.{◌*◌, ◌+◌, ◌-◌, ℕ, ◌≤◌, ◌<◌}
 use native.Mathlib.Omega.{arith}
 use Rattle.rules.specs.Pages.{frame, holds, programmed}
 use Rattle.rules.specs.Parameters.{frames}
@@ -19,30 +19,16 @@ seg a = (seg_in a.args.p a.args.k a.requires.k_lt_d, (sizes _ a.requires.p_value
 pub overflow_mul-lo : goal.overflow_mul-lo
 overflow_mul-lo c = omega (arith, seg (goal.at.overflow_mul-lo c).Start)
 
-pub overflow_add-i : goal.overflow_add-i
-overflow_add-i c = omega (arith, seg (goal.at.overflow_add-i c).Start)
+pub overflow_step-f : goal.overflow_step-f
+overflow_step-f c = omega (arith, seg (goal.at.overflow_step-f c).Start)
 
-pub loop-i-init : goal.loop-i-init
-loop-i-init c = λ z. start _ z _ _ _ c.requires.k_lt_d
+pub loop-f-init : goal.loop-f-init
+loop-f-init c = λ z. start _ z _ _ _ c.requires.k_lt_d
 
-pub overflow_sub-f : goal.overflow_sub-f
-overflow_sub-f c = omega (arith, c.loop-i-test.true)
-
-pub frame_of-fr-requires : goal.frame_of-fr-requires
-frame_of-fr-requires c =
-    let s = c.loop-i.invariant (sizes _ c.requires.p_value) in
-    record {
-      p_value = c.requires.p_value;
-      blk_len = c.requires.blk_len;
-      f_bound = omega (arith, seg (goal.at.frame_of-fr-requires c).Start, c.loop-i-test.true, s.few);
-    }
-
-pub looked-looks-requires : goal.looked-looks-requires
-looked-looks-requires c =
-    record {
-      p_value = c.requires.p_value;
-      fr_len = c.frame_of-fr.ensures.result_len;
-    }
+pub frame_of-fr-requires-clause-f_bound : goal.frame_of-fr-requires-clause-f_bound
+frame_of-fr-requires-clause-f_bound c =
+    let s = c.loop-f.invariant (sizes _ c.requires.p_value) in
+    omega (arith, seg (goal.at.frame_of-fr-requires-clause-f_bound c).Start, c.loop-f-test.true, s.few)
 
 seen : (a : Start) (n f : ℕ) (fr : List ℕ) → n ≡ cond (programmed a.args.p fr) 1 0 → fr ≡ frame a.args.p a.args.blk.now f
     → n ≡ cond (programmed a.args.p (frame a.args.p a.args.blk.now f)) 1 0
@@ -51,46 +37,37 @@ seen a n f fr e is = e ∙ ap (λ (x : List ℕ). cond (programmed a.args.p x) 1
 pub overflow_add-looks : goal.overflow_add-looks
 overflow_add-looks c =
     let z = sizes _ c.requires.p_value in
-    let s = c.loop-i.invariant z in
-    omega (arith, z.beta_high, looks_few _ z _ _ _ _ _ s c.loop-i-test.true _ (seen (goal.at.overflow_add-looks c).Start _ _ _ c.looked-looks.ensures c.frame_of-fr.ensures.result_value))
-
-pub holds-requires : goal.holds-requires
-holds-requires c =
-    record {
-      p_value = c.requires.p_value;
-      fr_len = c.frame_of-fr.ensures.result_len;
-    }
+    let s = c.loop-f.invariant z in
+    omega (arith, z.beta_high, looks_few _ z _ _ _ _ _ s c.loop-f-test.true _ (seen (goal.at.overflow_add-looks c).Start _ _ _ c.looked-looks.ensures c.frame_of-fr.ensures.result_value))
 
 pub returns-then-holds : goal.returns-then-holds
 returns-then-holds c =
     let z = sizes _ c.requires.p_value in
-    let s = c.loop-i.invariant z in
-    let t = c.loop-i-test.true in
+    let s = c.loop-f.invariant z in
+    let t = c.loop-f-test.true in
     let n = seen (goal.at.returns-then-holds c).Start _ _ _ c.looked-looks.ensures c.frame_of-fr.ensures.result_value in
     let h = sym (c.holds.ensures ∙ ap (λ (x : List ℕ). holds c.args.p x c.args.c.0) c.frame_of-fr.ensures.result_value) ∙ c.if-holds.true in
+    let low : c.loop-f.f - 1 < frames c.args.p = omega (arith, seg (goal.at.returns-then-holds c).Start, t, s.few) in
     record {
-      frame_value = found _ z _ _ _ _ _ s t _ n h;
+      frame_value = (found _ z _ _ _ _ _ s t _ n h, low);
       looks_le_beta = looks_few _ z _ _ _ _ _ s t _ n;
-      looks_value = looked _ z _ _ _ _ _ s t _ n h;
+      looks_value = looked _ z _ _ _ _ _ s t _ n h low;
     }
 
-pub loop-i-smaller : goal.loop-i-smaller
-loop-i-smaller c = omega (arith, c.loop-i-test.true)
-
-pub loop-i-preserved : goal.loop-i-preserved
-loop-i-preserved c =
+pub loop-f-preserved : goal.loop-f-preserved
+loop-f-preserved c =
     λ z.
-    let s = c.loop-i.invariant z in
-    let t = c.loop-i-test.true in
-    let n = seen (goal.at.loop-i-preserved c).Start _ _ _ c.looked-looks.ensures c.frame_of-fr.ensures.result_value in
+    let s = c.loop-f.invariant z in
+    let t = c.loop-f-test.true in
+    let n = seen (goal.at.loop-f-preserved c).Start _ _ _ c.looked-looks.ensures c.frame_of-fr.ensures.result_value in
     turn _ z _ _ _ _ _ s t _ n (sym (c.holds.ensures ∙ ap (λ (x : List ℕ). holds c.args.p x c.args.c.0) c.frame_of-fr.ensures.result_value) ∙ c.if-holds.false)
 
 pub returns : goal.returns
 returns c =
     let z = sizes _ c.requires.p_value in
-    let s = c.loop-i.invariant z in
+    let s = c.loop-f.invariant z in
     record {
-      frame_value = nothing _ z _ _ _ _ _ s (omega (arith, c.loop-i-test.false));
+      frame_value = sym (nothing _ z _ _ _ _ _ s (omega (arith, c.loop-f-test.false)));
       looks_le_beta = omega (arith, s.few, s.low);
-      looks_value = λ l. absurd (omega (arith, l, z.short));
+      looks_value = tt;
     }

@@ -1,15 +1,10 @@
--- `chip_frames::copy_pages`. The invariant: the chip is the one at entry with the first k pages of frame `from` put at frame `to`, which are apart. The measure is
--- what is left.
+-- `chip_frames::copy_pages`. The invariant: the chip is the one at entry with the first k pages of frame `from` put at frame `to`, which are apart.
 -- Assumes nothing.
-use Rattle.chip_frames.proofs.copy_pages.Reads as reads
-use Prim.Native.Nat.{◌≤◌, ◌-◌, ◌*◌}
+use Prim.Native.Nat.{◌*◌}
 use mathlib.Core.Path.{◌≡◌}
 use Rattle.chip_frames.specs.Frame.{first_pages}
 use Rattle.lists.specs.Parts.{part}
 use Rattle.chip_frames.proofs.copy_pages.Given as goal
 
 abbrev pub invariant-loop-k : goal.invariant-loop-k
-invariant-loop-k l = (l.k ≤ l.m) × (l.chip ≡ first_pages l.w l.n l.to (part (l.n * l.w) l.from l.initial.chip) l.initial.chip l.k)
-
-abbrev pub decreases-loop-k : goal.decreases-loop-k
-decreases-loop-k l = l.m - l.k
+invariant-loop-k l = l.chip ≡ first_pages l.w l.n l.to (part (l.n * l.w) l.from l.initial.chip) l.initial.chip l.k

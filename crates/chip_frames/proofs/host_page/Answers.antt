@@ -1,6 +1,5 @@
 -- `chip_frames::host_page`: one of three leaves, by whether the sector is given and whether an old one is kept; each leaves the page that the host's frame has there (Host.antt).
 -- Assumes nothing.
-use Rattle.chip_frames.proofs.host_page.Reads as reads
 use native.Mathlib.Omega.{arith}
 use Rattle.chip_frames.proofs.Host.{given_in, given_fits, given_asked, given_done, from_asked, kept_done, blank_done}
 use Rattle.chip_frames.proofs.host_page.Goals as goal

@@ -1,6 +1,6 @@
 -- `chip_heads::says`: the first frame of a sound block has a cluster below C, so that its region can be told.
 -- Assumes nothing.
-use mathlib.Core.Path.{refl, ap, ◌∙◌}
+use mathlib.Core.Path.{ap, ◌∙◌}
 use Rattle.rules.specs.Pages.{held}
 use Rattle.rules.proofs.Sizes.{sizes}
 use Rattle.chip_heads.proofs.Sound.{cluster_low}
@@ -25,8 +25,5 @@ region_of-requires c =
 
 pub returns : goal.returns
 returns c =
-    record {
-      used_value = refl;
-      names = names_are _ (sizes _ c.requires.p_value) _ c.requires.blk_value _ c.frame_of-fr.ensures.result_value _ c.cluster_in.ensures.result_value _
-          c.region_of.ensures c.vblock_in.ensures c.is_full.ensures;
-    }
+    names_are _ (sizes _ c.requires.p_value) _ c.requires.blk_value _ c.frame_of-fr.ensures.result_value _ c.cluster_in.ensures.result_value _ c.region_of.ensures
+    c.vblock_in.ensures c.is_full.ensures
