@@ -19,7 +19,7 @@ fn has(p: Params, fr: &[u8], c: Cluster, t: u32) -> bool
     if chip_spares::stamp_in(p, fr) != t {
         return false;
     }
-    if chip_spares::cluster_in(p, fr).0 != c.0 {
+    if chip_spares::cluster_in(p, fr) != c {
         return false;
     }
     chip_spares::is_whole(p, fr)
@@ -32,14 +32,7 @@ fn lacks(p: Params, blk: &[u8], c: Cluster, t: u32, k: usize) -> bool
     requires k_bound { k ≤ frames p }
     ensures { result ≡ lacks p c.0 t k blk.now }
 {
-    let mut f = 0;
-    while f < k {
-        if has(p, chip_blocks::frame_of(p, blk, f), c, t) {
-            return false;
-        }
-        f += 1;
-    }
-    true
+    (0..k).all(|f| !has(p, chip_blocks::frame_of(p, blk, f), c, t))
 }
 
 // True if no frame of the block that virtual block v keeps is such a frame.
@@ -48,10 +41,9 @@ fn block_lacks(p: Params, chip: &[u8], kept: &[u16], c: Cluster, t: u32, v: VBlo
     requires v_lt_gamma { v.0 < p.gamma }
     ensures { result ≡ lacks p c.0 t (frames p) (kept_body p chip.now kept.now v.0) }
 {
-    let n = chip_tables::bt_entry(kept, v.0);
-    if n.0 == rules::NONE {
+    let Some(n) = chip_tables::entry_named(kept, v.0) else {
         return true;
-    }
+    };
     lacks(
         p,
         chip_blocks::block_of(p, chip, n),
@@ -67,15 +59,7 @@ fn lack_before(p: Params, chip: &[u8], kept: &[u16], c: Cluster, t: u32, v: VBlo
     requires v_lt_gamma { v.0 < p.gamma }
     ensures { result ≡ lack_before p chip.now kept.now c.0 t v.0 }
 {
-    let m = v.0;
-    let mut u = 0;
-    while u < m {
-        if !block_lacks(p, chip, kept, c, t, VBlock(u)) {
-            return false;
-        }
-        u += 1;
-    }
-    true
+    (0..v.0).all(|u| block_lacks(p, chip, kept, c, t, VBlock(u)))
 }
 
 // True if the bit of stamp t was set; it is set then.
@@ -139,13 +123,10 @@ fn block_apart(
     requires seen { Seen p chip.now kept.now v.0 0 seen.old }
     ensures { BlockDone p chip.now kept.now v.0 result seen.new }
 {
-    let m = chip_sizes::frames(p);
-    let mut f = 0;
-    while f < m {
+    for f in 0..chip_sizes::frames(p) {
         if !frame_apart(p, chip, kept, seen, blk, v, f) {
             return false;
         }
-        f += 1;
     }
     true
 }
@@ -157,10 +138,9 @@ fn vblock_apart(p: Params, chip: &[u8], kept: &[u16], seen: &mut [u64], v: VBloc
     requires seen { Seen p chip.now kept.now v.0 0 seen.old }
     ensures { BlockDone p chip.now kept.now v.0 result seen.new }
 {
-    let n = chip_tables::bt_entry(kept, v.0);
-    if n.0 == rules::NONE {
+    let Some(n) = chip_tables::entry_named(kept, v.0) else {
         return true;
-    }
+    };
     block_apart(p, chip, kept, seen, chip_blocks::block_of(p, chip, n), v)
 }
 
@@ -170,13 +150,10 @@ fn all_apart(p: Params, chip: &[u8], kept: &[u16], seen: &mut [u64]) -> bool
     requires seen_len { length seen.old ≡ 256 }
     ensures { result ≡ kept_apart p chip.now kept.now }
 {
-    let m = p.gamma;
-    let mut v = 0;
-    while v < m {
+    for v in 0..p.gamma {
         if !vblock_apart(p, chip, kept, seen, VBlock(v)) {
             return false;
         }
-        v += 1;
     }
     true
 }

@@ -34,6 +34,13 @@ name_low p chip bt t r v n hr hv e ne =
     go (inl x) = absurd (ne (e ∙ eqb-true _ _ x))
     go (inr x) = rw e (ltb-true _ _ x)
 
+-- an entry below none is not none, and names a block
+pub not_none : (n : ℕ) → n < none → eqb n none ≡ false
+not_none n h = ne_eqb n none (λ e. omega arith)
+
+pub named_low : (p : Params) (chip bt : List ℕ) → Lent p chip bt → (r v n : ℕ) → r < p.mu → v < p.gamma → n ≡ bt_at p bt r v → n < none → n < p.N
+named_low p chip bt t r v n hr hv e h = name_low p chip bt t r v n hr hv e (λ x. omega arith)
+
 -- the same of a board, which has the blocks that BT names
 pub names_in : (p : Params) (b : Board) → Lent p b.chip b.bt → Names p b
 names_in p b t =

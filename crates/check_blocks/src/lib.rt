@@ -32,15 +32,7 @@ pub fn frees_ok(p: Params, chip: &[u8], bst: &[u8]) -> bool
     requires bst_len { length bst.now ≡ p.N }
     ensures { result ≡ free_rule p chip.now bst.now }
 {
-    let m = p.N;
-    let mut n = 0;
-    while n < m {
-        if !free_ok(p, chip, bst, PBlock(n)) {
-            return false;
-        }
-        n += 1;
-    }
-    true
+    (0..p.N).all(|n| free_ok(p, chip, bst, PBlock(n)))
 }
 
 // How many frames of virtual block v of region r are programmed, if its block is named once there, is used, and is a block of that region with stamps up to `last`.
@@ -60,10 +52,9 @@ pub fn vblock_frames(
     requires v_lt_gamma { v.0 < p.gamma }
     ensures { result ≡ vblock_frames_to p chip.now bt.now bst.now last r v.0 }
 {
-    let n = chip_tables::bt_at(p, bt, r, v);
-    if n.0 == rules::NONE {
+    let Some(n) = chip_tables::block_named(p, bt, r, v) else {
         return chip_sizes::frames(p);
-    }
+    };
     if !check_tables::differs(p, bt, r, v) {
         return 0;
     }

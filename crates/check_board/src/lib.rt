@@ -25,10 +25,10 @@ fn frames_ok(p: Params, sg: Segment, o: VBlock, v: VBlock, k: usize) -> bool
     if k == 0 {
         return false;
     }
-    if v.0 != o.0 {
+    if v != o {
         return k == chip_sizes::frames(p);
     }
-    rules::segment_of(p, v, k - 1).0 == sg.0
+    rules::segment_of(p, v, k - 1) == sg
 }
 
 // Virtual block v of region r: its block is one of that region, with the right frames programmed and stamps up to `last`,
@@ -78,15 +78,7 @@ fn vblocks_ok(
     ensures { result ≡ all_below p.gamma (block_held_to p chip.now ct.now bt.now bst.now marks.now last r sg.0) }
 {
     let o = rules::vblock_of(p, sg);
-    let m = p.gamma;
-    let mut v = 0;
-    while v < m {
-        if !vblock_ok(p, chip, ct, bt, bst, marks, last, r, sg, o, VBlock(v)) {
-            return false;
-        }
-        v += 1;
-    }
-    true
+    (0..p.gamma).all(|v| vblock_ok(p, chip, ct, bt, bst, marks, last, r, sg, o, VBlock(v)))
 }
 
 // True if FST's entry sg is none exactly if region r has no block,
@@ -104,7 +96,7 @@ fn entry_ok(p: Params, bt: &[u16], r: usize, sg: Segment) -> bool
     if sg.0 >= p.gamma * p.d {
         return false;
     }
-    chip_tables::bt_at(p, bt, r, rules::vblock_of(p, sg)).0 != rules::NONE
+    chip_tables::block_named(p, bt, r, rules::vblock_of(p, sg)).is_some()
 }
 
 // The rules of region r:
@@ -162,16 +154,10 @@ fn regions_ok(
     ensures { result ≡ all_below p.mu (λ r. region_held_to p chip.now ct.now bt.now fst.now bst.now marks.now
         (bound_of bound stamps.now r) r) }
 {
-    let m = p.mu;
-    let mut r = 0;
-    while r < m {
+    (0..p.mu).all(|r| {
         let last = bound_of(bound, stamps, r);
-        if !region_ok(p, chip, ct, bt, fst, bst, marks, last, r) {
-            return false;
-        }
-        r += 1;
-    }
-    true
+        region_ok(p, chip, ct, bt, fst, bst, marks, last, r)
+    })
 }
 
 // How many marks the table has:
@@ -181,10 +167,8 @@ fn count_marked(marks: &[u64]) -> usize
     ensures { result ≡ count_below (64 * length marks.now) (bit_at marks.now) }
 {
     let mut k = 0;
-    let mut i = 0;
-    while i < marks.len() {
-        k += bits::count(marks[i]);
-        i += 1;
+    for word in marks {
+        k += bits::count(*word);
     }
     k
 }

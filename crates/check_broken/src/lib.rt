@@ -27,20 +27,24 @@ pub enum Rule {
 }
 
 // The number of a rule, from 1 to 11; 5 was that of enough blocks, which T-12 took out, and is never told.
-pub fn rule_number(r: Rule) -> u32
-    ensures { result ≡ rule_number r }
-{
-    match r {
-        Rule::BstValues => 1,
-        Rule::BtRange => 2,
-        Rule::NamedTwice => 3,
-        Rule::UsedIfNamed => 4,
-        Rule::FreeErased => 6,
-        Rule::UsedBlock => 7,
-        Rule::Fst => 8,
-        Rule::Ct => 9,
-        Rule::Marks => 10,
-        Rule::Stamps => 11,
+impl From<Rule> for u32 {
+    ghost from_gives = { λ r n. n ≡ rule_number r };
+
+    fn from(r: Rule) -> u32
+        ensures { result ≡ rule_number r }
+    {
+        match r {
+            Rule::BstValues => 1,
+            Rule::BtRange => 2,
+            Rule::NamedTwice => 3,
+            Rule::UsedIfNamed => 4,
+            Rule::FreeErased => 6,
+            Rule::UsedBlock => 7,
+            Rule::Fst => 8,
+            Rule::Ct => 9,
+            Rule::Marks => 10,
+            Rule::Stamps => 11,
+        }
     }
 }
 
@@ -51,10 +55,9 @@ fn block_ok(p: Params, chip: &[u8], bt: &[u16], r: usize, v: VBlock) -> bool
     requires v_lt_gamma { v.0 < p.gamma }
     ensures { result ≡ block_ok p chip.now bt.now r v.0 }
 {
-    let n = chip_tables::bt_at(p, bt, r, v);
-    if n.0 == rules::NONE {
+    let Some(n) = chip_tables::block_named(p, bt, r, v) else {
         return true;
-    }
+    };
     chip_blocks::block_ok(p, r, v, chip_blocks::block_of(p, chip, n))
 }
 
@@ -64,15 +67,7 @@ fn region_blocks_ok(p: Params, chip: &[u8], bt: &[u16], r: usize) -> bool
     requires r_lt_mu { r < p.mu }
     ensures { result ≡ region_blocks_ok p chip.now bt.now r }
 {
-    let m = p.gamma;
-    let mut v = 0;
-    while v < m {
-        if !block_ok(p, chip, bt, r, VBlock(v)) {
-            return false;
-        }
-        v += 1;
-    }
-    true
+    (0..p.gamma).all(|v| block_ok(p, chip, bt, r, VBlock(v)))
 }
 
 // The same of every region.
@@ -80,15 +75,7 @@ fn blocks_ok(p: Params, chip: &[u8], bt: &[u16]) -> bool
     requires { Lent p chip.now bt.now }
     ensures { result ≡ all_below p.mu (region_blocks_ok p chip.now bt.now) }
 {
-    let m = p.mu;
-    let mut r = 0;
-    while r < m {
-        if !region_blocks_ok(p, chip, bt, r) {
-            return false;
-        }
-        r += 1;
-    }
-    true
+    (0..p.mu).all(|r| region_blocks_ok(p, chip, bt, r))
 }
 
 // The first rule that does not hold, of a state that is not orderly: each is looked at only where those before it hold.

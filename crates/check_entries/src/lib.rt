@@ -15,13 +15,12 @@ fn full_ok(p: Params, chip: &[u8], bt: &[u16], r: usize, o: VBlock, v: VBlock) -
     requires v_lt_gamma { v.0 < p.gamma }
     ensures { result ≡ full_ok p chip.now bt.now r o.0 v.0 }
 {
-    if v.0 == o.0 {
+    if v == o {
         return true;
     }
-    let n = chip_tables::bt_at(p, bt, r, v);
-    if n.0 == rules::NONE {
+    let Some(n) = chip_tables::block_named(p, bt, r, v) else {
         return true;
-    }
+    };
     chip_blocks::is_full(p, chip_blocks::block_of(p, chip, n))
 }
 
@@ -31,25 +30,7 @@ fn fulls_ok(p: Params, chip: &[u8], bt: &[u16], r: usize, o: VBlock) -> bool
     requires r_lt_mu { r < p.mu }
     ensures { result ≡ all_below p.gamma (full_ok p chip.now bt.now r o.0) }
 {
-    let m = p.gamma;
-    let mut v = 0;
-    while v < m {
-        if !full_ok(p, chip, bt, r, o, VBlock(v)) {
-            return false;
-        }
-        v += 1;
-    }
-    true
-}
-
-// The number before x, 0 for 0.
-fn one_less(x: usize) -> usize
-    ensures { result ≡ x - 1 }
-{
-    if x == 0 {
-        return 0;
-    }
-    x - 1
+    (0..p.gamma).all(|v| full_ok(p, chip, bt, r, o, VBlock(v)))
 }
 
 // Segment sg is that of the last programmed frame of the open block, and every other block is full.
@@ -62,13 +43,12 @@ fn open_ok(p: Params, chip: &[u8], bt: &[u16], r: usize, sg: Segment) -> bool
         return false;
     }
     let o = rules::vblock_of(p, sg);
-    let n = chip_tables::bt_at(p, bt, r, o);
-    if n.0 == rules::NONE {
+    let Some(n) = chip_tables::block_named(p, bt, r, o) else {
         return false;
-    }
+    };
     let k = chip_blocks::filled(p, chip_blocks::block_of(p, chip, n));
-    let last = rules::segment_of(p, o, one_less(k));
-    if sg.0 != last.0 {
+    let last = rules::segment_of(p, o, k.saturating_sub(1));
+    if sg != last {
         return false;
     }
     fulls_ok(p, chip, bt, r, o)
@@ -81,10 +61,9 @@ fn fst_ok(p: Params, chip: &[u8], bt: &[u16], fst: &[u16], r: usize) -> bool
     requires r_lt_mu { r < p.mu }
     ensures { result ≡ fst_ok p chip.now bt.now fst.now r }
 {
-    let sg = chip_tables::fst_at(fst, r);
-    if check_tables::empty_at(p, bt, r) {
-        return sg.0 == rules::NONE;
-    }
+    let Some(sg) = chip_tables::last_named(fst, r) else {
+        return check_tables::empty_at(p, bt, r);
+    };
     open_ok(p, chip, bt, r, sg)
 }
 
@@ -94,15 +73,7 @@ pub fn fsts_ok(p: Params, chip: &[u8], bt: &[u16], fst: &[u16]) -> bool
     requires fst_len { length fst.now ≡ p.mu }
     ensures { result ≡ all_below p.mu (fst_ok p chip.now bt.now fst.now) }
 {
-    let m = p.mu;
-    let mut r = 0;
-    while r < m {
-        if !fst_ok(p, chip, bt, fst, r) {
-            return false;
-        }
-        r += 1;
-    }
-    true
+    (0..p.mu).all(|r| fst_ok(p, chip, bt, fst, r))
 }
 
 // Segment sg of region r holds a programmed frame of cluster c.
@@ -115,42 +86,34 @@ fn segment_ok(p: Params, chip: &[u8], bt: &[u16], r: usize, c: Cluster, sg: Segm
         return false;
     }
     let v = rules::vblock_of(p, sg);
-    let n = chip_tables::bt_at(p, bt, r, v);
-    if n.0 == rules::NONE {
+    let Some(n) = chip_tables::block_named(p, bt, r, v) else {
         return false;
-    }
+    };
     let k = rules::place_of(p, sg);
-    let f = chip_sizes::frames(p);
-    chip_blocks::last_in(p, chip_blocks::block_of(p, chip, n), k, c).frame < f
+    chip_blocks::last_in(p, chip_blocks::block_of(p, chip, n), k, c)
+        .frame
+        .is_some()
 }
 
-// The CT entry of cluster c, of region r, is none or names such a segment.
-fn cluster_ok(p: Params, chip: &[u8], ct: &[u16], bt: &[u16], r: usize, c: Cluster) -> bool
+// The CT entry of cluster c is none or names such a segment of c's region.
+fn cluster_ok(p: Params, chip: &[u8], ct: &[u16], bt: &[u16], c: Cluster) -> bool
     requires lent { Lent p chip.now bt.now }
-    requires r_lt_mu { r < p.mu }
-    requires c_in_bounds { c.0 < length ct.now }
-    ensures { result ≡ cluster_ok p chip.now ct.now bt.now r c.0 }
+    requires ct_len { length ct.now ≡ p.C }
+    requires c_lt_c { c.0 < p.C }
+    ensures { result ≡ cluster_ok p chip.now ct.now bt.now (region_of p c.0) c.0 }
 {
-    let sg = chip_tables::ct_at(ct, c);
-    if sg.0 == rules::NONE {
+    let r = rules::region_of(p, c);
+    let Some(sg) = chip_tables::segment_named(ct, c) else {
         return true;
-    }
+    };
     segment_ok(p, chip, bt, r, c, sg)
 }
 
-// The same of every cluster, each in its own region.
+// The same of every cluster.
 pub fn cts_ok(p: Params, chip: &[u8], ct: &[u16], bt: &[u16]) -> bool
     requires lent { Lent p chip.now bt.now }
     requires ct_len { length ct.now ≡ p.C }
     ensures { result ≡ all_below p.C (λ c. cluster_ok p chip.now ct.now bt.now (region_of p c) c) }
 {
-    let m = p.C;
-    let mut c = 0;
-    while c < m {
-        if !cluster_ok(p, chip, ct, bt, rules::region_of(p, Cluster(c)), Cluster(c)) {
-            return false;
-        }
-        c += 1;
-    }
-    true
+    (0..p.C).all(|c| cluster_ok(p, chip, ct, bt, Cluster(c)))
 }

@@ -1,7 +1,8 @@
 -- Each test of `is_valid`, as the rule of validity takes it: of any view that shows the lent bytes; and the search of `is_last`.
 -- Assumes nothing.
 use mathlib.Core.Path.{◌≡◌, ap, refl, sym, ◌∙◌}
-use mathlib.Core.Bool.{Bool, true, false, ◌&&◌, and-false, cond}
+use mathlib.Core.Logic.{◌⊎◌, inl, inr}
+use mathlib.Core.Bool.{Bool, true, false, ◌&&◌, and-false, cond, not}
 use mathlib.Core.List.{List}
 use Prim.Native.Nat.{ℕ, zero, suc, ◌+◌, ◌-◌, ◌*◌, ◌/◌, ◌≤◌, ◌<◌}
 use native.Mathlib.Decide.{dec_lt, ℕ_discrete}
@@ -9,15 +10,15 @@ use native.Mathlib.Omega.{arith}
 use native.Mathlib.Nat.{add-mul, div-eq_of_lt-le, div-le_self, div-lt_iff_lt-mul, div-mul-le_self, le-div_iff_mul-le}
 use lib.Dec.{eqb}
 use lib.ListN.{length}
-use borrow.Author.Tests.{eq-eqb, eqb-true, ne_eqb}
-use Rattle.lists.specs.Below.{last_below}
+use borrow.Author.Tests.{eq-eqb, eqb-true, ne_eqb, not-false, not-true}
+use Rattle.lists.specs.Below.{all_below, last_below}
 use Rattle.lists.proofs.Parts.{next}
-use Rattle.lists.proofs.Tests.{and_right, last_is, never}
+use Rattle.lists.proofs.Tests.{all_at, and_right, last_is, never, so, some_fails}
 use Rattle.rules.specs.declared.Params.{Params}
 use Rattle.rules.specs.Parameters.{frames}
 use Rattle.rules.specs.Numbers.{region_of, segment_of}
 use Rattle.rules.specs.Tables.{none, ct_at}
-use Rattle.rules.specs.Pages.{frame, held, holds, last_in, le32, programmed, spare, whole}
+use Rattle.rules.specs.Pages.{frame, held, holds, last_in, le32, spare, whole}
 use Rattle.rules.specs.Regions.{View, valid}
 use Rattle.rules.proofs.Sizes.{Sizes, sizes}
 use Rattle.rules.proofs.FramePut.{last_holds}
@@ -133,6 +134,23 @@ module _ (p : Params) (blk : List ℕ) (k f c : ℕ) (a : HoldsAt p blk k f c) w
   unfolding last_in
   last_later g h l e =
       sym (ne_eqb _ f (λ q. omega (arith, q, last_least none (frames p) test g (omega (arith, place_ends)) (in_segment g h l ∙ e))))
+
+  -- both at once
+  pub last_all : (e : ℕ) → e ≡ (k + 1) * p.beta → all_below (e - (f + 1)) (λ i. not (holds p (frame p blk (f + 1 + i)) c)) ≡ eqb (last_in p blk k c) f
+  last_all e end = go (so (all_below (e - (f + 1)) later))
+    where
+      later : ℕ → Bool
+      later i = not (holds p (frame p blk (f + 1 + i)) c)
+
+      at : (g : ℕ) → f < g → f + 1 + (g - (f + 1)) ≡ g
+      at g h = omega arith
+
+      go : (all_below (e - (f + 1)) later ≡ true) ⊎ (all_below (e - (f + 1)) later ≡ false) → all_below (e - (f + 1)) later ≡ eqb (last_in p blk k c) f
+      go (inl y) =
+          rw y (last_here_lem (λ g h l. not-true _ (ap (λ (x : ℕ). not (holds p (frame p blk x) c)) (sym (at g h)) ∙ all_at (e - (f + 1)) later y (g - (f + 1)) (omega (arith, end)))))
+      go (inr y) =
+          let s = some_fails (e - (f + 1)) later y in
+          rw y (last_later (f + 1 + s.0) (omega arith) (omega (arith, s.1, end)) (not-false _ s.2))
 
 -- ---- places
 

@@ -12,7 +12,8 @@ use Rattle.lists.specs.Below.{all_below}
 use Rattle.lists.proofs.Tests.{all_at, all_below_intro, or_cases, never, so}
 use Rattle.bits.proofs.Words.{bits_none, bits_of}
 use Rattle.loops.proofs.Below.{all_fails}
-use borrow.Author.Tests.{not-true}
+use lib.Dec.{eqb}
+use borrow.Author.Tests.{eq-eqb, ne_eqb, not-true}
 use Rattle.check_marks.specs.Shown.{bit_in, only_in}
 
 -- what is left after i turns, and after one more
@@ -69,3 +70,10 @@ none_only w x small ne = go (so (only_in (λ f. false) w x))
     go : (only_in (λ f. false) w x ≡ true) ⊎ (only_in (λ f. false) w x ≡ false) → only_in (λ f. false) w x ≡ false
     go (inl h) = absurd (ne (bits_of 64 x small ∙ bits_none 64 (bit_in x) (clear h)))
     go (inr h) = h
+
+pub none_is : (w x : ℕ) → x < 2 ^ 64 → eqb x 0 ≡ only_in (λ f. false) w x
+none_is w x small = go (ℕ_discrete x 0)
+  where
+    go : Dec (x ≡ 0) → eqb x 0 ≡ only_in (λ f. false) w x
+    go (yes k) = rw (eq-eqb x 0 k, zero_only (λ f. false) w x k)
+    go (no k) = rw (ne_eqb x 0 k, none_only w x small k)

@@ -53,14 +53,7 @@ fn is_last(p: Params, blk: &[u8], k: usize, f: usize, c: Cluster) -> bool
     ensures { result ≡ eqb (last_in p blk.now k c.0) f }
 {
     let end = (k + 1) * p.beta;
-    let mut g = f + 1;
-    while g < end {
-        if chip_blocks::holds(p, chip_blocks::frame_of(p, blk, g), c) {
-            return false;
-        }
-        g += 1;
-    }
-    true
+    (f + 1..end).all(|g| !chip_blocks::holds(p, chip_blocks::frame_of(p, blk, g), c))
 }
 
 // True if frame f of virtual block v, whose bytes are lent, is valid. The place of its segment in the block is k.
@@ -74,7 +67,7 @@ pub fn is_valid(p: Params, blk: &[u8], ct: &[u16], v: VBlock, k: usize, f: usize
         return false;
     }
     let c = chip_spares::last_cluster(p, fr);
-    if chip_tables::ct_at(ct, c).0 != segment_in(p, v, k).0 {
+    if chip_tables::ct_at(ct, c) != segment_in(p, v, k) {
         return false;
     }
     is_last(p, blk, k, f, c)
@@ -125,12 +118,11 @@ fn held_ok(p: Params, blk: &[u8], ct: &[u16], marks: &[u64], r: usize, v: VBlock
     requires words_asked { WordsAsked p marks.now r v.0 }
     ensures { (vw : View) → Shows p r v.0 blk.now ct.now vw → result ≡ all_below 4 (word_only p marks.now r v.0 (marked p vw v.0)) }
 {
-    let mut w: usize = 0;
-    while w < 4 {
+    // Kept: what word_ok tells is of any view, which the law of a chain does not take.
+    for w in 0..4 {
         if !word_ok(p, blk, ct, v, w, chip_marks::word_at(p, marks, r, v, w)) {
             return false;
         }
-        w += 1;
     }
     true
 }
@@ -140,14 +132,7 @@ fn none_ok(p: Params, marks: &[u64], r: usize, v: VBlock) -> bool
     requires { WordsAsked p marks.now r v.0 }
     ensures { result ≡ all_below 4 (word_only p marks.now r v.0 (λ f. false)) }
 {
-    let mut w: usize = 0;
-    while w < 4 {
-        if chip_marks::word_at(p, marks, r, v, w) != 0 {
-            return false;
-        }
-        w += 1;
-    }
-    true
+    (0..4).all(|w| chip_marks::word_at(p, marks, r, v, w) == 0)
 }
 
 // True if each mark of virtual block v of region r is that of a valid frame, with or without a block.
@@ -163,9 +148,8 @@ pub fn marks_ok(
     requires { CheckAsked p chip.now ct.now bt.now marks.now r v.0 }
     ensures { result ≡ marks_valid p chip.now ct.now bt.now marks.now r v.0 }
 {
-    let n = chip_tables::bt_at(p, bt, r, v);
-    if n.0 == rules::NONE {
+    let Some(n) = chip_tables::block_named(p, bt, r, v) else {
         return none_ok(p, marks, r, v);
-    }
+    };
     held_ok(p, chip_blocks::block_of(p, chip, n), ct, marks, r, v)
 }

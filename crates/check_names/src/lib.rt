@@ -18,12 +18,11 @@ fn pair_ok(bt: &[u16], i: usize, j: usize) -> bool
     if i == j {
         return true;
     }
-    let n = chip_tables::bt_entry(bt, i);
-    if n.0 == rules::NONE {
+    let Some(n) = chip_tables::entry_named(bt, i) else {
         return true;
-    }
+    };
     let other = chip_tables::bt_entry(bt, j);
-    n.0 != other.0
+    n != other
 }
 
 // No other entry of BT names the block of entry i.
@@ -32,15 +31,7 @@ fn entry_once(p: Params, bt: &[u16], i: usize) -> bool
     requires i_bound { i < p.mu * p.gamma }
     ensures { result ≡ all_below (p.mu * p.gamma) (λ j. eqb i j || (eqb (bt_entry bt.now i) none || not (eqb (bt_entry bt.now i) (bt_entry bt.now j)))) }
 {
-    let m = bt.len();
-    let mut j = 0;
-    while j < m {
-        if !pair_ok(bt, i, j) {
-            return false;
-        }
-        j += 1;
-    }
-    true
+    (0..bt.len()).all(|j| pair_ok(bt, i, j))
 }
 
 // No block is named twice.
@@ -48,15 +39,7 @@ pub fn once_ok(p: Params, bt: &[u16]) -> bool
     requires { length bt.now ≡ p.mu * p.gamma }
     ensures { result ≡ once_rule p bt.now }
 {
-    let m = bt.len();
-    let mut i = 0;
-    while i < m {
-        if !entry_once(p, bt, i) {
-            return false;
-        }
-        i += 1;
-    }
-    true
+    (0..bt.len()).all(|i| entry_once(p, bt, i))
 }
 
 // BT names block n.
@@ -64,15 +47,7 @@ fn is_named(p: Params, bt: &[u16], n: PBlock) -> bool
     requires { length bt.now ≡ p.mu * p.gamma }
     ensures { result ≡ named p bt.now n.0 }
 {
-    let m = bt.len();
-    let mut at = 0;
-    while at < m {
-        if chip_tables::bt_entry(bt, at).0 == n.0 {
-            return true;
-        }
-        at += 1;
-    }
-    false
+    (0..bt.len()).any(|i| chip_tables::bt_entry(bt, i) == n)
 }
 
 // Block n is used exactly if BT names it.
@@ -94,13 +69,5 @@ pub fn used_ok(p: Params, bt: &[u16], bst: &[u8]) -> bool
     requires bst_len { length bst.now ≡ p.N }
     ensures { result ≡ used_rule p bt.now bst.now }
 {
-    let m = p.N;
-    let mut n = 0;
-    while n < m {
-        if !used_if_named(p, bt, bst, PBlock(n)) {
-            return false;
-        }
-        n += 1;
-    }
-    true
+    (0..p.N).all(|n| used_if_named(p, bt, bst, PBlock(n)))
 }

@@ -17,7 +17,7 @@ use Rattle.rules.specs.Tables.{none}
 use Rattle.rules.specs.Start.{in_use, names, names_full, names_open, region_named}
 use Rattle.rules.proofs.Sizes.{Sizes}
 use Rattle.chip_heads.specs.declared.Head.{Head}
-use Rattle.chip_heads.specs.Heads.{HeadOf}
+use Rattle.chip_heads.specs.Heads.{Names}
 use Rattle.check_pairs.specs.Rows.{Entered, Row}
 use Rattle.check_pairs.proofs.Pairs.{pairs_fail}
 use Rattle.check_pairs.proofs.Rows.{row_placed, row_same}
@@ -32,42 +32,39 @@ module _ (p : Params) (z : Sizes p) (chip : List ℕ) (r n : ℕ) (full part : L
         refused = λ f. absurd (never refl f);
       }
 
+  pub stays_unused : in_use p chip n ≡ false → Entered p chip r n true full part
+  stays_unused e = stays (λ v. unfold names in rw e)
+
   pub stays_elsewhere : (region_named p (block p chip n) ≡ r → ⊥) → Entered p chip r n true full part
   stays_elsewhere other = stays (λ v. unfold names in rw (ne_eqb (region_named p (block p chip n)) r other) (and-false (in_use p chip n)))
 
-module _ (p : Params) (z : Sizes p) (chip : List ℕ) (r n : ℕ) (low : n < p.N) (h : Head) (is : HeadOf p chip n h) where
+-- a block in use, by what its head says
+module _ (p : Params) (z : Sizes p) (chip : List ℕ) (r n : ℕ) (low : n < p.N) (h : Head) (is : (in_use p chip n ≡ true) × Names p (block p chip n) h) where
   -- ---- which virtual block it names
 
-  names_unused : h.used ≡ false → (v : ℕ) → names p chip r v n ≡ false
+  names_is : h.region ≡ r → (v : ℕ) → names p chip r v n ≡ eqb h.vblock.0 v
   unfolding names
-  names_unused e v = rw (sym is.used_is ∙ e)
-
-  names_is : h.used ≡ true → h.region ≡ r → (v : ℕ) → names p chip r v n ≡ eqb h.vblock.0 v
-  unfolding names
-  names_is e mine v = rw (sym is.used_is ∙ e, eq-eqb (region_named p (block p chip n)) r (sym (is.names e).region_is ∙ mine), ← (is.names e).vblock_is)
+  names_is mine v = rw (is.0, eq-eqb (region_named p (block p chip n)) r (sym is.1.region_is ∙ mine), ← is.1.vblock_is)
 
   -- ---- its place in the rows
 
   module _ (full part : List ℕ) (full-row : Row p (names_full p chip r) n full) (part-row : Row p (names_open p chip r) n part) where
-    pub enters_unused : h.used ≡ false → Entered p chip r n true full part
-    enters_unused e = stays p z chip r n full part full-row part-row (names_unused e)
-
-    pub enters_other : h.used ≡ true → (h.region ≡ r → ⊥) → Entered p chip r n true full part
-    enters_other e other = stays_elsewhere p z chip r n full part full-row part-row (λ q. other ((is.names e).region_is ∙ q))
+    pub enters_other : (h.region ≡ r → ⊥) → Entered p chip r n true full part
+    enters_other other = stays_elsewhere p z chip r n full part full-row part-row (λ q. other (is.1.region_is ∙ q))
 
     -- it names a virtual block of the region, and takes its place there, if that is free
-    module _ (e : h.used ≡ true) (mine : h.region ≡ r) where
+    module _ (mine : h.region ≡ r) where
       in_row : h.vblock.0 < p.gamma
-      in_row = (is.names e).vblock_low
+      in_row = is.1.vblock_low
 
       full_is_lem : is_full p (block p chip n) ≡ h.full
-      full_is_lem = sym (is.names e).full_is
+      full_is_lem = sym is.1.full_is
 
       names_here : names p chip r h.vblock.0 n ≡ true
-      names_here = names_is e mine h.vblock.0 ∙ eq-eqb h.vblock.0 h.vblock.0 refl
+      names_here = names_is mine h.vblock.0 ∙ eq-eqb h.vblock.0 h.vblock.0 refl
 
       names_no : (u : ℕ) → (u ≡ h.vblock.0 → ⊥) → names p chip r u n ≡ false
-      names_no u d = names_is e mine u ∙ ne_eqb h.vblock.0 u (λ q. d (sym q))
+      names_no u d = names_is mine u ∙ ne_eqb h.vblock.0 u (λ q. d (sym q))
 
       few : n ≤ none
       few = omega (arith, z.blocks)

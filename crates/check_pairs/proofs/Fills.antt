@@ -1,20 +1,15 @@
--- Both rows once a place was taken, and once every block has taken its own.
+-- Both rows once every block has taken its place.
 -- Assumes nothing.
-use mathlib.Core.Path.{◌≡◌, refl, sym}
-use mathlib.Core.Bool.{true, false}
+use mathlib.Core.Path.{◌≡◌, sym}
+use mathlib.Core.Bool.{true}
 use mathlib.Core.List.{List}
 use Prim.Native.Nat.{ℕ}
-use Rattle.lists.specs.Below.{all_below}
-use Rattle.lists.proofs.Tests.{never}
 use Rattle.rules.specs.declared.Params.{Params}
-use Rattle.rules.specs.Start.{names_full, names_open, pair_rule}
+use Rattle.rules.specs.Start.{names_full, names_open}
 use Rattle.check_pairs.specs.Rows.{Filled, Row}
 use Rattle.check_pairs.proofs.Pairs.{pairs_pass}
 
 module _ (p : Params) (chip : List ℕ) (r : ℕ) (full part : List ℕ) where
-  pub filled_not : all_below p.gamma (pair_rule p chip r) ≡ false → Filled p chip r false full part
-  filled_not e = record { said = sym e; full_row = λ t. absurd (never t refl); open_row = λ t. absurd (never t refl) }
-
   pub filled_all : (n : ℕ) → n ≡ p.N → Row p (names_full p chip r) n full → Row p (names_open p chip r) n part → Filled p chip r true full part
   filled_all n e a b =
       let f : Row p (names_full p chip r) p.N full = rw e at a in

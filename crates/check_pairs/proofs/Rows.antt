@@ -12,12 +12,11 @@ use native.Mathlib.Omega.{arith}
 use lib.Dec.{eqb}
 use lib.ListN.{get_or, get_or-replicate, length, length-replicate, length-set, replicate, set}
 use lib.Seq.{get_or-set_other, get_or-set_same}
-use borrow.Author.Tests.{eq-eqb, eqb-false, eqb-true, ne_eqb}
+use borrow.Author.Tests.{eqb-false, eqb-true}
 use Rattle.lists.specs.Below.{count_below, first_below}
 use Rattle.lists.proofs.Ranks.{rank_low}
 use Rattle.lists.proofs.Searches.{first_spec}
 use Rattle.lists.proofs.Tests.{count_is}
-use Rattle.loops.proofs.Elements.{default}
 use Rattle.rules.specs.declared.Params.{Params}
 use Rattle.rules.specs.Tables.{none}
 use Rattle.check_pairs.specs.Rows.{Row}
@@ -47,15 +46,6 @@ none_counted n f h e = go (first_spec none n f h)
     go : ((first_below none n f ≡ none) × ((i : ℕ) → i < n → f i ≡ false)) ⊎ ((first_below none n f < n) × (f (first_below none n f) ≡ true)) → count_below n f ≡ 0
     go (inl w) = count_is n 0 f (omega arith) (λ i k. absurd (omega arith)) (λ i a b. w.1 i b)
     go (inr w) = absurd (omega (arith, w.0, e, h))
-
--- ---- a place, as it is read
-
-module _ (row : List ℕ) (v : ℕ) (low : v < length row) where
-  pub place_taken : (get_or row v 0 ≡ none → ⊥) → false ≡ eqb (get_or row v none) none
-  place_taken ne = sym (ne_eqb (get_or row v none) none (λ e. ne (default row v 0 none low ∙ e)))
-
-  pub place_free : get_or row v 0 ≡ none → true ≡ eqb (get_or row v none) none
-  place_free e = sym (eq-eqb (get_or row v none) none (default row v none 0 low ∙ e))
 
 -- ---- a row
 
@@ -117,7 +107,3 @@ module _ (p : Params) (few : p.gamma ≤ 16) (kind : ℕ → ℕ → Bool) where
         → (ok ≡ true → row' ≡ set row v n) → (ok ≡ true → Row p kind (n + 1) row') × (ok ≡ false → 2 ≤ count_below m (kind v))
     row_placed others m h ok row' free put =
         (λ t. row_put (eqb-true _ _ (sym free ∙ t)) others row' (put t), λ t. row_taken m h (eqb-false _ _ (sym free ∙ t)))
-
--- a row is as long as it was lent
-pub as_lent : (p : Params) (kind : ℕ → ℕ → Bool) (n : ℕ) (row₀ row : List ℕ) → row₀ ≡ replicate 16 none → Row p kind n row → length row ≡ length row₀
-as_lent p kind n row₀ row e s = s.size ∙ sym (ap length e ∙ length-replicate 16 none)

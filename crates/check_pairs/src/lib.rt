@@ -33,10 +33,9 @@ fn place(p: Params, chip: &[u8], r: usize, full: &mut [u16], part: &mut [u16], n
     requires row_2 { Row p (names_open p chip.now r) n.0 part.old }
     ensures { Entered p chip.now r n.0 result full.new part.new }
 {
-    let h = chip_heads::head_of(p, chip, n);
-    if !h.used {
+    let Some(h) = chip_heads::head_of(p, chip, n) else {
         return true;
-    }
+    };
     if h.region != r {
         return true;
     }
@@ -67,13 +66,10 @@ fn fill(p: Params, chip: &[u8], r: usize, full: &mut [u16], part: &mut [u16]) ->
     requires part_value { part.old ≡ replicate 16 none }
     ensures { Filled p chip.now r result full.new part.new }
 {
-    let m = p.N;
-    let mut n = 0;
-    while n < m {
+    for n in 0..p.N {
         if !enter(p, chip, r, full, part, PBlock(n)) {
             return false;
         }
-        n += 1;
     }
     true
 }
@@ -98,22 +94,22 @@ fn open_of(full: u16, part: u16) -> bool
     false
 }
 
+// The same of virtual block v in both rows.
+fn keeps_open(full: &[u16], part: &[u16], v: usize) -> bool
+    requires v_in_bounds { v < length full.now }
+    requires v_in_bounds_2 { v < length part.now }
+    ensures { result ≡ open_of (get_or full.now v none) (get_or part.now v none) }
+{
+    open_of(full[v], part[v])
+}
+
 // How many virtual blocks keep a block that is not full.
 fn count_open(p: Params, full: &[u16], part: &[u16]) -> usize
     requires gamma_in_bounds { p.gamma ≤ length full.now }
     requires gamma_in_bounds_2 { p.gamma ≤ length part.now }
     ensures { result ≡ count_below p.gamma (λ v. open_of (get_or full.now v none) (get_or part.now v none)) }
 {
-    let m = p.gamma;
-    let mut k: usize = 0;
-    let mut v = 0;
-    while v < m {
-        if open_of(full[v], part[v]) {
-            k += 1;
-        }
-        v += 1;
-    }
-    k
+    (0..p.gamma).filter(|v| keeps_open(full, part, *v)).count()
 }
 
 // The row of full blocks becomes that of the kept ones.
@@ -123,11 +119,8 @@ fn keep(p: Params, full: &mut [u16], part: &[u16])
     ensures by_index { (v : ℕ) → v < p.gamma → get_or full.new v none ≡ kept_of (get_or full.old v none) (get_or part.now v none) }
     ensures full_len_unchanged { length full.new ≡ length full.old }
 {
-    let m = p.gamma;
-    let mut v = 0;
-    while v < m {
+    for v in 0..p.gamma {
         full[v] = kept_of(full[v], part[v]);
-        v += 1;
     }
 }
 

@@ -57,13 +57,5 @@ pub fn sounds_ok(p: Params, chip: &[u8]) -> bool
     requires chip_len { length chip.now ≡ chip_bytes p }
     ensures { result ≡ sound_rule p chip.now }
 {
-    let m = p.N;
-    let mut n = 0;
-    while n < m {
-        if !sound_ok(p, chip, PBlock(n)) {
-            return false;
-        }
-        n += 1;
-    }
-    true
+    (0..p.N).all(|n| sound_ok(p, chip, PBlock(n)))
 }

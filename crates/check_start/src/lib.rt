@@ -40,15 +40,7 @@ fn regions_ok(p: Params, chip: &[u8]) -> bool
     requires { Asked p chip.now }
     ensures { result ≡ all_below p.mu (region_starts p chip.now (found_bt p chip.now)) }
 {
-    let m = p.mu;
-    let mut r = 0;
-    while r < m {
-        if !region_ok(p, chip, r) {
-            return false;
-        }
-        r += 1;
-    }
-    true
+    (0..p.mu).all(|r| region_ok(p, chip, r))
 }
 
 // True if the chip can be started from.

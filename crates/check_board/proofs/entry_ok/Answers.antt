@@ -1,11 +1,23 @@
 -- `check_board::entry_ok`: test by test.
 -- Assumes nothing.
+use mathlib.Core.Path.{◌∙◌, ◌≡◌}
+use mathlib.Core.Bool.{not}
+use Prim.Native.Nat.{◌<◌, ℕ}
 use native.Mathlib.Omega.{arith}
+use lib.Dec.{eqb}
+use Rattle.std.specs.Option.{is_some}
+use Rattle.std.specs.Prelude.{MatchOption, None, Option, Some}
+use Rattle.rules.specs.declared.PBlock.{PBlock}
+use Rattle.rules.specs.Tables.{none}
 use borrow.Author.Tests.{le-ltb, lt-ltb}
 use Rattle.rules.proofs.Sizes.{sizes}
-use Rattle.check_blocks.proofs.Blocks.{vblock_low_lem}
+use Rattle.check_blocks.proofs.Blocks.{not_none, vblock_low_lem}
 use Rattle.check_board.specs.Order.{entry_ok}
 use Rattle.check_board.proofs.entry_ok.Goals as goal
+
+some_is : (o : Option PBlock) (x : ℕ) → MatchOption o (x ≡ none) (λ n. (n.0 ≡ x) × (n.0 < none)) → is_some o ≡ not (eqb x none)
+some_is None x h = rw h
+some_is (Some n) x h = rw (← h.0, not_none n.0 h.1)
 
 pub empty_at-requires : goal.empty_at-requires
 empty_at-requires c =
@@ -32,14 +44,11 @@ vblock_of-requires c =
       sg_bound = omega (arith, c.requires.sg_bound);
     }
 
-pub bt_at-requires : goal.bt_at-requires
-bt_at-requires c =
-    record {
-      bt_len = c.requires.bt_len;
-      r_lt_mu = c.requires.r_lt_mu;
-      v_lt_gamma = rw c.vblock_of.ensures (vblock_low_lem _ _ _ (sizes _ c.requires.p_value).segments c.if-sg-p.false);
-    }
+pub block_named-requires-clause-v_lt_gamma : goal.block_named-requires-clause-v_lt_gamma
+block_named-requires-clause-v_lt_gamma c = rw c.vblock_of.ensures (vblock_low_lem _ _ _ (sizes _ c.requires.p_value).segments c.if-sg-p.false)
 
 pub returns : goal.returns
 unfolding entry_ok
-returns c = rw (← c.empty_at.ensures, c.if-empty_at.false, lt-ltb _ _ c.if-sg-p.false, ← c.vblock_of.ensures, ← c.bt_at.ensures.result_value)
+returns c =
+    rw (← c.empty_at.ensures, c.if-empty_at.false, lt-ltb _ _ c.if-sg-p.false, ← c.vblock_of.ensures)
+    (c.is_some.ensures ∙ some_is c.block_named.result _ c.block_named.ensures)

@@ -1,24 +1,18 @@
 -- `check_entries::cluster_ok`: by whether CT has a segment.
 -- Assumes nothing.
-use borrow.Author.Tests.{eq-eqb, ne_eqb}
-use Rattle.rules.specs.Tables.{none}
+use native.Mathlib.Nat.{mod-lt}
+use Rattle.rules.proofs.Sizes.{sizes}
 use Rattle.check_rules.specs.Check.{cluster_ok}
+use Rattle.check_blocks.proofs.Blocks.{not_none}
 use Rattle.check_entries.proofs.cluster_ok.Goals as goal
 
-pub ct_at-sg-requires : goal.ct_at-sg-requires
-ct_at-sg-requires c = c.requires.c_in_bounds
-
-pub returns-then-sg-eq-NONE : goal.returns-then-sg-eq-NONE
+pub returns-in_default : goal.returns-in_default
 unfolding cluster_ok
-returns-then-sg-eq-NONE c = rw (← c.ct_at-sg.ensures.result_value, eq-eqb _ none c.if-sg-eq-NONE.true)
+returns-in_default c = rw c.in_default.ensures
 
-pub segment_ok-requires : goal.segment_ok-requires
-segment_ok-requires c =
-    record {
-      lent = c.requires.lent;
-      r_lt_mu = c.requires.r_lt_mu;
-    }
+pub segment_ok-requires-clause-r_lt_mu : goal.segment_ok-requires-clause-r_lt_mu
+segment_ok-requires-clause-r_lt_mu c = rw c.region_of-r.ensures (mod-lt c.args.c.0 (sizes _ c.requires.lent.fine).regions)
 
 pub returns : goal.returns
 unfolding cluster_ok
-returns c = rw (← c.ct_at-sg.ensures.result_value, ne_eqb c.ct_at-sg.result.0 none c.if-sg-eq-NONE.false) c.segment_ok.ensures
+returns c = rw (← c.region_of-r.ensures, ← c.in-Some.ensures.0, not_none c.in-Some.sg.0 c.in-Some.ensures.1) c.segment_ok.ensures

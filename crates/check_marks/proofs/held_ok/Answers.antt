@@ -1,9 +1,7 @@
 -- `check_marks::held_ok`: every word passed has marks of valid frames alone, of any view that shows the lent bytes.
 -- Assumes nothing.
 use mathlib.Core.Path.{ap, sym, ◌∙◌}
-use mathlib.Core.Bool.{true}
 use native.Mathlib.Omega.{arith}
-use borrow.Author.Tests.{not-false, not-true}
 use Rattle.loops.proofs.Below.{all_end, all_fails, all_more, all_start}
 use Rattle.rules.specs.Marks.{marked}
 use Rattle.check_marks.specs.Shown.{only_in}
@@ -30,13 +28,7 @@ pub returns-then-not-word_ok : goal.returns-then-not-word_ok
 returns-then-not-word_ok c =
     λ vw s. sym (all_fails _ c.loop-w.w _ c.loop-w-test.true
     (ap (only_in (marked c.args.p vw c.args.v.0) c.loop-w.w) (sym c.word_at.ensures) ∙ sym (c.word_ok.ensures _ vw s) ∙
-    not-true _ c.if-not-word_ok.true-raw))
-
-pub overflow_add-w : goal.overflow_add-w
-overflow_add-w c = omega arith
-
-pub loop-w-smaller : goal.loop-w-smaller
-loop-w-smaller c = omega arith
+    c.if-not-word_ok.true))
 
 pub loop-w-preserved : goal.loop-w-preserved
 loop-w-preserved c = (
@@ -44,7 +36,7 @@ loop-w-preserved c = (
   λ vw s.
       all_more _ _ (c.loop-w.invariant.1 vw s)
       (ap (only_in (marked c.args.p vw c.args.v.0) c.loop-w.w) (sym c.word_at.ensures) ∙ sym (c.word_ok.ensures _ vw s)
-      ∙ not-false _ c.if-not-word_ok.false-raw),
+      ∙ c.if-not-word_ok.false),
 )
 
 pub returns : goal.returns

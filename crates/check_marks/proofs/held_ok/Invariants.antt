@@ -2,7 +2,7 @@
 -- Assumes nothing.
 use mathlib.Core.Path.{◌≡◌}
 use mathlib.Core.Bool.{true}
-use Prim.Native.Nat.{◌-◌, ◌≤◌}
+use Prim.Native.Nat.{◌≤◌}
 use Rattle.lists.specs.Below.{all_below}
 use Rattle.rules.specs.Regions.{View}
 use Rattle.rules.specs.Marks.{marked}
@@ -11,6 +11,3 @@ use Rattle.check_marks.proofs.held_ok.Given as goal
 
 abbrev pub invariant-loop-w : goal.invariant-loop-w
 invariant-loop-w l = (l.w ≤ 4) × ((vw : View) → Shows l.p l.r l.v.0 l.blk l.ct vw → all_below l.w (word_only l.p l.marks l.r l.v.0 (marked l.p vw l.v.0)) ≡ true)
-
-abbrev pub decreases-loop-w : goal.decreases-loop-w
-decreases-loop-w l = 4 - l.w

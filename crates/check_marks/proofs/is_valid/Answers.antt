@@ -1,7 +1,8 @@
 -- `check_marks::is_valid`: test by test, each a law of the rule.
 -- Assumes nothing.
 use mathlib.Core.Path.{sym, ◌∙◌}
-use borrow.Author.Tests.{not-true, not-false}
+use borrow.Author.Tests.{eq-eqb, eqb-true, not-true, not-false}
+use Rattle.lists.proofs.Tests.{never}
 use Rattle.check_marks.proofs.Tested.{cluster_low, first_says, holds_at, place_is_low, begun, stale, last}
 use Rattle.check_marks.proofs.is_valid.Goals as goal
 
@@ -21,11 +22,12 @@ segment_in-requires c =
       k_lt_d = place_is_low _ _ _ _ _ c.requires.one_frame _ c.requires.k_value;
     }
 
-pub returns-then-ct_at-segment_in : goal.returns-then-ct_at-segment_in
-returns-then-ct_at-segment_in c =
+pub returns-then-ne : goal.returns-then-ne
+returns-then-ne c =
     λ r vw s. stale _ _ _ _ _ c.requires.one_frame r vw s _ c.frame_of-fr.ensures.result_value (sym c.is_whole.ensures ∙ not-false _ c.if-not-is_whole.false-raw) _
     (first_says _ _ _ _ _ c.requires.one_frame _ c.frame_of-fr.ensures.result_value (sym c.is_whole.ensures ∙ not-false _ c.if-not-is_whole.false-raw) _
-    c.last_cluster-c.ensures) _ _ _ c.requires.k_value c.ct_at.ensures.result_value c.segment_in.ensures c.if-ct_at-segment_in.true
+    c.last_cluster-c.ensures) _ _ _ c.requires.k_value c.ct_at.ensures.result_value c.segment_in.ensures
+    (λ e. never (eq-eqb c.ct_at.result.0 c.segment_in.result.0 e) (not-true _ (sym c.ne.ensures ∙ c.if-ne.true)))
 
 pub is_last-requires : goal.is_last-requires
 is_last-requires c =
@@ -38,4 +40,4 @@ returns c =
     λ r vw s. last _ _ _ _ _ c.requires.one_frame r vw s _ c.frame_of-fr.ensures.result_value (sym c.is_whole.ensures ∙ not-false _ c.if-not-is_whole.false-raw) _
     (first_says _ _ _ _ _ c.requires.one_frame _ c.frame_of-fr.ensures.result_value (sym c.is_whole.ensures ∙ not-false _ c.if-not-is_whole.false-raw) _
     c.last_cluster-c.ensures) _ _ _ _ c.requires.k_value
-    c.ct_at.ensures.result_value c.segment_in.ensures c.if-ct_at-segment_in.false c.is_last.ensures
+    c.ct_at.ensures.result_value c.segment_in.ensures (eqb-true c.ct_at.result.0 c.segment_in.result.0 (not-false _ (sym c.ne.ensures ∙ c.if-ne.false))) c.is_last.ensures

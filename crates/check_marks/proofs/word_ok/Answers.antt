@@ -1,7 +1,7 @@
 -- `check_marks::word_ok`: each bit passed is that of a valid frame or clear; what is left of the word has the other bits.
 -- Assumes nothing.
 use mathlib.Core.Path.{ap, sym, ◌∙◌}
-use mathlib.Core.Bool.{true, not, ◌||◌}
+use mathlib.Core.Bool.{not, ◌||◌}
 use Prim.Native.Nat.{ℕ, ◌*◌, ◌+◌, ◌/◌, ◌%◌, ◌<◌}
 use native.Mathlib.Nat.{add_assoc, add-zero, div-one}
 use native.Mathlib.Omega.{arith}

@@ -1,33 +1,9 @@
--- `check_start::regions_ok`: every region passed can be started from.
+-- `check_start::regions_ok`: every region can be started from.
 -- Assumes nothing.
-use mathlib.Core.Path.{sym, ◌∙◌}
-use mathlib.Core.Bool.{true}
-use native.Mathlib.Omega.{arith}
-use borrow.Author.Tests.{not-false, not-true}
-use Rattle.loops.proofs.Below.{all_end, all_fails, all_more, all_start}
+use mathlib.Core.Path.{refl}
+use Rattle.std.proofs.Common.{rules, tests}
+use Rattle.loops.proofs.Ranges.{all_run}
 use Rattle.check_start.proofs.regions_ok.Goals as goal
 
-pub loop-r-init : goal.loop-r-init
-loop-r-init c = (omega arith, all_start _)
-
-pub region_ok-requires : goal.region_ok-requires
-region_ok-requires c =
-    record {
-      asked = c.requires;
-      r_lt_mu = c.loop-r-test.true;
-    }
-
-pub returns-then-not-region_ok : goal.returns-then-not-region_ok
-returns-then-not-region_ok c = sym (all_fails _ c.loop-r.r _ c.loop-r-test.true (sym c.region_ok.ensures ∙ not-true _ c.if-not-region_ok.true-raw))
-
-pub overflow_add-r : goal.overflow_add-r
-overflow_add-r c = omega arith
-
-pub loop-r-smaller : goal.loop-r-smaller
-loop-r-smaller c = omega arith
-
-pub loop-r-preserved : goal.loop-r-preserved
-loop-r-preserved c = (omega arith, all_more _ _ c.loop-r.invariant.1 (sym c.region_ok.ensures ∙ not-false _ c.if-not-region_ok.false-raw))
-
 pub returns : goal.returns
-returns c = sym (all_end _ _ _ (omega arith) c.loop-r.invariant.1)
+returns c = all_run _ _ _ _ refl c.all.ensures.ran (λ x b q k. search (rules, tests))

@@ -2,17 +2,11 @@
 -- Assumes nothing.
 use mathlib.Core.Path.{◌≡◌}
 use mathlib.Core.Bool.{true}
-use Prim.Native.Nat.{◌-◌, ◌≤◌}
+use Prim.Native.Nat.{◌≤◌}
 use lib.Dec.{eqb, leb}
-use lib.ListN.{length}
 use Rattle.lists.specs.Below.{all_below, count_below}
 use Rattle.rules.specs.Tables.{bst_at}
 use Rattle.check_tables.proofs.kinds_ok.Given as goal
 
-abbrev pub invariant-loop-n : goal.invariant-loop-n
-invariant-loop-n l =
-    (l.n ≤ length l.bst) × (l.used ≤ l.n) × (all_below l.n (λ n'. leb (bst_at l.bst n') 2) ≡ true)
-    × (l.used ≡ count_below l.n (λ n'. eqb (bst_at l.bst n') 1))
-
-abbrev pub decreases-loop-n : goal.decreases-loop-n
-decreases-loop-n l = length l.bst - l.n
+abbrev pub invariant-loop-s : goal.invariant-loop-s
+invariant-loop-s l = (l.used ≤ l.s-index) × (all_below l.s-index (λ n. leb (bst_at l.bst n) 2) ≡ true) × (l.used ≡ count_below l.s-index (λ n. eqb (bst_at l.bst n) 1))
