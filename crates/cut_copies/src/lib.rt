@@ -16,10 +16,7 @@ use rules::{PBlock, Params, VBlock};
 fn least(x: usize, y: usize) -> usize
     ensures { result ≡ min x y }
 {
-    if x < y {
-        return x;
-    }
-    y
+    if x < y { x } else { y }
 }
 
 // Where frame f of block o has a mark, its copy is frame j of block n: those of its pages are made that are among the first k of all copies.
@@ -69,11 +66,8 @@ pub fn copy_first(
     ensures { (m : Marks) → marks.now ≡ table_of p m
         → chip.new ≡ replay_chip p chip.old (take k (frames_ops p n.0 0 (marked_frames p (block p chip.old o.0) (m r v.0)))) }
 {
-    let all = chip_sizes::frames(p);
-    let mut j: usize = 0;
-    let mut f: usize = 0;
-    while f < all {
+    let mut j = 0;
+    for f in 0..chip_sizes::frames(p) {
         j += copy_turn(p, chip, marks, o, n, r, v, f, j, k);
-        f += 1;
     }
 }

@@ -35,12 +35,9 @@ pub fn count_listed(p: Params, bst: &[u8], wear: &[u32]) -> usize
     requires wear_len { length wear.now ≡ p.N }
     ensures { result ≡ length (erase_where p wear.now (listed bst.now)) }
 {
-    let m = p.N;
     let mut k: usize = 0;
-    let mut n: usize = 0;
-    while n < m {
+    for n in 0..p.N {
         k += ops_of(p, bst, wear, PBlock(n));
-        n += 1;
     }
     k
 }
@@ -79,12 +76,9 @@ fn erase_first(p: Params, chip: &mut [u8], bst: &[u8], wear: &mut [u32], k: usiz
     ensures chip_after { chip.new ≡ replay_chip p chip.old (take k (erase_where p wear.old (listed bst.now))) }
     ensures wear_after { wear.new ≡ replay_wear wear.old (take k (erase_where p wear.old (listed bst.now))) }
 {
-    let m = p.N;
     let mut left = k;
-    let mut n: usize = 0;
-    while n < m {
+    for n in 0..p.N {
         left -= erase_listed(p, chip, bst, wear, PBlock(n), left);
-        n += 1;
     }
 }
 

@@ -14,7 +14,7 @@ use Rattle.rules.specs.Pages.{block}
 use Rattle.rules.specs.Marks.{Marks, marks_of, marks_on, table_of}
 use Rattle.rules.specs.Regions.{view}
 use Rattle.rules.specs.Traces.{Op, erase, erase_ops, frame_ops, frames_ops, on_chip, on_wear, replay_chip, replay_wear}
-use Rattle.rules.specs.Write.{Plan, continues, opens, reclaims, copies, new_frame, next_stamp, plan_block, plan_frame, plan_of, plan_ops, plan_vblock, room_ops, victim_ops, write_ops}
+use Rattle.rules.specs.Write.{Plan, continues, opens, reclaims, new_frame, next_stamp, plan_block, plan_frame, plan_of, plan_ops, plan_vblock, room_ops, victim_ops, write_ops}
 use Rattle.rules.specs.Requests.{Request, request_region}
 use Rattle.rules.proofs.Chip.{replay_append}
 use Rattle.starts.proofs.Prefixes.{frame_length, take_frame}

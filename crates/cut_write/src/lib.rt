@@ -187,7 +187,7 @@ fn cut(
         lba,
         count,
         bytes,
-        old,
+        old.spot,
         v,
         f,
         k - room,
@@ -275,13 +275,12 @@ pub fn write_limited(
 {
     let r = rules::region_of(p, rules::cluster_of(p, lba));
     let pl = write_plan::plan_of(p, chip, bt, fst, marks, r);
-    let n = write_room::plan_block(p, bt, bst, wear, r, pl);
-    if n.0 == rules::NOT_FOUND {
+    let Some(n) = write_room::plan_block(p, bt, bst, wear, r, pl) else {
         return Limited {
             answer: write_work::no_block_left(),
             left: budget,
         };
-    }
+    };
     limit_planned(
         p, chip, ct, bt, fst, bst, wear, marks, stamps, lba, count, bytes, budget, r, pl, n,
     )

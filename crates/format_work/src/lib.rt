@@ -14,11 +14,7 @@ use rules::{PBlock, Params};
 pub fn clear(table: &mut [u16])
     ensures { table.new ≡ replicate (length table.old) none }
 {
-    let mut i = 0;
-    while i < table.len() {
-        table[i] = rules::NONE as u16;
-        i += 1;
-    }
+    table.fill(rules::NONE as u16);
 }
 
 // What BST has for block n while none is used: reserved where it is bad, else free.
@@ -41,11 +37,8 @@ pub fn reserve_bad(p: Params, chip: &[u8], bst: &mut [u8])
     requires bst_len { length bst.old ≡ p.N }
     ensures { bst.new ≡ list_below p.N (λ n. cond (bad p chip.now n) 2 0) }
 {
-    let m = p.N;
-    let mut n = 0;
-    while n < m {
+    for n in 0..p.N {
         bst[n] = kind_of(p, chip, PBlock(n));
-        n += 1;
     }
 }
 
@@ -68,12 +61,9 @@ pub fn format_blocks(p: Params, chip: &mut [u8], bst: &mut [u8], wear: &mut [u32
     requires { BlocksAsked p chip.old bst.old wear.old }
     ensures { BlocksDone p chip.old wear.old chip.new bst.new wear.new result }
 {
-    let m = p.N;
     let mut k: usize = 0;
-    let mut n: usize = 0;
-    while n < m {
+    for n in 0..p.N {
         k += format_block(p, chip, bst, wear, PBlock(n));
-        n += 1;
     }
     k
 }

@@ -1,15 +1,14 @@
 -- The lookup of a cluster's valid frame, over the values that the code has on its way.
 -- Assumes nothing.
-use mathlib.Core.Path.{◌≡◌, refl, sym, ◌∙◌}
+use mathlib.Core.Path.{◌≡◌, sym, ◌∙◌}
 use mathlib.Core.Bool.{true, false}
 use mathlib.Core.List.{List}
 use Prim.Native.Nat.{ℕ, ◌+◌, ◌*◌, ◌≤◌, ◌<◌}
 use native.Mathlib.Nat.{mod-lt}
 use native.Mathlib.Omega.{arith}
 use lib.Dec.{eqb}
-use borrow.Author.Tests.{eq-eqb, ne_eqb}
+use borrow.Author.Tests.{ne_eqb}
 use lib.ListN.{length}
-use Rattle.lists.proofs.Tests.{never}
 use Rattle.rules.specs.declared.Params.{Params}
 use Rattle.rules.specs.Parameters.{frames, chip_bytes}
 use Rattle.rules.specs.Numbers.{region_of, vblock_of, place_of}
@@ -29,12 +28,6 @@ module _ (p : Params) (chip ct bt : List ℕ) (c : ℕ) (l : Lookup p chip ct bt
 
   module _ (sg : ℕ) (is : sg ≡ ct_at ct c) where
     -- CT has none
-    pub not_kept : sg ≡ 65535 → Stands p chip ct bt c false 0
-    not_kept e = let k : eqb (ct_at ct c) none ≡ true = eq-eqb _ _ (sym is ∙ e) in record { has = rw k; at = rw k }
-
-    pub nowhere : Within p chip ct bt c false 0 0
-    nowhere = record { vblock = λ k. absurd (never k refl); inner = λ k. absurd (never k refl) }
-
     pub no_looks : sg ≡ 65535 → Looked p chip ct bt c 0
     no_looks e = record { is = λ fst. sym (looks_none p chip ct bt fst c (sym is ∙ e)); few = omega arith }
 

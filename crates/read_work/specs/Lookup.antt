@@ -1,12 +1,26 @@
 -- Where a cluster's valid frame stands on the chip: what the lookup asks of the tables, and what it finds.
 -- Assumes nothing.
-use Rattle.std.specs.Prelude.{◌≡◌, Bool, true, not, cond, List, ℕ, ◌+◌, ◌*◌, ◌≤◌, ◌<◌, eqb, length}
+use Rattle.std.specs.Prelude.{◌≡◌, Bool, true, not, cond, List, ℕ, ◌+◌, ◌*◌, ◌≤◌, ◌<◌, eqb, length, None, Option, Some}
 use Rattle.rules.specs.declared.Params.{Params}
 use Rattle.rules.specs.Parameters.{allowed, frames, block_bytes}
 use Rattle.rules.specs.Numbers.{region_of, vblock_of, place_of}
 use Rattle.rules.specs.Tables.{none, ct_at, bt_at}
 use Rattle.rules.specs.Pages.{block, last_in}
 use Rattle.rules.specs.Regions.{looks_in, view_of}
+use Rattle.read_work.specs.declared.Spot.{Spot}
+
+-- where a cluster stands: its frame, its virtual block, and the frame within that; 0 where it is not kept
+abbrev pub spot_frame : Option Spot → ℕ
+spot_frame None = 0
+spot_frame (Some s) = s.frame
+
+abbrev pub spot_vblock : Option Spot → ℕ
+spot_vblock None = 0
+spot_vblock (Some s) = s.vblock.0
+
+abbrev pub spot_inner : Option Spot → ℕ
+spot_inner None = 0
+spot_inner (Some s) = s.inner
 
 -- the physical block that has the segment which CT names for cluster c
 unfoldable pub block_for : Params → List ℕ → List ℕ → ℕ → ℕ

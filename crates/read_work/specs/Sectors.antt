@@ -5,7 +5,6 @@ use Rattle.lists.specs.Parts.{part}
 use Rattle.rules.specs.declared.Params.{Params}
 use Rattle.rules.specs.Parameters.{allowed, page_bytes, frame_bytes}
 use Rattle.rules.specs.Numbers.{cluster_of, sector_of}
-use Rattle.rules.specs.Requests.{Request}
 use Rattle.read_work.specs.Lookup.{Lookup}
 
 -- sector j of a cluster that is kept in this frame of the chip: the data bytes of the frame's page j; 255 where it is not kept

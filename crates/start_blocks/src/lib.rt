@@ -16,8 +16,10 @@ fn name_full(p: Params, chip: &[u8], bt: &mut [u16], n: PBlock)
     requires { BlockAsked p chip.now bt.old n.0 }
     ensures { bt.new ≡ cond (in_use p chip.now n.0 && is_full p (block p chip.now n.0)) (set bt.old (index_named p (block p chip.now n.0)) n.0) bt.old }
 {
-    let h = chip_heads::head_of(p, chip, n);
-    if h.used & h.full {
+    let Some(h) = chip_heads::head_of(p, chip, n) else {
+        return;
+    };
+    if h.full {
         chip_tables::set_bt(p, bt, h.region, h.vblock, n);
     }
 }
@@ -28,11 +30,8 @@ fn name_fulls(p: Params, chip: &[u8], bt: &mut [u16])
     requires bt_value { bt.old ≡ fulls_to p chip.now 0 }
     ensures { bt.new ≡ fulls_to p chip.now p.N }
 {
-    let m = p.N;
-    let mut n = 0;
-    while n < m {
+    for n in 0..p.N {
         name_full(p, chip, bt, PBlock(n));
-        n += 1;
     }
 }
 
@@ -42,14 +41,13 @@ fn name_open(p: Params, chip: &mut [u8], bt: &mut [u16], wear: &mut [u32], n: PB
     requires wear_len { length wear.old ≡ p.N }
     ensures { OpenDone p chip.old bt.old wear.old n.0 chip.new bt.new wear.new result }
 {
-    let h = chip_heads::head_of(p, chip, n);
-    if !h.used {
+    let Some(h) = chip_heads::head_of(p, chip, n) else {
         return 0;
-    }
+    };
     if h.full {
         return 0;
     }
-    if chip_tables::bt_at(p, bt, h.region, h.vblock).0 == rules::NONE {
+    if chip_tables::block_named(p, bt, h.region, h.vblock).is_none() {
         chip_tables::set_bt(p, bt, h.region, h.vblock, n);
         return 0;
     }
@@ -64,12 +62,9 @@ fn name_opens(p: Params, chip: &mut [u8], bt: &mut [u16], wear: &mut [u32]) -> u
     requires bt_value { bt.old ≡ fulls_to p chip.old p.N }
     ensures { Kept p chip.old wear.old chip.new bt.new wear.new result }
 {
-    let m = p.N;
-    let mut k: usize = 0;
-    let mut n: usize = 0;
-    while n < m {
+    let mut k = 0;
+    for n in 0..p.N {
         k += name_open(p, chip, bt, wear, PBlock(n));
-        n += 1;
     }
     k
 }
@@ -80,8 +75,7 @@ fn set_used(bt: &[u16], bst: &mut [u8], i: usize)
     requires i_in_bounds_2 { (bt_entry bt.now i ≡ none → ⊥) → bt_entry bt.now i < length bst.old }
     ensures { bst.new ≡ cond (eqb (bt_entry bt.now i) none) bst.old (set bst.old (bt_entry bt.now i) 1) }
 {
-    let n = chip_tables::bt_entry(bt, i);
-    if n.0 != rules::NONE {
+    if let Some(n) = chip_tables::entry_named(bt, i) {
         chip_tables::set_bst(bst, n, rules::USED);
     }
 }
@@ -92,11 +86,8 @@ fn use_named(bt: &[u16], bst: &mut [u8])
     requires by_index { (i : ℕ) → i < length bt.now → (bt_entry bt.now i ≡ none → ⊥) → bt_entry bt.now i < length bst.old }
     ensures { (bad : ℕ → Bool) → ((i : ℕ) → i < length bt.now → (bt_entry bt.now i ≡ none → ⊥) → bad (bt_entry bt.now i) ≡ false) → bst.old ≡ list_below (length bst.old) (λ n. cond (bad n) 2 0) → bst.new ≡ list_below (length bst.old) (λ n. cond (bad n) 2 (cond (named_by bt.now (length bt.now) n) 1 0)) }
 {
-    let m = bt.len();
-    let mut i = 0;
-    while i < m {
+    for i in 0..bt.len() {
         set_used(bt, bst, i);
-        i += 1;
     }
 }
 
@@ -127,14 +118,13 @@ fn left_kind(p: Params, chip: &[u8], bt: &[u16], n: PBlock) -> u8
     requires { BlockAsked p chip.now bt.now n.0 }
     ensures { result ≡ cond (too_many p chip.now bt.now n.0) 0 2 }
 {
-    let h = chip_heads::head_of(p, chip, n);
-    if !h.used {
+    let Some(h) = chip_heads::head_of(p, chip, n) else {
         return rules::RESERVED;
-    }
+    };
     if h.full {
         return rules::RESERVED;
     }
-    if chip_tables::bt_at(p, bt, h.region, h.vblock).0 == rules::NONE {
+    if chip_tables::block_named(p, bt, h.region, h.vblock).is_none() {
         return rules::RESERVED;
     }
     rules::FREE
@@ -147,11 +137,8 @@ fn list_kinds(p: Params, chip: &[u8], bt: &[u16], bst: &mut [u8])
     requires bst_len { length bst.old ≡ p.N }
     ensures { bst.new ≡ list_below p.N (λ n. cond (left_over p chip.now n) 0 2) }
 {
-    let m = p.N;
-    let mut n = 0;
-    while n < m {
+    for n in 0..p.N {
         bst[n] = left_kind(p, chip, bt, PBlock(n));
-        n += 1;
     }
 }
 

@@ -62,11 +62,8 @@ fn take_region(p: Params, chip: &[u8], bt: &[u16], ct: &mut [u16], r: usize)
     requires ct_value { ct.old ≡ newest_frames p chip.now bt.now r 0 }
     ensures { ct.new ≡ newest_frames p chip.now bt.now (r + 1) 0 }
 {
-    let n = start_found::region_frames(p);
-    let mut i = 0;
-    while i < n {
+    for i in 0..start_found::region_frames(p) {
         take_frame(p, chip, bt, ct, r, i);
-        i += 1;
     }
 }
 
@@ -76,11 +73,8 @@ fn take_regions(p: Params, chip: &[u8], bt: &[u16], ct: &mut [u16])
     requires ct_value { ct.old ≡ newest_frames p chip.now bt.now 0 0 }
     ensures { ct.new ≡ newest_frames p chip.now bt.now p.mu 0 }
 {
-    let m = p.mu;
-    let mut r = 0;
-    while r < m {
+    for r in 0..p.mu {
         take_region(p, chip, bt, ct, r);
-        r += 1;
     }
 }
 
@@ -100,10 +94,8 @@ fn to_segments(p: Params, ct: &mut [u16])
     requires { allowed p ≡ true }
     ensures { ct.new ≡ list_below (length ct.old) (λ c. segment_at p (ct_at ct.old c)) }
 {
-    let mut c = 0;
-    while c < ct.len() {
-        ct[c] = segment_at(p, ct[c]);
-        c += 1;
+    for c in ct.iter_mut() {
+        *c = segment_at(p, *c);
     }
 }
 
@@ -146,12 +138,9 @@ fn last_stamp(p: Params, chip: &[u8], bt: &[u16], r: usize) -> u32
     requires r_lt_mu { r < p.mu }
     ensures { result ≡ largest_stamp p (found_view p chip.now bt.now r) }
 {
-    let n = start_found::region_frames(p);
-    let mut last: u32 = 0;
-    let mut i = 0;
-    while i < n {
+    let mut last = 0;
+    for i in 0..start_found::region_frames(p) {
         last = larger_stamp(p, chip, bt, r, i, last);
-        i += 1;
     }
     last
 }
@@ -162,10 +151,7 @@ pub fn fill_stamps(p: Params, chip: &[u8], bt: &[u16], stamps: &mut [u32])
     requires stamps_len { length stamps.old ≡ p.mu }
     ensures { stamps.new ≡ list_below p.mu (λ r. largest_stamp p (found_view p chip.now bt.now r)) }
 {
-    let m = p.mu;
-    let mut r = 0;
-    while r < m {
+    for r in 0..p.mu {
         stamps[r] = last_stamp(p, chip, bt, r);
-        r += 1;
     }
 }

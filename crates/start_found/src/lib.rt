@@ -27,7 +27,7 @@ pub fn has_frame(p: Params, bt: &[u16], r: usize, i: usize) -> bool
     ensures { result ≡ not (eqb (bt_at p bt.now r (i / frames p)) none) }
 {
     let v = i / chip_sizes::frames(p);
-    chip_tables::bt_at(p, bt, r, VBlock(v)).0 != rules::NONE
+    chip_tables::block_named(p, bt, r, VBlock(v)).is_some()
 }
 
 // Frame i of region r, where its virtual block has a block.

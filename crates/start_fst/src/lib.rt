@@ -9,7 +9,7 @@ ghost use Rattle.rules.specs.Tables.{bt_at, none, not_found};
 ghost use Rattle.rules.specs.Pages.{block, filled};
 ghost use Rattle.rules.specs.Start.{found_fst, found_view, is_open};
 ghost use Rattle.start_found.specs.Found.{Found};
-ghost use Rattle.start_fst.specs.Open.{open_vblock};
+ghost use Rattle.start_fst.specs.Open.{First, open_vblock};
 
 use rules::{Params, Segment, VBlock};
 
@@ -20,59 +20,45 @@ fn is_open(p: Params, chip: &[u8], bt: &[u16], r: usize, v: VBlock) -> bool
     requires v_lt_gamma { v.0 < p.gamma }
     ensures { result ≡ is_open p (found_view p chip.now bt.now r) v.0 }
 {
-    let n = chip_tables::bt_at(p, bt, r, v);
-    if n.0 == rules::NONE {
+    let Some(n) = chip_tables::block_named(p, bt, r, v) else {
         return false;
-    }
+    };
     !chip_blocks::is_full(p, chip_blocks::block_of(p, chip, n))
 }
 
-// The lowest such virtual block of region r.
-fn first_open(p: Params, chip: &[u8], bt: &[u16], r: usize) -> usize
+// The lowest such virtual block of region r, if there is one.
+fn first_open(p: Params, chip: &[u8], bt: &[u16], r: usize) -> Option<VBlock>
     requires found { Found p chip.now bt.now }
     requires r_lt_mu { r < p.mu }
-    ensures { result ≡ first_below not_found p.gamma (is_open p (found_view p chip.now bt.now r)) }
+    ensures { First result p.gamma (first_below not_found p.gamma (is_open p (found_view p chip.now bt.now r))) }
 {
-    let m = p.gamma;
-    let mut v = 0;
-    while v < m {
-        if is_open(p, chip, bt, r, VBlock(v)) {
-            return v;
-        }
-        v += 1;
-    }
-    rules::NOT_FOUND
+    (0..p.gamma)
+        .find(|v| is_open(p, chip, bt, r, VBlock(*v)))
+        .map(|v| VBlock(v))
 }
 
-// The lowest virtual block of region r that has a block.
-fn first_named(p: Params, bt: &[u16], r: usize) -> usize
+// The lowest virtual block of region r that has a block, if there is one.
+fn first_named(p: Params, bt: &[u16], r: usize) -> Option<VBlock>
     requires bt_len { length bt.now ≡ p.mu * p.gamma }
     requires gamma_bound { p.gamma < 65535 }
     requires r_lt_mu { r < p.mu }
-    ensures { result ≡ first_below not_found p.gamma (λ v. not (eqb (bt_at p bt.now r v) none)) }
+    ensures { First result p.gamma (first_below not_found p.gamma (λ v. not (eqb (bt_at p bt.now r v) none))) }
 {
-    let m = p.gamma;
-    let mut v = 0;
-    while v < m {
-        if chip_tables::bt_at(p, bt, r, VBlock(v)).0 != rules::NONE {
-            return v;
-        }
-        v += 1;
-    }
-    rules::NOT_FOUND
+    (0..p.gamma)
+        .find(|v| chip_tables::block_named(p, bt, r, VBlock(*v)).is_some())
+        .map(|v| VBlock(v))
 }
 
 // The virtual block whose last segment FST names: the lowest that is not full, else the lowest.
-fn open_vblock(p: Params, chip: &[u8], bt: &[u16], r: usize) -> usize
+fn open_vblock(p: Params, chip: &[u8], bt: &[u16], r: usize) -> Option<VBlock>
     requires found { Found p chip.now bt.now }
     requires r_lt_mu { r < p.mu }
-    ensures { result ≡ open_vblock p (found_view p chip.now bt.now r) }
+    ensures { First result p.gamma (open_vblock p (found_view p chip.now bt.now r)) }
 {
-    let o = first_open(p, chip, bt, r);
-    if o != rules::NOT_FOUND {
-        return o;
-    }
-    first_named(p, bt, r)
+    let Some(v) = first_open(p, chip, bt, r) else {
+        return first_named(p, bt, r);
+    };
+    Some(v)
 }
 
 // The segment of the last programmed frame of virtual block v of region r, which has a block.
@@ -96,11 +82,10 @@ fn segment_of(p: Params, chip: &[u8], bt: &[u16], r: usize) -> Segment
     ensures result_value { result.0 ≡ found_fst p (found_view p chip.now bt.now r) }
     ensures result_bound { result.0 < 65536 }
 {
-    let v = open_vblock(p, chip, bt, r);
-    if v == rules::NOT_FOUND {
+    let Some(v) = open_vblock(p, chip, bt, r) else {
         return Segment(rules::NONE);
-    }
-    last_segment(p, chip, bt, r, VBlock(v))
+    };
+    last_segment(p, chip, bt, r, v)
 }
 
 // The same of every region.
@@ -109,10 +94,7 @@ pub fn fill_fst(p: Params, chip: &[u8], bt: &[u16], fst: &mut [u16])
     requires fst_len { length fst.old ≡ p.mu }
     ensures { fst.new ≡ list_below p.mu (λ r. found_fst p (found_view p chip.now bt.now r)) }
 {
-    let m = p.mu;
-    let mut r = 0;
-    while r < m {
+    for r in 0..p.mu {
         chip_tables::set_fst(fst, r, segment_of(p, chip, bt, r));
-        r += 1;
     }
 }

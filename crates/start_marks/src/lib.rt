@@ -31,11 +31,8 @@ fn mark_block(p: Params, blk: &[u8], ct: &[u16], marks: &mut [u64], r: usize, v:
     requires words_asked { WordsAsked p marks.old r v.0 }
     ensures { (views : ℕ → View) → Shows p r v.0 blk.now ct.now (views r) → marks.old ≡ table_of p (marks_to p views (r * p.gamma + v.0) 0) → marks.new ≡ table_of p (marks_to p views (r * p.gamma + v.0) (frames p)) }
 {
-    let n = chip_sizes::frames(p);
-    let mut f = 0;
-    while f < n {
+    for f in 0..chip_sizes::frames(p) {
         mark_frame(p, blk, ct, marks, r, v, f);
-        f += 1;
     }
 }
 
@@ -44,10 +41,9 @@ fn mark_entry(p: Params, chip: &[u8], ct: &[u16], bt: &[u16], marks: &mut [u64],
     requires { EntryAsked p chip.now ct.now bt.now marks.old i }
     ensures { marks.new ≡ table_of p (marks_to p (view_of p chip.now ct.now bt.now []) (i + 1) 0) }
 {
-    let n = chip_tables::bt_entry(bt, i);
-    if n.0 == rules::NONE {
+    let Some(n) = chip_tables::entry_named(bt, i) else {
         return;
-    }
+    };
     let r = i / p.gamma;
     let v = VBlock(i % p.gamma);
     mark_block(p, chip_blocks::block_of(p, chip, n), ct, marks, r, v);
@@ -60,11 +56,8 @@ fn mark_entries(p: Params, chip: &[u8], ct: &[u16], bt: &[u16], marks: &mut [u64
     requires marks_value { marks.old ≡ table_of p (marks_to p (view_of p chip.now ct.now bt.now []) 0 0) }
     ensures { marks.new ≡ table_of p (marks_to p (view_of p chip.now ct.now bt.now []) (p.mu * p.gamma) 0) }
 {
-    let n = bt.len();
-    let mut i = 0;
-    while i < n {
+    for i in 0..bt.len() {
         mark_entry(p, chip, ct, bt, marks, i);
-        i += 1;
     }
 }
 

@@ -1,55 +1,67 @@
 -- What one turn adds to each search.
 -- Assumes nothing.
-use mathlib.Core.Path.{◌≡◌, refl, ap, ◌∙◌}
-use mathlib.Core.Logic.{◌⊎◌, inl, inr}
-use mathlib.Core.Bool.{Bool, true, false, ◌&&◌, cond}
+use mathlib.Core.Path.{◌≡◌, refl}
+use mathlib.Core.Bool.{true, false}
 use mathlib.Core.List.{List}
 use Prim.Native.Nat.{ℕ, ◌+◌, ◌≤◌, ◌<◌}
 use native.Mathlib.Numerals.{add-one}
 use native.Mathlib.Omega.{arith}
-use lib.Dec.{eqb}
+use lib.Dec.{eqb, ltb}
 use lib.ListN.{length}
-use Rattle.lists.specs.Below.{least_below, first_below}
-use Rattle.lists.proofs.Searches.{least_spec}
+use borrow.Author.Tests.{eq-eqb, ne_eqb}
+use Rattle.std.specs.Prelude.{IfSome, MatchOption, None, Option, Some, is_none}
+use Rattle.lists.specs.Below.{least_below}
+use Rattle.rules.specs.declared.PBlock.{PBlock}
 use Rattle.rules.specs.declared.Params.{Params}
-use Rattle.rules.specs.Tables.{none, bt_at, bst_at, wear_at}
-use Rattle.rules.proofs.Sizes.{sizes}
-use Rattle.write_choose.specs.Search.{Pool, Compared, better, least_free, lowest_none}
+use Rattle.rules.specs.Tables.{none}
+use Rattle.write_choose.specs.Search.{Compared, Pool, better, least_free}
 
-pub least_none : (bst wear : List ℕ) → none ≡ least_free bst wear 0
+-- ---- the free block
+
+-- the best of the first i blocks, if one of them is free
+abbrev pub Least : List ℕ → List ℕ → ℕ → Option PBlock → Type 0
+Least bst wear i best = MatchOption best (least_free bst wear i ≡ none) (λ m. (m.0 ≡ least_free bst wear i) × (m.0 < i))
+
+pub least_none : (bst wear : List ℕ) → least_free bst wear 0 ≡ none
 unfolding least_below
 least_none bst wear = refl
 
-pub least_more : (bst wear : List ℕ) (i m x : ℕ) (t : Bool) → m ≡ least_free bst wear i → t ≡ better bst wear i m → x ≡ cond t i m → x ≡ least_free bst wear (i + 1)
+pub compared : (p : Params) (bst wear : List ℕ) → Pool p bst wear → (i : ℕ) (best : Option PBlock) → i < p.N → Least bst wear i best → Compared bst wear i best
+compared p bst wear a i best h e = record { free = omega (arith, a.bst_length); low = omega (arith, a.wear_length); so_far = go best e }
+  where
+    go : (t : Option PBlock) → Least bst wear i t → IfSome t (λ m. m.0 < length wear)
+    go None x = tt
+    go (Some m) x = omega (arith, x.1, a.wear_length)
+
+-- block i is taken
+pub least_here : (bst wear : List ℕ) (i : ℕ) (best : Option PBlock) → i ≤ none → Least bst wear i best → better bst wear i best ≡ true → i ≡ least_free bst wear (i + 1)
 unfolding least_below
-least_more bst wear i m x t a b e = rw (add-one, e, b, a)
+least_here bst wear i None few e t = rw (add-one, e, t)
+least_here bst wear i (Some m) few e t = rw (add-one, ← e.0, ne_eqb m.0 none (λ x. omega (arith, e.1, x)), t)
 
-pub compared : (p : Params) (bst wear : List ℕ) → Pool p bst wear → (i m : ℕ) → i < p.N → m ≡ least_free bst wear i → Compared bst wear i m
-compared p bst wear a i m h e =
-    record {
-      free = omega (arith, a.bst_length);
-      low = omega (arith, a.wear_length);
-      best = go
-          (least_spec (wear_at wear) none i (λ j. eqb (bst_at bst j) 0) (omega (arith, (sizes p a.fine).blocks)));
-    }
-  where
-    go : ((least_free bst wear i ≡ none) × ((j : ℕ) → j < i → eqb (bst_at bst j) 0 ≡ false))
-        ⊎ ((least_free bst wear i < i) × (eqb (bst_at bst (least_free bst wear i)) 0 ≡ true) × ((j : ℕ) → j < i → eqb (bst_at bst j) 0 ≡ true → wear_at wear (least_free bst wear i) ≤ wear_at wear j))
-        → (m ≡ none) ⊎ (m < length wear)
-    go (inl w) = inl (e ∙ w.0)
-    go (inr w) = inr (rw e (omega (arith, w.0, a.wear_length)))
+-- the best stays
+pub least_later : (bst wear : List ℕ) (i : ℕ) (best : Option PBlock) → i ≤ none → Least bst wear i best → better bst wear i best ≡ false → Least bst wear (i + 1) best
+unfolding least_below
+least_later bst wear i None few e t = rw (add-one, e, t)
+least_later bst wear i (Some m) few e t = (rw (add-one, ← e.0, ne_eqb m.0 none (λ x. omega (arith, e.1, x)), t), omega (arith, e.1))
 
-pub best_low : (bst wear : List ℕ) (i m : ℕ) → Compared bst wear i m → (m ≡ none → ⊥) → m < length wear
-best_low bst wear i m a ne = go a.best
-  where
-    go : (m ≡ none) ⊎ (m < length wear) → m < length wear
-    go (inl e) = absurd (ne e)
-    go (inr h) = h
+-- ---- the lowest virtual block without a block
 
-pub first_none : (p : Params) (bt : List ℕ) (r : ℕ) → none ≡ lowest_none p bt r 0
-unfolding lowest_none first_below
-first_none p bt r = refl
+-- whether BT names a block, by what was answered for it
+pub named_none : (o : Option PBlock) (x : ℕ) → MatchOption o (x ≡ none) (λ n. (n.0 ≡ x) × (n.0 < none)) → is_none o ≡ eqb x none
+named_none None x h = rw (eq-eqb x none h)
+named_none (Some n) x h = rw (ne_eqb x none (λ e. omega (arith, h.0, h.1, e)))
 
-pub first_more : (p : Params) (bt : List ℕ) (r v m x e : ℕ) → m ≡ lowest_none p bt r v → e ≡ bt_at p bt r v → x ≡ cond (eqb m none && eqb e none) v m → x ≡ lowest_none p bt r (v + 1)
-unfolding lowest_none first_below
-first_more p bt r v m x e h k y = rw (add-one, y, k, h)
+-- ---- the virtual block with fewest marks
+
+pub fewest_first : (key : ℕ → ℕ) → 0 ≡ least_below key none 1 (λ u. true)
+unfolding least_below
+fewest_first key = refl
+
+pub fewest_here : (key : ℕ → ℕ) (v m : ℕ) → v ≤ none → m < v → m ≡ least_below key none v (λ u. true) → ltb (key v) (key m) ≡ true → v ≡ least_below key none (v + 1) (λ u. true)
+unfolding least_below
+fewest_here key v m few low e t = rw (add-one, ← e, ne_eqb m none (λ x. omega (arith, x)), t)
+
+pub fewest_later : (key : ℕ → ℕ) (v m : ℕ) → v ≤ none → m < v → m ≡ least_below key none v (λ u. true) → ltb (key v) (key m) ≡ false → m ≡ least_below key none (v + 1) (λ u. true)
+unfolding least_below
+fewest_later key v m few low e t = rw (add-one, ← e, ne_eqb m none (λ x. omega (arith, x)), t)

@@ -1,8 +1,9 @@
 -- What the searches ask, and what they have found so far.
 -- Assumes nothing.
-use Rattle.std.specs.Prelude.{◌≡◌, ◌⊎◌, Bool, true, ◌&&◌, ◌||◌, List, ℕ, ◌≤◌, ◌<◌, eqb, ltb, length}
+use Rattle.std.specs.Prelude.{◌≡◌, Bool, true, ◌&&◌, List, ℕ, ◌<◌, eqb, ltb, length, IfSome, None, Option, Some}
 use Rattle.lists.specs.Below.{count_below, least_below, first_below}
 use Rattle.rules.specs.declared.Params.{Params}
+use Rattle.rules.specs.declared.PBlock.{PBlock}
 use Rattle.rules.specs.Parameters.{allowed}
 use Rattle.rules.specs.Tables.{none, not_found, bt_at, bst_at, wear_at, marks_length}
 use Rattle.rules.specs.Marks.{Marks}
@@ -13,11 +14,11 @@ pub record Pool (p : Params) (bst wear : List ℕ) : Type 0 where
   pub bst_length : length bst ≡ p.N
   pub wear_length : length wear ≡ p.N
 
--- blocks i and m of the pool, where m may be not found
-pub record Compared (bst wear : List ℕ) (i m : ℕ) : Type 0 where
+-- block i of the pool, and the best so far, if there is one
+pub record Compared (bst wear : List ℕ) (i : ℕ) (best : Option PBlock) : Type 0 where
   pub free : i < length bst
   pub low : i < length wear
-  pub best : (m ≡ not_found) ⊎ (m < length wear)
+  pub so_far : IfSome best (λ m. m.0 < length wear)
 
 -- a region's marks, in a table as long as it has to be
 pub record RegionMarks (p : Params) (marks : List ℕ) (r : ℕ) : Type 0 where
@@ -25,9 +26,10 @@ pub record RegionMarks (p : Params) (marks : List ℕ) (r : ℕ) : Type 0 where
   pub long : length marks ≡ marks_length p
   pub region : r < p.mu
 
--- block i is free, and m is not found or more worn
-abbrev pub better : List ℕ → List ℕ → ℕ → ℕ → Bool
-better bst wear i m = eqb (bst_at bst i) 0 && (eqb m not_found || ltb (wear_at wear i) (wear_at wear m))
+-- block i is free, and there is no best so far, or it is more worn
+abbrev pub better : List ℕ → List ℕ → ℕ → Option PBlock → Bool
+better bst wear i None = eqb (bst_at bst i) 0
+better bst wear i (Some m) = eqb (bst_at bst i) 0 && ltb (wear_at wear i) (wear_at wear m.0)
 
 -- the best of the first n blocks
 abbrev pub least_free : List ℕ → List ℕ → ℕ → ℕ

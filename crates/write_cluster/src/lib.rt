@@ -1,15 +1,25 @@
 // Document 01, "Write", on a state that is known to be orderly: the cluster put in the room that a plan has made.
 #![tactic(auto)]
 
-ghost use Rattle.std.specs.Prelude.{◌≡◌, [], ◌≤◌};
+ghost use Rattle.std.specs.Prelude.{◌≡◌, [], ◌≤◌, is_some};
 ghost use Rattle.rules.specs.Numbers.{cluster_of, region_of};
 ghost use Rattle.rules.specs.Tables.{board_of};
-ghost use Rattle.read_work.specs.Lookup.{Stands};
+ghost use Rattle.read_work.specs.Lookup.{Stands, spot_frame};
 ghost use Rattle.rules.specs.Requests.{request_of};
 ghost use Rattle.write_cluster.specs.Clusters.{Standing, PagesAsked, PagesPut, ClusterPut};
 
-use read_work::Found;
+use read_work::Spot;
 use rules::{Cluster, Label, Params, VBlock};
+
+// The frame where a cluster stands, 0 where it is not kept.
+fn frame_at(spot: Option<Spot>) -> usize
+    ensures { result ≡ spot_frame spot }
+{
+    match spot {
+        Some(s) => s.frame,
+        None => 0,
+    }
+}
 
 // The first m pages of the new cluster, which is c of region r, go to frame f of virtual block v, with its region's next stamp, its old sectors read where the old one now stands:
 // all of them, or fewer at a cut.
@@ -23,16 +33,16 @@ pub fn put_pages(
     lba: usize,
     count: usize,
     bytes: &[u8],
-    old: Found,
+    old: Option<Spot>,
     v: VBlock,
     f: usize,
     m: usize,
 )
     requires c_value { c.0 ≡ cluster_of p lba }
     requires r_value { r ≡ region_of p c.0 }
-    requires pages_asked { PagesAsked p chip.old bt.now stamps.old (request_of lba count bytes.now) v.0 f old.kept old.frame }
+    requires pages_asked { PagesAsked p chip.old bt.now stamps.old (request_of lba count bytes.now) v.0 f (is_some old) (spot_frame old) }
     requires m_le_alpha { m ≤ p.alpha }
-    ensures { PagesPut p chip.old bt.now stamps.old (request_of lba count bytes.now) v.0 f old.kept old.frame m
+    ensures { PagesPut p chip.old bt.now stamps.old (request_of lba count bytes.now) v.0 f (is_some old) (spot_frame old) m
         chip.new stamps.new }
 {
     let n = chip_tables::bt_at(p, bt, r, v);
@@ -43,9 +53,9 @@ pub fn put_pages(
         stamp: chip_tables::take_stamp(stamps, r),
         vblock: v.0 as u8,
     };
-    chip_frames::host_pages(
-        chip, p.s, p.alpha, to, old.kept, old.frame, off, count, bytes, of, m,
-    );
+    let kept = old.is_some();
+    let from = frame_at(old);
+    chip_frames::host_pages(chip, p.s, p.alpha, to, kept, from, off, count, bytes, of, m);
 }
 
 // The new cluster goes to frame f of virtual block v with its region's next stamp, its old sectors read where the old one now stands; CT and FST name its
@@ -60,12 +70,12 @@ pub fn put_cluster(
     lba: usize,
     count: usize,
     bytes: &[u8],
-    old: Found,
+    old: Option<Spot>,
     v: VBlock,
     f: usize,
 )
     requires standing { Standing p (board_of chip.old ct.old bt.now fst.old [] [] [] stamps.old) (request_of lba count bytes.now) v.0 f }
-    requires stands { Stands p chip.old ct.old bt.now (cluster_of p lba) old.kept old.frame }
+    requires stands { Stands p chip.old ct.old bt.now (cluster_of p lba) (is_some old) (spot_frame old) }
     ensures { ClusterPut p (board_of chip.old ct.old bt.now fst.old [] [] [] stamps.old) (request_of lba count bytes.now)
         v.0 f chip.new ct.new fst.new stamps.new }
 {

@@ -1,13 +1,14 @@
 // Document 01, "Write", on a state that is known to be orderly: the marks that follow it, and its answer.
 #![tactic(auto)]
 
-ghost use Rattle.std.specs.Prelude.{◌≡◌, false, cond, ◌<◌, ◌≤◌, eqb};
+ghost use Rattle.std.specs.Prelude.{◌≡◌, false, cond, ◌<◌, ◌≤◌, eqb, is_some};
+ghost use Rattle.read_work.specs.Lookup.{spot_inner, spot_vblock};
 ghost use Rattle.rules.specs.Marks.{Marks, table_of};
 ghost use Rattle.marks.specs.Kept.{first_marks, put_mark};
 ghost use Rattle.chip_marks.specs.Asked.{MarkAsked, WordsAsked};
 ghost use Rattle.write_marks.specs.Keeping.{UnmarkAsked, kept_marks, accepted_answer};
 
-use read_work::Found;
+use read_work::Spot;
 use rules::{Answer, Params, Reply, VBlock};
 use write_room::Room;
 
@@ -22,21 +23,21 @@ fn mark_copies(p: Params, marks: &mut [u64], r: usize, v: VBlock, copied: usize,
 }
 
 // The frame that was found loses its mark, where there is one.
-pub fn unmark(p: Params, marks: &mut [u64], r: usize, old: Found)
-    requires { UnmarkAsked p marks.old r old.kept old.vblock.0 old.inner }
-    ensures { (m : Marks) → marks.old ≡ table_of p m → marks.new ≡ table_of p (cond old.kept (put_mark m r old.vblock.0 old.inner false) m) }
+pub fn unmark(p: Params, marks: &mut [u64], r: usize, old: Option<Spot>)
+    requires { UnmarkAsked p marks.old r (is_some old) (spot_vblock old) (spot_inner old) }
+    ensures { (m : Marks) → marks.old ≡ table_of p m → marks.new ≡ table_of p (cond (is_some old) (put_mark m r (spot_vblock old) (spot_inner old) false) m) }
 {
-    if old.kept {
-        chip_marks::clear_mark(p, marks, r, old.vblock, old.inner);
+    if let Some(s) = old {
+        chip_marks::clear_mark(p, marks, r, s.vblock, s.inner);
     }
 }
 
 // The marks follow a write: those of a reclaim's copies, that of the cluster's old frame, and that of its new one.
-pub fn keep_marks(p: Params, marks: &mut [u64], r: usize, room: Room, old: Found)
+pub fn keep_marks(p: Params, marks: &mut [u64], r: usize, room: Room, old: Option<Spot>)
     requires mark_asked { MarkAsked p marks.old r room.vblock.0 room.frame }
-    requires unmark_asked { UnmarkAsked p marks.old r old.kept old.vblock.0 old.inner }
+    requires unmark_asked { UnmarkAsked p marks.old r (is_some old) (spot_vblock old) (spot_inner old) }
     ensures { (m : Marks) → marks.old ≡ table_of p m
-        → marks.new ≡ table_of p (kept_marks m r room.vblock.0 room.frame room.copied room.erases old.kept old.vblock.0 old.inner) }
+        → marks.new ≡ table_of p (kept_marks m r room.vblock.0 room.frame room.copied room.erases (is_some old) (spot_vblock old) (spot_inner old)) }
 {
     mark_copies(p, marks, r, room.vblock, room.copied, room.erases);
     unmark(p, marks, r, old);

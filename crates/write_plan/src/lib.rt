@@ -23,10 +23,9 @@ fn next_frame(p: Params, chip: &[u8], bt: &[u16], fst: &[u16], r: usize) -> usiz
     requires { PlanAsked p chip.now bt.now fst.now r }
     ensures { result ≡ next_in p chip.now bt.now fst.now r }
 {
-    let sg = chip_tables::fst_at(fst, r);
-    if sg.0 == rules::NONE {
+    let Some(sg) = chip_tables::last_named(fst, r) else {
         return chip_sizes::frames(p);
-    }
+    };
     let v = rules::vblock_of(p, sg);
     let n = chip_tables::bt_at(p, bt, r, v);
     let from = rules::place_of(p, sg) * p.beta;
@@ -44,8 +43,7 @@ pub fn plan_of(p: Params, chip: &[u8], bt: &[u16], fst: &[u16], marks: &[u64], r
     if f < chip_sizes::frames(p) {
         return Planned::Continues(rules::vblock_of(p, chip_tables::fst_at(fst, r)), f);
     }
-    let v = write_choose::lowest_unassigned(p, bt, r);
-    if v.0 != rules::NOT_FOUND {
+    if let Some(v) = write_choose::lowest_unassigned(p, bt, r) {
         return Planned::Opens(v);
     }
     Planned::Reclaims(write_choose::victim(p, marks, r))

@@ -93,12 +93,9 @@ fn copy_marked(
     ensures { (m : Marks) → marks.now ≡ table_of p m
         → Copied p chip.old ct.old n.0 v.0 (marked_frames p (block p chip.old o.0) (m r v.0)) chip.new ct.new result }
 {
-    let all = chip_sizes::frames(p);
-    let mut k: usize = 0;
-    let mut f: usize = 0;
-    while f < all {
+    let mut k = 0;
+    for f in 0..chip_sizes::frames(p) {
         k += move_marked(p, chip, ct, marks, o, n, r, v, f, k);
-        f += 1;
     }
     k
 }

@@ -1,8 +1,8 @@
 // Document 01, "Write", on a state that is known to be orderly: the room that its plan makes.
 #![tactic(auto)]
 
-ghost use Rattle.std.specs.Prelude.{◌≡◌, List, ℕ};
-ghost use Rattle.rules.specs.Tables.{board_of, bt_at};
+ghost use Rattle.std.specs.Prelude.{◌≡◌, List, ℕ, ◌<◌, MatchOption};
+ghost use Rattle.rules.specs.Tables.{board_of, bt_at, not_found};
 ghost use Rattle.rules.specs.Pages.{block};
 ghost use Rattle.rules.specs.Write.{plan_block};
 ghost use Rattle.rules.specs.Marks.{Marks, marks_of, table_of};
@@ -22,14 +22,22 @@ pub struct Room {
     pub erases: u32,
 }
 
-// The physical block that a plan writes: the open block's, or the free block; 65,535 where the plan takes a free block and none is free.
-pub fn plan_block(p: Params, bt: &[u16], bst: &[u8], wear: &[u32], r: usize, pl: Planned) -> PBlock
+// The physical block that a plan writes: the open block's, or the free block, if one is free.
+pub fn plan_block(
+    p: Params,
+    bt: &[u16],
+    bst: &[u8],
+    wear: &[u32],
+    r: usize,
+    pl: Planned,
+) -> Option<PBlock>
     requires { BlockAsked p bt.now bst.now wear.now r (plan_is pl) }
     ensures { (chip ct fst marks stamps : List ℕ)
-        → result.0 ≡ plan_block p (board_of chip ct bt.now fst bst.now wear.now marks stamps) r (plan_is pl) }
+        → MatchOption result (plan_block p (board_of chip ct bt.now fst bst.now wear.now marks stamps) r (plan_is pl) ≡ not_found)
+        (λ n. (n.0 ≡ plan_block p (board_of chip ct bt.now fst bst.now wear.now marks stamps) r (plan_is pl)) × (n.0 < not_found)) }
 {
     match pl {
-        Planned::Continues(v, _) => chip_tables::bt_at(p, bt, r, v),
+        Planned::Continues(v, _) => chip_tables::block_named(p, bt, r, v),
         Planned::Opens(_) => write_choose::free_block(p, bst, wear),
         Planned::Reclaims(_) => write_choose::free_block(p, bst, wear),
     }

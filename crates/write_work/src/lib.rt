@@ -11,7 +11,6 @@ ghost use Rattle.outcomes.specs.Claims.{outcome};
 ghost use Rattle.write_plan.specs.Plans.{plan_is};
 ghost use Rattle.write_work.specs.Asked.{PlanMade};
 
-use read_work::Found;
 use rules::{Answer, PBlock, Params, Reply};
 use write_plan::Planned;
 
@@ -53,7 +52,7 @@ pub fn write_planned(
     let c = rules::cluster_of(p, lba);
     let at = read_work::find_frame(p, chip, ct, bt, c);
     let room = write_room::make_room(p, chip, ct, bt, bst, wear, marks, r, pl, n);
-    let old = read_work::find_again(p, chip, ct, bt, c, at, room.erases);
+    let old = read_work::find_again(p, chip, ct, bt, c, at.spot, room.erases);
     write_cluster::put_cluster(
         p,
         chip,
@@ -94,10 +93,9 @@ pub fn write_orderly(
 {
     let r = rules::region_of(p, rules::cluster_of(p, lba));
     let pl = write_plan::plan_of(p, chip, bt, fst, marks, r);
-    let n = write_room::plan_block(p, bt, bst, wear, r, pl);
-    if n.0 == rules::NOT_FOUND {
+    let Some(n) = write_room::plan_block(p, bt, bst, wear, r, pl) else {
         return no_block_left();
-    }
+    };
     write_planned(
         p, chip, ct, bt, fst, bst, wear, marks, stamps, lba, count, bytes, r, pl, n,
     )

@@ -1,9 +1,7 @@
 -- `cut_copies::copy_first`: after f turns those of the first f frames that have a mark are copied as far as the k pages go, by any marks that the table holds.
 -- Assumes nothing.
 use mathlib.Core.Path.{◌≡◌}
-use Prim.Native.Nat.{◌-◌, ◌≤◌}
 use lib.ListN.{length}
-use Rattle.rules.specs.Parameters.{frames}
 use Rattle.rules.specs.Marks.{Marks, table_of}
 use Rattle.write_reclaim.specs.Moves.{Between}
 use Rattle.cut_copies.proofs.Turns.{So}
@@ -11,7 +9,4 @@ use Rattle.cut_copies.proofs.copy_first.Given as goal
 
 abbrev pub invariant-loop-f : goal.invariant-loop-f
 invariant-loop-f l =
-    (l.f ≤ frames l.p) × (length l.chip ≡ length l.initial.chip) × ((a : Between l.p l.initial.chip l.o.0 l.n.0) (m : Marks) → l.marks ≡ table_of l.p m → So l.p l.initial.chip l.o.0 l.n.0 a (m l.r l.v.0) l.k l.f l.chip l.j)
-
-abbrev pub decreases-loop-f : goal.decreases-loop-f
-decreases-loop-f l = frames l.p - l.f
+    (length l.chip ≡ length l.initial.chip) × ((a : Between l.p l.initial.chip l.o.0 l.n.0) (m : Marks) → l.marks ≡ table_of l.p m → So l.p l.initial.chip l.o.0 l.n.0 a (m l.r l.v.0) l.k l.f l.chip l.j)

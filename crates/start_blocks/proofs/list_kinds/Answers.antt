@@ -8,27 +8,16 @@ use Rattle.start_blocks.proofs.Left.{kind_left, left_asked}
 use Rattle.start_blocks.proofs.list_kinds.Goals as goal
 
 pub loop-n-init : goal.loop-n-init
-loop-n-init c = (omega arith, refl, as_lent _ _ _ c.requires.bst_len)
+loop-n-init c = (refl, as_lent _ _ _ c.requires.bst_len)
 
 pub left_kind-requires : goal.left_kind-requires
 left_kind-requires c = left_asked _ _ _ c.requires.start_asked c.requires.bt_value _ c.loop-n-test.true
 
-pub bounds-bst-n : goal.bounds-bst-n
-bounds-bst-n c = omega (arith, c.loop-n.invariant.1, c.requires.bst_len)
-
-pub overflow_add-n : goal.overflow_add-n
-overflow_add-n c = omega arith
-
-pub loop-n-smaller : goal.loop-n-smaller
-loop-n-smaller c = omega arith
-
 pub loop-n-preserved : goal.loop-n-preserved
 loop-n-preserved c =
     let low = c.loop-n-test.true in
-    (omega arith, simp length-set c.loop-n.invariant.1, made_next _ _ _ _ _ _ low c.loop-n.invariant.2 (kind_left _ _ _ c.requires.start_asked c.requires.bt_value _ low _ c.left_kind.ensures))
-
-pub shape_of-bst : goal.shape_of-bst
-shape_of-bst c = c.loop-n.invariant.1
+    let asked = c.requires in
+    (simp length-set c.loop-n.invariant.0, made_next _ _ _ _ _ _ low c.loop-n.invariant.1 (kind_left _ _ _ asked.start_asked asked.bt_value _ low _ c.left_kind.ensures))
 
 pub returns : goal.returns
-returns c = c.loop-n.invariant.2 ∙ made_all _ _ _ _ (omega arith)
+returns c = c.loop-n.invariant.1 ∙ made_all _ _ _ _ (omega arith)

@@ -1,12 +1,8 @@
 -- `start_blocks::name_fulls`: after n turns the full blocks below n are in BT.
 -- Assumes nothing.
 use mathlib.Core.Path.{◌≡◌}
-use Prim.Native.Nat.{◌-◌, ◌≤◌}
 use Rattle.start_blocks.specs.Named.{fulls_to}
 use Rattle.start_blocks.proofs.name_fulls.Given as goal
 
 abbrev pub invariant-loop-n : goal.invariant-loop-n
-invariant-loop-n l = (l.n ≤ l.m) × (l.bt ≡ fulls_to l.p l.chip l.n)
-
-abbrev pub decreases-loop-n : goal.decreases-loop-n
-decreases-loop-n l = l.m - l.n
+invariant-loop-n l = (l.bt ≡ fulls_to l.p l.chip l.n)

@@ -2,7 +2,7 @@
 -- Assumes nothing.
 use mathlib.Core.Path.{◌≡◌, ◌∙◌}
 use native.Mathlib.Omega.{arith}
-use Rattle.start_blocks.proofs.Opens.{bt_same, chip_same_lem, open_asked, opens_done, opens_start, opens_turn, wear_same}
+use Rattle.start_blocks.proofs.Opens.{open_asked, opens_done, opens_start, opens_turn, wear_same}
 use Rattle.start_blocks.proofs.name_opens.Goals as goal
 
 pub loop-n-init : goal.loop-n-init
@@ -18,26 +18,12 @@ name_open-k-requires c =
 
 pub overflow_add-k : goal.overflow_add-k
 overflow_add-k c =
-    let turn = opens_turn _ _ _ _ c.requires.start_asked _ c.loop-n-test.true _ _ _ _ (c.loop-n.invariant.1 c.requires.start_asked) _ _ _ _ c.name_open-k.ensures in
-    omega (arith, turn.erased.few, c.loop-n-test.true)
-
-pub overflow_add-n : goal.overflow_add-n
-overflow_add-n c = omega arith
-
-pub loop-n-smaller : goal.loop-n-smaller
-loop-n-smaller c = omega arith
+    let low = c.loop-n-test.true in
+    let turn = opens_turn _ _ _ _ c.requires.start_asked _ low _ _ _ _ (c.loop-n.invariant.1 c.requires.start_asked) _ _ _ _ c.name_open-k.ensures in
+    omega (arith, turn.erased.few, low)
 
 pub loop-n-preserved : goal.loop-n-preserved
 loop-n-preserved c = (omega arith, λ a. opens_turn _ _ _ _ a _ c.loop-n-test.true _ _ _ _ (c.loop-n.invariant.1 a) _ _ _ _ c.name_open-k.ensures)
-
-pub shape_of-chip : goal.shape_of-chip
-shape_of-chip c = chip_same_lem _ _ _ _ c.requires.start_asked _ c.loop-n.invariant.0 _ _ _ _ (c.loop-n.invariant.1 c.requires.start_asked)
-
-pub shape_of-bt : goal.shape_of-bt
-shape_of-bt c = bt_same _ _ _ _ c.requires.start_asked _ c.loop-n.invariant.0 _ _ _ _ (c.loop-n.invariant.1 c.requires.start_asked)
-
-pub shape_of-wear : goal.shape_of-wear
-shape_of-wear c = wear_same _ _ _ _ c.requires.start_asked _ c.loop-n.invariant.0 _ _ _ _ (c.loop-n.invariant.1 c.requires.start_asked)
 
 pub returns : goal.returns
 returns c =

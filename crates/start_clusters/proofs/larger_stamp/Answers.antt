@@ -18,10 +18,15 @@ frame_at-fr-requires c =
     }
 
 pub returns-then-not-is_programmed : goal.returns-then-not-is_programmed
-returns-then-not-is_programmed c = stamp_begun _ _ _ c.requires.found _ _ c.requires.i_bound _ c.requires.last_value _ c.frame_at-fr.ensures.result_value (sym c.is_programmed.ensures ∙ not-true _ c.if-not-is_programmed.true-raw)
+returns-then-not-is_programmed c =
+    stamp_begun _ _ _ c.requires.found _ _ c.requires.i_bound _ c.requires.last_value _ c.frame_at-fr.ensures.result_value (sym c.is_programmed.ensures ∙ not-true _ c.if-not-is_programmed.true-raw)
 
 pub returns-then-t-last : goal.returns-then-t-last
-returns-then-t-last c = stamp_higher _ _ _ c.requires.found _ _ c.requires.i_bound _ c.requires.last_value _ c.frame_at-fr.ensures.result_value (sym c.is_programmed.ensures ∙ not-false _ c.if-not-is_programmed.false-raw) _ c.stamp_in-t.ensures c.if-t-last.true
+returns-then-t-last c =
+    stamp_higher _ _ _ c.requires.found _ _ c.requires.i_bound _ c.requires.last_value _ c.frame_at-fr.ensures.result_value (sym c.is_programmed.ensures ∙ not-false _ c.if-not-is_programmed.false-raw)
+    _ c.stamp_in-t.ensures c.if-t-last.true
 
 pub returns : goal.returns
-returns c = stamp_lower _ _ _ c.requires.found _ _ c.requires.i_bound _ c.requires.last_value _ c.frame_at-fr.ensures.result_value (sym c.is_programmed.ensures ∙ not-false _ c.if-not-is_programmed.false-raw) _ c.stamp_in-t.ensures (omega (arith, c.if-t-last.false))
+returns c =
+    stamp_lower _ _ _ c.requires.found _ _ c.requires.i_bound _ c.requires.last_value _ c.frame_at-fr.ensures.result_value (sym c.is_programmed.ensures ∙ not-false _ c.if-not-is_programmed.false-raw)
+    _ c.stamp_in-t.ensures (omega (arith, c.if-t-last.false))

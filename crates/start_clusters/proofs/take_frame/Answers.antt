@@ -33,7 +33,9 @@ is_newer-requires c =
     record {
       found = a.found;
       has_frame = has;
-      has_frame_2 = entry_has _ _ _ _ _ _ a has _ c.frame_at-fr.ensures.result_value (sym c.is_whole.ensures ∙ not-false _ c.if-not-is_whole.false-raw) _ c.last_cluster-c.ensures _ c.ct_at-m.ensures.result_value;
+      has_frame_2 =
+          entry_has _ _ _ _ _ _ a has _ c.frame_at-fr.ensures.result_value (sym c.is_whole.ensures ∙ not-false _ c.if-not-is_whole.false-raw) _
+          c.last_cluster-c.ensures _ c.ct_at-m.ensures.result_value;
     }
 
 pub overflow_cast-ct : goal.overflow_cast-ct

@@ -7,13 +7,5 @@ use Rattle.start_found.proofs.has_frame.Goals as goal
 pub nonzero_div-v : goal.nonzero_div-v
 nonzero_div-v c = omega (arith, divisor _ c.requires.p_value _ _ c.requires.i_bound c.frames.ensures)
 
-pub bt_at-requires : goal.bt_at-requires
-bt_at-requires c =
-    record {
-      bt_len = c.requires.bt_len;
-      r_lt_mu = c.requires.r_lt_mu;
-      v_lt_gamma = vblock_is_low _ c.requires.p_value _ _ c.requires.i_bound c.frames.ensures;
-    }
-
-pub returns : goal.returns
-returns c = rw (c.bt_at.ensures.result_value, c.frames.ensures)
+pub block_named-requires-clause-v_lt_gamma : goal.block_named-requires-clause-v_lt_gamma
+block_named-requires-clause-v_lt_gamma c = vblock_is_low _ c.requires.p_value _ _ c.requires.i_bound c.frames.ensures

@@ -15,12 +15,16 @@ block_of-requires c =
 
 pub overflow_sub-k : goal.overflow_sub-k
 overflow_sub-k c =
-    let w = some_filled _ _ _ c.requires.found _ c.requires.r_lt_mu _ c.requires.v_lt_gamma _ c.bt_at-n.ensures.result_value (λ e. c.requires.fact (sym c.bt_at-n.ensures.result_value ∙ e)) _ _ c.block_of.ensures.result_value c.filled-k.ensures in
+    let w =
+    some_filled _ _ _ c.requires.found _ c.requires.r_lt_mu _ c.requires.v_lt_gamma _ c.bt_at-n.ensures.result_value (λ e. c.requires.fact (sym c.bt_at-n.ensures.result_value ∙ e))
+    _ _ c.block_of.ensures.result_value c.filled-k.ensures in
     omega (arith, w.0)
 
 pub segment_of-requires : goal.segment_of-requires
 segment_of-requires c =
-    let w = some_filled _ _ _ c.requires.found _ c.requires.r_lt_mu _ c.requires.v_lt_gamma _ c.bt_at-n.ensures.result_value (λ e. c.requires.fact (sym c.bt_at-n.ensures.result_value ∙ e)) _ _ c.block_of.ensures.result_value c.filled-k.ensures in
+    let w =
+    some_filled _ _ _ c.requires.found _ c.requires.r_lt_mu _ c.requires.v_lt_gamma _ c.bt_at-n.ensures.result_value (λ e. c.requires.fact (sym c.bt_at-n.ensures.result_value ∙ e))
+    _ _ c.block_of.ensures.result_value c.filled-k.ensures in
     record {
       p_value = c.requires.found.fine;
       v_lt_gamma = c.requires.v_lt_gamma;
@@ -31,5 +35,7 @@ pub returns : goal.returns
 returns c =
     record {
       result_value = c.segment_of.ensures ∙ rw (c.filled-k.ensures, c.block_of.ensures.result_value, c.bt_at-n.ensures.result_value);
-      result_bound = segment_low _ _ _ c.requires.found _ c.requires.r_lt_mu _ c.requires.v_lt_gamma _ c.bt_at-n.ensures.result_value (λ e. c.requires.fact (sym c.bt_at-n.ensures.result_value ∙ e)) _ _ _ c.block_of.ensures.result_value c.filled-k.ensures c.segment_of.ensures;
+      result_bound =
+          segment_low _ _ _ c.requires.found _ c.requires.r_lt_mu _ c.requires.v_lt_gamma _ c.bt_at-n.ensures.result_value (λ e. c.requires.fact (sym c.bt_at-n.ensures.result_value ∙ e))
+          _ _ _ c.block_of.ensures.result_value c.filled-k.ensures c.segment_of.ensures;
     }

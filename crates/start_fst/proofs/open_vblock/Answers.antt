@@ -5,9 +5,6 @@ use Rattle.rules.proofs.Sizes.{sizes}
 use Rattle.start_fst.proofs.Open.{open_else, open_first}
 use Rattle.start_fst.proofs.open_vblock.Goals as goal
 
-pub returns-then-o-ne-NOT_FOUND : goal.returns-then-o-ne-NOT_FOUND
-returns-then-o-ne-NOT_FOUND c = open_first _ _ _ c.requires.found _ c.requires.r_lt_mu _ c.first_open-o.ensures c.if-o-ne-NOT_FOUND.true
-
 pub first_named-requires : goal.first_named-requires
 first_named-requires c =
     record {
@@ -16,5 +13,8 @@ first_named-requires c =
       r_lt_mu = c.requires.r_lt_mu;
     }
 
+pub returns-in_default : goal.returns-in_default
+returns-in_default c = rw (open_else _ _ _ c.requires.found _ c.requires.r_lt_mu c.in_default.ensures) at c.first_named.ensures
+
 pub returns : goal.returns
-returns c = open_else _ _ _ c.requires.found _ c.requires.r_lt_mu _ _ c.first_open-o.ensures c.if-o-ne-NOT_FOUND.false c.first_named.ensures
+returns c = open_first _ _ _ c.requires.found _ c.requires.r_lt_mu _ c.in-Some.ensures

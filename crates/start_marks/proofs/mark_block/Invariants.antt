@@ -1,7 +1,7 @@
 -- `start_marks::mark_block`: after f turns the marks of the first f frames.
 -- Assumes nothing.
 use mathlib.Core.Path.{◌≡◌}
-use Prim.Native.Nat.{ℕ, ◌+◌, ◌*◌, ◌-◌, ◌≤◌}
+use Prim.Native.Nat.{ℕ, ◌+◌, ◌*◌}
 use lib.ListN.{length}
 use Rattle.rules.specs.Regions.{View}
 use Rattle.rules.specs.Marks.{table_of}
@@ -10,7 +10,7 @@ use Rattle.start_marks.specs.SoFar.{marks_to}
 use Rattle.start_marks.proofs.mark_block.Given as goal
 
 abbrev pub invariant-loop-f : goal.invariant-loop-f
-invariant-loop-f l = (l.f ≤ l.n) × (length l.marks ≡ length l.initial.marks) × ((views : ℕ → View) → Shows l.p l.r l.v.0 l.blk l.ct (views l.r) → l.initial.marks ≡ table_of l.p (marks_to l.p views (l.r * l.p.gamma + l.v.0) 0) → l.marks ≡ table_of l.p (marks_to l.p views (l.r * l.p.gamma + l.v.0) l.f))
-
-abbrev pub decreases-loop-f : goal.decreases-loop-f
-decreases-loop-f l = l.n - l.f
+invariant-loop-f l =
+    (length l.marks ≡ length l.initial.marks)
+    × ((views : ℕ → View) → Shows l.p l.r l.v.0 l.blk l.ct (views l.r)
+    → l.initial.marks ≡ table_of l.p (marks_to l.p views (l.r * l.p.gamma + l.v.0) 0) → l.marks ≡ table_of l.p (marks_to l.p views (l.r * l.p.gamma + l.v.0) l.f))

@@ -1,32 +1,28 @@
--- `write_choose::lowest_unassigned`: after v turns, the lowest of the first v virtual blocks that has none.
+-- `write_choose::lowest_unassigned`: after v turns, each of the first v virtual blocks has a block.
 -- Assumes nothing.
-use mathlib.Core.Path.{◌≡◌}
+use mathlib.Core.Path.{ap, sym, ◌∙◌}
+use mathlib.Core.Bool.{not}
 use native.Mathlib.Omega.{arith}
+use Rattle.loops.proofs.Below.{first_here, first_later, first_start}
 use Rattle.rules.proofs.Sizes.{sizes}
-use Rattle.write_choose.proofs.Turns.{first_none, first_more}
+use Rattle.write_choose.specs.Search.{lowest_none}
+use Rattle.write_choose.proofs.Turns.{named_none}
 use Rattle.write_choose.proofs.lowest_unassigned.Goals as goal
 
 pub loop-v-init : goal.loop-v-init
-loop-v-init c = (omega arith, first_none _ _ _)
+unfolding lowest_none
+loop-v-init c = first_start _ _
 
-pub bt_at-b-requires : goal.bt_at-b-requires
-bt_at-b-requires c =
-    record {
-      bt_len = c.requires.bt_len;
-      r_lt_mu = c.requires.r_lt_mu;
-      v_lt_gamma = c.loop-v-test.true;
-    }
-
-pub overflow_add-v : goal.overflow_add-v
-overflow_add-v c = omega (arith, (sizes _ c.requires.p_value).gamma_high)
-
-pub loop-v-smaller : goal.loop-v-smaller
-loop-v-smaller c = omega arith
+pub returns-then-is_none : goal.returns-then-is_none
+unfolding lowest_none
+returns-then-is_none c = (
+  sym
+      (first_here _ _ _ _
+      (omega (arith, (sizes _ c.requires.p_value).gamma_high)) c.loop-v-test.true c.loop-v.invariant
+      (sym (named_none _ _ c.block_named.ensures) ∙ ap not c.is_none.ensures ∙ rw c.if-is_none.true)),
+  c.loop-v-test.true,
+)
 
 pub loop-v-preserved : goal.loop-v-preserved
-loop-v-preserved c = (omega arith, first_more _ _ _ _ _ _ _ c.loop-v.invariant.1 c.bt_at-b.ensures.result_value c.pick-m.ensures)
-
-pub returns : goal.returns
-returns c =
-    let e : c.loop-v.v ≡ c.args.p.gamma = omega arith in
-    rw e at c.loop-v.invariant.1
+unfolding lowest_none
+loop-v-preserved c = first_later _ _ _ c.loop-v.invariant (sym (named_none _ _ c.block_named.ensures) ∙ ap not c.is_none.ensures ∙ rw c.if-is_none.false)

@@ -38,11 +38,13 @@ overflow_cast-of c = record { fits = vblock_few _ _ _ _ _ _ _ _ _ c.requires.pag
 pub host_pages-requires : goal.host_pages-requires
 host_pages-requires c =
     record {
-      host_asked = host_asked _ _ _ _ _ _ _ _ _ c.requires.pages_asked _ _ c.requires.c_value c.requires.r_value _ c.bt_at-n.ensures.result_value _ _ c.frame_at-to.ensures c.sector_of-off.ensures;
+      host_asked = rw (c.is_some-kept.ensures, c.frame_at-from.ensures)
+          (host_asked _ _ _ _ _ _ _ _ _ c.requires.pages_asked _ _ c.requires.c_value c.requires.r_value _ c.bt_at-n.ensures.result_value _ _ c.frame_at-to.ensures c.sector_of-off.ensures);
       m_le_n = c.requires.m_le_alpha;
     }
 
 pub returns : goal.returns
 returns c =
-    put_is _ _ _ _ _ _ _ _ _ c.requires.pages_asked _ _ c.requires.c_value c.requires.r_value _ c.bt_at-n.ensures.result_value _ _ c.frame_at-to.ensures c.sector_of-off.ensures _ _ _ _ c.host_pages.ensures
+    let put = rw (c.is_some-kept.ensures, c.frame_at-from.ensures) at c.host_pages.ensures in
+    put_is _ _ _ _ _ _ _ _ _ c.requires.pages_asked _ _ c.requires.c_value c.requires.r_value _ c.bt_at-n.ensures.result_value _ _ c.frame_at-to.ensures c.sector_of-off.ensures _ _ _ _ put
     c.take_stamp.ensures.value c.take_stamp.ensures.stamps_after

@@ -10,14 +10,14 @@ use Rattle.write_plan.proofs.next_frame.Goals as goal
 pub frames-requires : goal.frames-requires
 frames-requires c = c.requires.fine
 
-pub returns-then-sg-eq-NONE : goal.returns-then-sg-eq-NONE
-returns-then-sg-eq-NONE c = no_open _ _ _ _ _ c.requires _ c.fst_at-sg.ensures.result_value _ c.if-sg-eq-NONE.true c.frames.ensures
+pub returns-in_default : goal.returns-in_default
+returns-in_default c = no_open _ _ _ _ _ c.requires _ refl _ c.in_default.ensures c.frames.ensures
 
 pub vblock_of-v-requires : goal.vblock_of-v-requires
 vblock_of-v-requires c =
     record {
       p_value = c.requires.fine;
-      sg_bound = c.fst_at-sg.ensures.result_bound;
+      sg_bound = omega (arith, c.in-Some.ensures.1);
     }
 
 pub bt_at-n-requires : goal.bt_at-n-requires
@@ -25,20 +25,20 @@ bt_at-n-requires c =
     record {
       bt_len = c.requires.bt_length;
       r_lt_mu = c.requires.low;
-      v_lt_gamma = open_low _ _ _ _ _ c.requires _ c.fst_at-sg.ensures.result_value c.if-sg-eq-NONE.false _ c.vblock_of-v.ensures;
+      v_lt_gamma = open_low _ _ _ _ _ c.requires _ c.in-Some.ensures.0 (λ e. omega (arith, c.in-Some.ensures.1)) _ c.vblock_of-v.ensures;
     }
 
 pub place_of-requires : goal.place_of-requires
 place_of-requires c =
     record {
       p_value = c.requires.fine;
-      sg_bound = c.fst_at-sg.ensures.result_bound;
+      sg_bound = omega (arith, c.in-Some.ensures.1);
     }
 
 pub overflow_mul-from : goal.overflow_mul-from
 overflow_mul-from c =
     let z = sizes _ c.requires.fine in
-    let from = from_low _ _ _ _ _ c.requires _ c.fst_at-sg.ensures.result_value c.if-sg-eq-NONE.false _ c.vblock_of-v.ensures _ c.bt_at-n.ensures.result_value
+    let from = from_low _ _ _ _ _ c.requires _ c.in-Some.ensures.0 (λ e. omega (arith, c.in-Some.ensures.1)) _ c.vblock_of-v.ensures _ c.bt_at-n.ensures.result_value
     c.place_of.result (c.place_of.result * c.args.p.beta) c.place_of.ensures refl in
     record { fits = omega (arith, from, z.short) }
 
@@ -47,7 +47,7 @@ block_of-requires c =
     record {
       p_value = c.requires.fine;
       chip_len = chip_length_lem _ _ _ _ _ c.requires;
-      n_lt_n = open_block _ _ _ _ _ c.requires _ c.fst_at-sg.ensures.result_value c.if-sg-eq-NONE.false _
+      n_lt_n = open_block _ _ _ _ _ c.requires _ c.in-Some.ensures.0 (λ e. omega (arith, c.in-Some.ensures.1)) _
           c.vblock_of-v.ensures _ c.bt_at-n.ensures.result_value;
     }
 
@@ -56,11 +56,11 @@ next_free-requires c =
     record {
       p_value = c.requires.fine;
       blk_len = c.block_of.ensures.result_len;
-      from_bound = from_low _ _ _ _ _ c.requires _ c.fst_at-sg.ensures.result_value c.if-sg-eq-NONE.false _ c.vblock_of-v.ensures _
+      from_bound = from_low _ _ _ _ _ c.requires _ c.in-Some.ensures.0 (λ e. omega (arith, c.in-Some.ensures.1)) _ c.vblock_of-v.ensures _
           c.bt_at-n.ensures.result_value _ _ c.place_of.ensures refl;
     }
 
 pub returns : goal.returns
 returns c =
-    open_next _ _ _ _ _ c.requires _ c.fst_at-sg.ensures.result_value c.if-sg-eq-NONE.false _ c.vblock_of-v.ensures _ c.bt_at-n.ensures.result_value _ _
+    open_next _ _ _ _ _ c.requires _ c.in-Some.ensures.0 (λ e. omega (arith, c.in-Some.ensures.1)) _ c.vblock_of-v.ensures _ c.bt_at-n.ensures.result_value _ _
     c.place_of.ensures refl _ _ c.block_of.ensures.result_value c.next_free.ensures

@@ -8,49 +8,40 @@ use Rattle.rules.proofs.Sizes.{sizes}
 use Rattle.write_reclaim.proofs.Copies.{start, ct_length_lem, chip_length_lem, move_asked, turn, turn_few, done, holds}
 use Rattle.write_reclaim.proofs.copy_marked.Goals as goal
 
-pub frames-all-requires : goal.frames-all-requires
-frames-all-requires c = c.requires.from_to.between.whole.fine
-
 pub loop-f-init : goal.loop-f-init
-loop-f-init c = (omega arith, λ a m e. start _ _ _ _ _ _ a _)
+loop-f-init c = λ a m e. start _ _ _ _ _ _ a _
 
 pub move_marked-k-requires : goal.move_marked-k-requires
 move_marked-k-requires c =
-    let low : c.loop-f.f < frames c.args.p = omega (arith, c.frames-all.ensures, c.loop-f-test.true) in
+    let low : c.loop-f.f < frames c.args.p = omega (arith, c.frames-f-end.ensures, c.loop-f-test.true) in
     let e = holds c.args.p c.args.marks.now c.requires.words_asked.long c.shared_slice_known-1.given in
     record {
-      move_asked = move_asked _ _ _ _ _ _ c.requires.from_to _ _ low _ _ _ (c.loop-f.invariant.1 c.requires.from_to _ e);
+      move_asked = move_asked _ _ _ _ _ _ c.requires.from_to _ _ low _ _ _ (c.loop-f.invariant c.requires.from_to _ e);
       words_asked = c.requires.words_asked;
     }
 
 pub overflow_add-k : goal.overflow_add-k
 overflow_add-k c =
-    let low : c.loop-f.f < frames c.args.p = omega (arith, c.frames-all.ensures, c.loop-f-test.true) in
+    let low : c.loop-f.f < frames c.args.p = omega (arith, c.frames-f-end.ensures, c.loop-f-test.true) in
     let e = holds c.args.p c.args.marks.now c.requires.words_asked.long c.shared_slice_known-1.given in
-    omega (arith, turn_few _ _ _ _ _ _ c.requires.from_to _ _ low _ _ _ (c.loop-f.invariant.1 c.requires.from_to _ e) _ _ _ (c.move_marked-k.ensures _ e), low, (sizes _ c.requires.words_asked.fine).short)
-
-pub overflow_add-f : goal.overflow_add-f
-overflow_add-f c = omega (arith, c.loop-f.invariant.0, (sizes _ c.requires.from_to.between.whole.fine).short)
-
-pub loop-f-smaller : goal.loop-f-smaller
-loop-f-smaller c = omega (arith, c.loop-f-test.true, c.frames-all.ensures)
+    omega (arith, turn_few _ _ _ _ _ _ c.requires.from_to _ _ low _ _ _ (c.loop-f.invariant c.requires.from_to _ e) _ _ _ (c.move_marked-k.ensures _ e), low, (sizes _ c.requires.words_asked.fine).short)
 
 pub loop-f-preserved : goal.loop-f-preserved
 loop-f-preserved c =
-    let low : c.loop-f.f < frames c.args.p = omega (arith, c.frames-all.ensures, c.loop-f-test.true) in
-    (omega (arith, low), λ a m e. turn _ _ _ _ _ _ a _ _ low _ _ _ (c.loop-f.invariant.1 a m e) _ _ _ (c.move_marked-k.ensures m e))
+    let low : c.loop-f.f < frames c.args.p = omega (arith, c.frames-f-end.ensures, c.loop-f-test.true) in
+    λ a m e. turn _ _ _ _ _ _ a _ _ low _ _ _ (c.loop-f.invariant a m e) _ _ _ (c.move_marked-k.ensures m e)
 
 pub shape_of-chip : goal.shape_of-chip
 shape_of-chip c =
     let e = holds c.args.p c.args.marks.now c.requires.words_asked.long c.shared_slice_known-1.given in
-    chip_length_lem _ _ _ _ _ _ c.requires.from_to _ _ c.loop-f.invariant.0 _ _ _ (c.loop-f.invariant.1 c.requires.from_to _ e)
+    chip_length_lem _ _ _ _ _ _ c.requires.from_to _ _ (omega (arith, c.frames-f-end.ensures)) _ _ _ (c.loop-f.invariant c.requires.from_to _ e)
 
 pub shape_of-ct : goal.shape_of-ct
 shape_of-ct c =
     let e = holds c.args.p c.args.marks.now c.requires.words_asked.long c.shared_slice_known-1.given in
-    ct_length_lem _ _ _ _ _ _ c.requires.from_to _ _ _ _ _ (c.loop-f.invariant.1 c.requires.from_to _ e)
+    ct_length_lem _ _ _ _ _ _ c.requires.from_to _ _ _ _ _ (c.loop-f.invariant c.requires.from_to _ e)
 
 pub returns : goal.returns
 returns c m e =
-    let q : c.loop-f.f ≡ frames c.args.p = omega (arith, c.loop-f.invariant.0, c.loop-f-test.false, c.frames-all.ensures) in
-    done _ _ _ _ _ _ c.requires.from_to _ _ _ _ _ q (c.loop-f.invariant.1 c.requires.from_to m e)
+    let q : c.loop-f.f ≡ frames c.args.p = omega (arith, c.loop-f-test.false, c.frames-f-end.ensures) in
+    done _ _ _ _ _ _ c.requires.from_to _ _ _ _ _ q (c.loop-f.invariant c.requires.from_to m e)
