@@ -39,7 +39,7 @@ pub fn pack(a: Answer) -> u64
     ensures { result ≡ packed a }
 {
     let reply = a.reply;
-    rules::number(reply) as u64 + 65536 * (a.programs as u64) + 4294967296 * (a.erases as u64)
+    u32::from(reply) as u64 + 65536 * (a.programs as u64) + 4294967296 * (a.erases as u64)
 }
 
 // An answer, packed, in its place;

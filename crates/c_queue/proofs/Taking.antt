@@ -8,6 +8,7 @@ use Prim.Native.Nat.{ℕ, ◌+◌, ◌*◌, ◌/◌, ◌%◌, ◌<◌, ◌≤◌
 use native.Mathlib.Omega.{arith}
 use lib.Dec.{eqb}
 use lib.ListN.{drop, get_or, length, length-replicate, set, take}
+use Rattle.std.specs.Prelude.{◌≢◌}
 use Rattle.lists.proofs.Tests.{or_neither, so}
 use Rattle.rules.specs.declared.Params.{Params}
 use Rattle.rules.specs.declared.Answer.{Answer}
@@ -19,11 +20,11 @@ use Rattle.rules.specs.Traces.{erases_in, programs_in}
 use Rattle.rules.specs.Requests.{Call, item_of, item_request, item_requests, queue, write}
 use Rattle.rules.specs.Replies.{bad_parameter, first_row, is_accepted, lent_rows, number_of, queue_rows, reply_of, rows_of}
 use Rattle.rules.specs.Calls.{Work, answer_of, answers_in, outcome_of, over, queue_work, work_of, write_all}
-use Rattle.rules.proofs.Outcomes.{all_answer, queue_accepted, reply_cases}
+use Rattle.rules.proofs.Outcomes.{all_answer, is_refused, queue_accepted}
 use Rattle.queue_turns.specs.Served.{item_outcome, served_from}
 use Rattle.queue_turns.proofs.Served.{none_left, one_served, served_all}
 use Rattle.queue_head.specs.declared.Head.{Head}
-use Rattle.queue_head.specs.Heads.{FlatHead, Ready, flat_reply}
+use Rattle.queue_head.specs.Heads.{Ready, Serves, flat_reply}
 use Rattle.queue_item.specs.Items.{ItemIs}
 use Rattle.c_answer.specs.Packed.{packed}
 use Rattle.c_answer.proofs.Counts.{few_programs}
@@ -93,9 +94,9 @@ module _ (p : Params) (ordered : Bool) (requests bytes : List ℕ) (n : ℕ) (b�
 
 -- ---- the end
 
-module _ (p : Params) (b : Board) (requests bytes answers : List ℕ) (h : Head) (is : FlatHead p b (length requests) (length answers) h) where
-  pub turns_asked : TurnsAsked p h.ordered b requests answers h.items
-  turns_asked = record { asked = omega (arith, is.fits); places = is.room; ready = is.ready }
+module _ (p : Params) (b : Board) (requests bytes answers : List ℕ) where
+  pub turns_asked : (h : Head) → Serves p b (length requests / 3) (length answers) h → TurnsAsked p h.ordered b requests answers h.items
+  turns_asked h y = record { asked = omega (arith, y.counted); places = omega (arith, y.counted, y.room); ready = λ k. y.ready }
 
   pub own_word : (r : Reply) → number_of r ≡ packed (answer_of r [] 0)
   unfolding packed answer_of programs_in erases_in
@@ -117,54 +118,63 @@ module _ (p : Params) (b : Board) (requests bytes answers : List ℕ) (h : Head)
       go false e true k = rw (e, k)
       go false e false k = absurd (false≢true (rw (e, k) at t))
 
-  module _ (b' : Board) (answers' : List ℕ) (fold : (b', answers') ≡ served_from packed p bytes (take h.items (items_of requests)) 0 b answers) (word : ℕ) (w : word ≡ number_of h.reply) where
-    -- the loop served these, with this reply
-    ends : (r : Reply) → h.reply ≡ r → (y : Board) (l : List ℕ) → served_from packed p bytes (take h.items (items_of requests)) 0 b answers ≡ (y, l)
-        → flat_outcome word answers' b' ≡ flat_outcome (packed (answer_of r [] 0)) l y
-    ends r e y l k =
-        ap₂ (λ (v : ℕ) (z : Board × List ℕ). flat_outcome v z.1 z.0) (w ∙ own_word h.reply ∙ ap (λ (q : Reply). packed (answer_of q [] 0)) e) (fold ∙ k)
+  -- and 2 for such a list
+  pub wrong_list : bad_parameter p || eqb (length requests % 3) 0 ≡ false → flat_reply p b (length requests) (length answers) ≡ WrongLength
+  unfolding flat_reply
+  wrong_list t = let k = or_neither (bad_parameter p) t in rw (k.0, k.1)
 
-    none_served : is_accepted h.reply ≡ false → served_from packed p bytes (take h.items (items_of requests)) 0 b answers ≡ (b, answers)
-    unfolding served_from
-    none_served e =
-        let none : h.items ≡ 0 = is.counted ∙ rw e in
-        ap (λ (k : ℕ). served_from packed p bytes (take k (items_of requests)) 0 b answers) none
+  abbrev by_work : Work → FlatOutcome
+  by_work k = flat_outcome (packed k.answer) (over (map packed (answers_in k.parts)) answers) k.left
 
-    abbrev by_work : Work → FlatOutcome
-    by_work k = flat_outcome (packed k.answer) (over (map packed (answers_in k.parts)) answers) k.left
+  -- ---- refused
 
-    accepted : h.reply ≡ reply_of p b call → reply_of p b call ≡ Accepted → flat_outcome word answers' b' ≡ by_work (work_of p b call)
-    accepted replied e =
-        let zero : h.reply ≡ Accepted = replied ∙ e in
-        let one : h.items ≡ length requests / 3 = is.counted ∙ ap (λ (r : Reply). cond (is_accepted r) (length requests / 3) 0) zero ∙ (unfold is_accepted in refl) in
-        let all : h.items ≡ length (items_of requests) = one ∙ sym (items_length requests) in
-        rw (queue_accepted p b (flat_queue requests bytes answers) e, all_answer p b (item_requests p bytes (items_of requests)) (flat_queue requests bytes answers))
-        (ends Accepted zero _ _
-        (ap (λ (k : ℕ). served_from packed p bytes (take k (items_of requests)) 0 b answers) all
-        ∙ ap (λ (its : List Item). served_from packed p bytes its 0 b answers) (take_all (items_of requests))
-        ∙ served_all packed p bytes (flat_queue requests bytes answers) (items_of requests) b answers (omega (arith, is.room, all))))
+  -- the reply as the call's own number
+  pub word_is : (e r : Reply) → e ≡ r → (word : ℕ) → word ≡ number_of e → flat_outcome word answers b ≡ flat_outcome (packed (answer_of r [] 0)) answers b
+  word_is e r is word w = ap (λ (v : ℕ). flat_outcome v answers b) (w ∙ own_word e ∙ ap (λ (q : Reply). packed (answer_of q [] 0)) is)
 
-    refused : h.reply ≡ reply_of p b call → is_accepted (reply_of p b call) ≡ false → flat_outcome word answers' b' ≡ by_work (work_of p b call)
-    unfolding work_of queue_work over answers_in
-    refused replied e = rw e (ends (reply_of p b call) replied b answers (none_served (rw replied e)))
+  refused : is_accepted (reply_of p b call) ≡ false → flat_outcome (packed (answer_of (reply_of p b call) [] 0)) answers b ≡ by_work (work_of p b call)
+  unfolding work_of queue_work over answers_in
+  refused out = rw out
 
-    as_queue : h.reply ≡ reply_of p b call → flat_outcome word answers' b' ≡ by_work (work_of p b call)
-    as_queue replied = go (reply_cases (reply_of p b call))
+  pub refused_done : (e : Reply) → (flat_reply p b (length requests) (length answers) ≡ e) × (flat_reply p b (length requests) (length answers) ≢ Accepted)
+      → (word : ℕ) → word ≡ number_of e → flat_outcome word answers b ≡ flat_call p b requests bytes answers
+  unfolding flat_call outcome_of
+  refused_done e h word w = go (so (bad_parameter p || eqb (length requests % 3) 0))
+    where
+      go : (bad_parameter p || eqb (length requests % 3) 0 ≡ true) ⊎ (bad_parameter p || eqb (length requests % 3) 0 ≡ false) → flat_outcome word answers b ≡ flat_call p b requests bytes answers
+      go (inl t) =
+          let out = is_refused (reply_of p b call) (λ (x : reply_of p b call ≡ Accepted). h.1 (same_reply t ∙ x)) in
+          unfold flat_call outcome_of in rw t (word_is e (reply_of p b call) (sym h.0 ∙ same_reply t) word w ∙ refused out)
+      go (inr t) = unfold flat_call in rw t (word_is e WrongLength (sym h.0 ∙ wrong_list t) word w)
+
+  -- ---- let through
+
+  module _ (z : flat_reply p b (length requests) (length answers) ≡ Accepted) where
+    -- then the list is three to a request
+    pub three : bad_parameter p || eqb (length requests % 3) 0 ≡ true
+    three = go (so (bad_parameter p || eqb (length requests % 3) 0))
       where
-        go : (reply_of p b call ≡ Accepted) ⊎ (is_accepted (reply_of p b call) ≡ false) → flat_outcome word answers' b' ≡ by_work (work_of p b call)
-        go (inl e) = accepted replied e
-        go (inr e) = refused replied e
+        go : (bad_parameter p || eqb (length requests % 3) 0 ≡ true) ⊎ (bad_parameter p || eqb (length requests % 3) 0 ≡ false) → bad_parameter p || eqb (length requests % 3) 0 ≡ true
+        go (inl t) = t
+        go (inr t) = absurd (omega (arith, ap number_of (sym (wrong_list t) ∙ z)))
 
-    pub all_done : flat_outcome word answers' b' ≡ flat_call p b requests bytes answers
-    unfolding flat_call outcome_of
-    all_done = go (so (bad_parameter p || eqb (length requests % 3) 0))
-      where
-        go : (bad_parameter p || eqb (length requests % 3) 0 ≡ true) ⊎ (bad_parameter p || eqb (length requests % 3) 0 ≡ false) → flat_outcome word answers' b' ≡ flat_call p b requests bytes answers
-        go (inl t) = unfold flat_call outcome_of in rw t (as_queue (is.replied ∙ same_reply t))
-        go (inr t) =
-            let k = or_neither (bad_parameter p) t in
-            let wrong : h.reply ≡ WrongLength = is.replied ∙ (unfold flat_reply in rw (k.0, k.1)) in
-            unfold flat_call in rw t (ends WrongLength wrong b answers (none_served (rw wrong (unfold is_accepted in refl))))
+    pub accepted_is : reply_of p b call ≡ Accepted
+    accepted_is = sym (same_reply three) ∙ z
+
+    module _ (h : Head) (y : Serves p b (length requests / 3) (length answers) h) where
+      pub all_items : h.items ≡ length (items_of requests)
+      all_items = y.counted ∙ sym (items_length requests)
+
+      pub all_done : (b' : Board) (answers' : List ℕ) → (b', answers') ≡ served_from packed p bytes (take h.items (items_of requests)) 0 b answers
+          → (word : ℕ) → word ≡ 0 → flat_outcome word answers' b' ≡ flat_call p b requests bytes answers
+      unfolding flat_call outcome_of
+      all_done b' answers' fold word w =
+          rw (three, queue_accepted p b (flat_queue requests bytes answers) accepted_is, all_answer p b (item_requests p bytes (items_of requests)) (flat_queue requests bytes answers))
+          (ap₂ (λ (v : ℕ) (l : Board × List ℕ). flat_outcome v l.1 l.0) (w ∙ own_word Accepted)
+          (fold
+          ∙ ap (λ (k : ℕ). served_from packed p bytes (take k (items_of requests)) 0 b answers) all_items
+          ∙ ap (λ (its : List Item). served_from packed p bytes its 0 b answers) (take_all (items_of requests))
+          ∙ served_all packed p bytes (flat_queue requests bytes answers) (items_of requests) b answers (omega (arith, y.room, items_length requests))))
 
 -- two outcomes that a queue from flat lists is claimed to have are one
 pub flat_once : (p : Params) (b : Board) (requests bytes answers : List ℕ) (o o' : FlatOutcome)

@@ -75,16 +75,15 @@ fn turns(
     ensures { (exit_board chip ct bt fst bst wear marks stamps, answers.new) ≡ served_from packed p bytes.now (take n (items_of requests.now)) 0
         (entry_board chip ct bt fst bst wear marks stamps) answers.old }
 {
-    let mut i = 0;
-    while i < n {
+    for i in 0..n {
         turn(
             p, chip, ct, bt, fst, bst, wear, marks, stamps, ordered, requests, bytes, answers, i,
         );
-        i += 1;
     }
 }
 
 // The items are written in list order, each answered in its place; the state is checked once.
+// The call's own reply, 0 where it is let through.
 pub fn queue(
     p: Params,
     chip: &mut [u8],
@@ -102,7 +101,7 @@ pub fn queue(
     ensures { flat_outcome result answers.new (exit_board chip ct bt fst bst wear marks stamps) ≡ flat_call p (entry_board chip ct bt fst bst wear marks stamps)
         requests.now bytes.now answers.old }
 {
-    let h = queue_head::head_flat(
+    let h = match queue_head::head_flat(
         p,
         chip,
         ct,
@@ -114,11 +113,13 @@ pub fn queue(
         stamps,
         requests.len(),
         answers.len(),
-    );
+    ) {
+        Ok(h) => h,
+        Err(reply) => return u32::from(reply) as u64,
+    };
     turns(
         p, chip, ct, bt, fst, bst, wear, marks, stamps, h.ordered, requests, bytes, answers,
         h.items,
     );
-    let reply = h.reply;
-    rules::number(reply) as u64
+    0
 }

@@ -87,19 +87,17 @@ fn turns(
         (stage (entry_board chip ct bt fst bst wear marks stamps) answers.old budget) }
 {
     let mut left = budget;
-    let mut i = 0;
-    while i < n {
+    for i in 0..n {
         left = turn(
             p, chip, ct, bt, fst, bst, wear, marks, stamps, ordered, requests, bytes, answers, i,
             left,
         );
-        i += 1;
     }
     left
 }
 
 // The items are written in list order until the budget is spent, and then the tables are lost.
-// The answers of the items that were finished stand.
+// The answers of the items that were finished stand. The call's own reply, 0 where it is let through.
 pub fn queue_cut(
     p: Params,
     chip: &mut [u8],
@@ -118,7 +116,7 @@ pub fn queue_cut(
     ensures { flat_outcome result answers.new (exit_board chip ct bt fst bst wear marks stamps) ≡ flat_cut p (entry_board chip ct bt fst bst wear marks stamps) budget
         requests.now bytes.now answers.old }
 {
-    let h = queue_head::head_flat(
+    let h = match queue_head::head_flat(
         p,
         chip,
         ct,
@@ -130,15 +128,16 @@ pub fn queue_cut(
         stamps,
         requests.len(),
         answers.len(),
-    );
+    ) {
+        Ok(h) => h,
+        Err(reply) => return u32::from(reply) as u64,
+    };
     let left = turns(
         p, chip, ct, bt, fst, bst, wear, marks, stamps, h.ordered, requests, bytes, answers,
         h.items, budget,
     );
-    let reply = h.reply;
-    let word = rules::number(reply) as u64;
-    if (left == 0) & (word == 0) {
+    if left == 0 {
         chip_lost::lose(ct, bt, fst, bst, marks, stamps);
     }
-    word
+    0
 }

@@ -30,22 +30,8 @@ fn why_numbers(w: Why) -> [u32; WHY_NUMBERS]
     ensures { result ≡ numbers_of w }
 {
     match w {
-        Why::Refused(r) => [rules::number(r), 0, 0, 0, 0, 0, 0, 0, 0, 0, 0, 0, 0],
-        Why::Disordered(k) => [
-            7,
-            check_broken::rule_number(k),
-            0,
-            0,
-            0,
-            0,
-            0,
-            0,
-            0,
-            0,
-            0,
-            0,
-            0,
-        ],
+        Why::Refused(r) => [u32::from(r), 0, 0, 0, 0, 0, 0, 0, 0, 0, 0, 0, 0],
+        Why::Disordered(k) => [7, u32::from(k), 0, 0, 0, 0, 0, 0, 0, 0, 0, 0, 0],
         Why::Empty(fc) => {
             let f = forecast_numbers(fc);
             [0, 0, 0, 0, 0, 0, 0, 0, f[0], f[1], f[2], f[3], 0]
@@ -71,18 +57,6 @@ fn why_numbers(w: Why) -> [u32; WHY_NUMBERS]
     }
 }
 
-// One list over another of its length.
-fn put_list(to: &mut [u32], from: &[u32])
-    requires { length to.old ≡ length from.now }
-    ensures { to.new ≡ from.now }
-{
-    let mut i = 0;
-    while i < from.len() {
-        to[i] = from[i];
-        i += 1;
-    }
-}
-
 // An answer in the lent list, where its reply is 0 or 7. The reply.
 pub fn tell(w: Why, list: &mut [u32]) -> u64
     requires small { Small (numbers_of w) }
@@ -93,7 +67,7 @@ pub fn tell(w: Why, list: &mut [u32]) -> u64
     let ns = why_numbers(w);
     let reply = ns[0];
     if (reply == 0) | (reply == 7) {
-        put_list(list, &ns);
+        list.copy_from_slice(&ns);
         return reply as u64;
     }
     reply as u64

@@ -8,7 +8,6 @@ use lib.ListN.{length, take}
 use Rattle.lists.specs.Below.{list_below}
 use Rattle.lists.proofs.Lists.{list_cong, list_length}
 use Rattle.rules.specs.declared.Params.{Params}
-use Rattle.rules.specs.declared.Reply.{Reply}
 use Rattle.rules.specs.declared.Reply.TheVariants.{Accepted}
 use Rattle.rules.specs.declared.Answer.{Answer}
 use Rattle.rules.specs.Parameters.{allowed}
@@ -67,7 +66,7 @@ module _ (p : Params) (b : Board) (e : reply_of p b format ≡ Accepted) where
       pub format_whole : n < k → (o : Outcome) → o ≡ outcome_of p (over b b.bt bst) format → o ≡ step_outcome p b (limited k format)
       format_whole h o q = whole p b format good _ work k n count h o (q ∙ still_leaves)
 
-      pub format_ends : k ≤ n → (r : Reply) → r ≡ reply_of p b format → (a : Answer) → a ≡ answer_of r [] 0 → (b' : Board)
+      pub format_ends : k ≤ n → (a : Answer) → a ≡ answer_of Accepted [] 0 → (b' : Board)
           → b' ≡ cut_board p (over b b.bt bst) (take k (erase_where p b.wear (listed bst))) → outcome a [] [] b' ≡ step_outcome p b (limited k format)
       unfolding has_budget
-      format_ends h r er a ea b' q = ends p b format good _ work k n count b.bt bst lists_good refl h e r er a ea b' q
+      format_ends h a ea b' q = ends p b format good _ work k n count b.bt bst lists_good refl h e Accepted (sym e) a ea b' q

@@ -57,8 +57,7 @@ pub fn format(
 ) -> Answer
     ensures { outcome result [] [] (exit_board chip ct bt fst bst wear marks stamps) ≡ outcome_of p (entry_board chip ct bt fst bst wear marks stamps) format }
 {
-    let reply = replies::format_reply(p, chip, ct, bt, fst, bst, wear, marks, stamps);
-    if rules::number(reply) != 0 {
+    if let Err(reply) = replies::format_reply(p, chip, ct, bt, fst, bst, wear, marks, stamps) {
         return reply_rows::idle(reply);
     }
     format_all(p, chip, ct, bt, fst, bst, wear, marks, stamps)
@@ -79,8 +78,7 @@ pub fn format_cut(
 ) -> Answer
     ensures { outcome result [] [] (exit_board chip ct bt fst bst wear marks stamps) ≡ step_outcome p (entry_board chip ct bt fst bst wear marks stamps) (limited budget format) }
 {
-    let reply = replies::format_reply(p, chip, ct, bt, fst, bst, wear, marks, stamps);
-    if rules::number(reply) != 0 {
+    if let Err(reply) = replies::format_reply(p, chip, ct, bt, fst, bst, wear, marks, stamps) {
         return reply_rows::idle(reply);
     }
     format_work::reserve_bad(p, chip, bst);
@@ -99,5 +97,5 @@ pub fn format_cut(
         stamps,
         budget as usize,
     );
-    reply_rows::idle(reply)
+    reply_rows::idle(Reply::Accepted)
 }

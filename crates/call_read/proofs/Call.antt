@@ -1,10 +1,9 @@
 -- What an accepted read asks, and its work done.
 -- Assumes nothing.
-use mathlib.Core.Path.{◌≡◌, sym, ap₂, ◌∙◌}
+use mathlib.Core.Path.{◌≡◌, sym, ap, ◌∙◌}
 use mathlib.Core.List.{List, []}
 use Prim.Native.Nat.{ℕ}
 use Rattle.rules.specs.declared.Params.{Params}
-use Rattle.rules.specs.declared.Reply.{Reply}
 use Rattle.rules.specs.declared.Reply.TheVariants.{Accepted}
 use Rattle.rules.specs.declared.Answer.{Answer}
 use Rattle.rules.specs.Tables.{Board}
@@ -24,7 +23,7 @@ module _ (p : Params) (b : Board) (q : Request) (e : reply_of p b (read q) ≡ A
   asked = read_asked p b q (admitted p b q (read_checks p b q e))
 
   pub read_done : (bytes : List ℕ) → bytes ≡ read_bytes p b q → (looks : ℕ) → Looked p b.chip b.ct b.bt (request_cluster p q) looks
-      → (r : Reply) → r ≡ reply_of p b (read q) → (a : Answer) → a ≡ answer_of r [] looks → outcome a bytes [] b ≡ outcome_of p b (read q)
-  read_done bytes d looks k r er a is =
+      → (a : Answer) → a ≡ answer_of Accepted [] looks → outcome a bytes [] b ≡ outcome_of p b (read q)
+  read_done bytes d looks k a is =
       let n : looks ≡ looks_at p b (request_cluster p q) = unfold looks_at in k.is b.fst in
-      (λ i. outcome ((is ∙ ap₂ {C = Answer} (λ (y : Reply) (m : ℕ). answer_of y [] m) (er ∙ e) n) i) (d i) [] b) ∙ sym (read_accepted p b q e)
+      (λ i. outcome ((is ∙ ap (answer_of Accepted []) n) i) (d i) [] b) ∙ sym (read_accepted p b q e)

@@ -7,7 +7,7 @@ ghost use Rattle.rules.specs.Requests.{read, request_of};
 ghost use Rattle.rules.specs.Calls.{outcome_of};
 ghost use Rattle.outcomes.specs.Claims.{outcome};
 
-use rules::{Answer, Params};
+use rules::{Answer, Params, Reply};
 
 // The lent data becomes the sectors asked for; 255 in those that were not written since the last format.
 pub fn read(
@@ -27,7 +27,7 @@ pub fn read(
     ensures { outcome result bytes.new [] (seen_board chip ct bt fst bst wear marks stamps) ≡ outcome_of p (seen_board chip ct bt fst bst wear marks stamps)
         (read (request_of lba count bytes.old)) }
 {
-    let reply = replies::read_reply(
+    if let Err(reply) = replies::read_reply(
         p,
         chip,
         ct,
@@ -40,10 +40,9 @@ pub fn read(
         lba,
         count,
         bytes.len(),
-    );
-    if rules::number(reply) != 0 {
+    ) {
         return reply_rows::idle(reply);
     }
     let looks = read_work::read_sectors(p, chip, ct, bt, lba as usize, count as usize, bytes);
-    reply_rows::looked(reply, looks)
+    reply_rows::looked(Reply::Accepted, looks)
 }

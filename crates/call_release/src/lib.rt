@@ -7,7 +7,7 @@ ghost use Rattle.rules.specs.Requests.{release};
 ghost use Rattle.rules.specs.Calls.{outcome_of};
 ghost use Rattle.outcomes.specs.Claims.{outcome};
 
-use rules::{Answer, Cluster, Params, Segment};
+use rules::{Answer, Cluster, Params, Reply, Segment};
 
 // The cluster's CT entry becomes none: its sectors read as 255 from now on, and no reclaim copies its frames.
 pub fn release(
@@ -24,13 +24,14 @@ pub fn release(
 ) -> Answer
     ensures { outcome result [] [] (board_of chip.now ct.new bt.now fst.now bst.now wear.now marks.new stamps.new) ≡ outcome_of p (board_of chip.now ct.old bt.now fst.now bst.now wear.now marks.old stamps.old) (release cluster) }
 {
-    let reply = replies::release_reply(p, chip, ct, bt, fst, bst, wear, marks, stamps, cluster);
-    if rules::number(reply) != 0 {
+    if let Err(reply) = replies::release_reply(
+        p, chip, ct, bt, fst, bst, wear, marks, stamps, cluster,
+    ) {
         return reply_rows::idle(reply);
     }
     let c = Cluster(cluster as usize);
     let old = read_work::find_frame(p, chip, ct, bt, c);
-    write_marks::unmark(p, marks, rules::region_of(p, c), old);
+    write_marks::unmark(p, marks, rules::region_of(p, c), old.spot);
     chip_tables::set_ct(ct, c, Segment(rules::NONE));
-    reply_rows::idle(reply)
+    reply_rows::idle(Reply::Accepted)
 }

@@ -8,7 +8,6 @@ use lib.ListN.{length, take}
 use Rattle.lists.specs.Below.{list_below}
 use Rattle.lists.proofs.Lists.{list_length}
 use Rattle.rules.specs.declared.Params.{Params}
-use Rattle.rules.specs.declared.Reply.{Reply}
 use Rattle.rules.specs.declared.Reply.TheVariants.{Accepted}
 use Rattle.rules.specs.declared.Answer.{Answer}
 use Rattle.rules.specs.Parameters.{allowed}
@@ -65,7 +64,7 @@ module _ (p : Params) (b : Board) (e : reply_of p b start ≡ Accepted) where
       pub start_whole : n < k → (o : Outcome) → o ≡ outcome_of p (over b bt bst) start → o ≡ step_outcome p b (limited k start)
       start_whole h o q = whole p b start (left_over p b.chip) _ work k n count h o (q ∙ still_leaves)
 
-      pub start_ends : k ≤ n → (r : Reply) → r ≡ reply_of p b start → (a : Answer) → a ≡ answer_of r [] 0 → (b' : Board)
+      pub start_ends : k ≤ n → (a : Answer) → a ≡ answer_of Accepted [] 0 → (b' : Board)
           → b' ≡ cut_board p (over b bt bst) (take k (erase_where p b.wear (listed bst))) → outcome a [] [] b' ≡ step_outcome p b (limited k start)
       unfolding has_budget
-      start_ends h r er a ea b' q = ends p b start (left_over p b.chip) _ work k n count bt bst is refl h e r er a ea b' q
+      start_ends h a ea b' q = ends p b start (left_over p b.chip) _ work k n count bt bst is refl h e Accepted (sym e) a ea b' q

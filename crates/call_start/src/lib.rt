@@ -10,10 +10,11 @@ ghost use Rattle.rules.specs.Replies.{reply_of};
 ghost use Rattle.rules.specs.Calls.{outcome_of};
 ghost use Rattle.rules.specs.Cuts.{limited, step_outcome};
 ghost use Rattle.outcomes.specs.Claims.{outcome};
+ghost use Rattle.reply_rows.specs.Verdicts.{Verdict};
 
 use rules::{Answer, Params, Reply};
 
-// The reply to a start: 1 or 2; then 7 where the chip is none to start from.
+// The reply to a start: refused with 1 or 2; then with 7 where the chip is none to start from.
 fn start_reply(
     p: Params,
     chip: &[u8],
@@ -24,17 +25,14 @@ fn start_reply(
     wear: &[u32],
     marks: &[u64],
     stamps: &[u32],
-) -> Reply
-    ensures { result ≡ reply_of p (seen_board chip ct bt fst bst wear marks stamps) start }
+) -> Result<(), Reply>
+    ensures { Verdict result (reply_of p (seen_board chip ct bt fst bst wear marks stamps) start) }
 {
-    let reply = replies::board_reply(p, chip, ct, bt, fst, bst, wear, marks, stamps);
-    if rules::number(reply) != 0 {
-        return reply;
-    }
+    replies::board_reply(p, chip, ct, bt, fst, bst, wear, marks, stamps)?;
     if !check_start::can_start(p, chip) {
-        return Reply::NotOrderly;
+        return Err(Reply::NotOrderly);
     }
-    Reply::Accepted
+    Ok(())
 }
 
 // What an accepted start does: the blocks that are left over are erased, and marked where that wears them out, and every table but the wear is rebuilt from the chip. The answer counts the erases.
@@ -75,8 +73,7 @@ pub fn start(
 ) -> Answer
     ensures { outcome result [] [] (exit_board chip ct bt fst bst wear marks stamps) ≡ outcome_of p (entry_board chip ct bt fst bst wear marks stamps) start }
 {
-    let reply = start_reply(p, chip, ct, bt, fst, bst, wear, marks, stamps);
-    if rules::number(reply) != 0 {
+    if let Err(reply) = start_reply(p, chip, ct, bt, fst, bst, wear, marks, stamps) {
         return reply_rows::idle(reply);
     }
     rebuild(p, chip, ct, bt, fst, bst, wear, marks, stamps)
@@ -97,8 +94,7 @@ pub fn start_cut(
 ) -> Answer
     ensures { outcome result [] [] (exit_board chip ct bt fst bst wear marks stamps) ≡ step_outcome p (entry_board chip ct bt fst bst wear marks stamps) (limited budget start) }
 {
-    let reply = start_reply(p, chip, ct, bt, fst, bst, wear, marks, stamps);
-    if rules::number(reply) != 0 {
+    if let Err(reply) = start_reply(p, chip, ct, bt, fst, bst, wear, marks, stamps) {
         return reply_rows::idle(reply);
     }
     start_blocks::list_left(p, chip, bt, bst);
@@ -117,5 +113,5 @@ pub fn start_cut(
         stamps,
         budget as usize,
     );
-    reply_rows::idle(reply)
+    reply_rows::idle(Reply::Accepted)
 }

@@ -1,4 +1,4 @@
--- The cases of the answer, each by the reply's number; what an accepted one shows of the board; and the place that the lookup found.
+-- The cases of the answer, each by the reply; what an accepted one shows of the board; and the place that the lookup found.
 -- Assumes nothing.
 use mathlib.Core.Path.{◌≡◌, ap, refl, sym, ◌∙◌}
 use mathlib.Core.Bool.{Bool, false, not, true}
@@ -10,6 +10,7 @@ use native.Mathlib.Decide.{ℕ_discrete}
 use lib.Dec.{eqb}
 use lib.ListN.{length, length-replicate, replicate}
 use borrow.Author.Tests.{eq-eqb, eqb-false, eqb-true, le-ltb, ltb-true, ne_eqb, not-false, not-true}
+use Rattle.std.specs.Prelude.{◌≢◌}
 use Rattle.lists.proofs.Tests.{and_right}
 use Rattle.rules.specs.declared.Params.{Params}
 use Rattle.rules.specs.declared.Reply.{Reply}
@@ -23,6 +24,7 @@ use Rattle.rules.specs.Requests.{Request, read, request_region}
 use Rattle.rules.specs.Tables.{Board, bt_at, ct_at, none, stamp_at, marks_length}
 use Rattle.rules.specs.Write.{Plan, has_room, plan_block, plan_frame, plan_of, plan_vblock}
 use Rattle.rules.proofs.Admitted.{Admitted, Checks, admitted, read_checks}
+use Rattle.rules.proofs.Outcomes.{accepted_by}
 use Rattle.rules.proofs.RegionFacts.{neat}
 use Rattle.rules.proofs.Sizes.{sizes}
 use Rattle.rules.proofs.TableFacts.{marks_in_lem, lengths_in as tables_in}
@@ -43,24 +45,24 @@ use Rattle.call_why.proofs.Small.{found_small}
 
 -- ---- by the reply
 
-module _ (p : Params) (b : Board) (lba : ℕ) (r : Reply) (e : r ≡ why_reply p b lba) (n : ℕ) (m : n ≡ number_of r) where
+module _ (p : Params) (b : Board) (lba : ℕ) where
   -- 7: the parameters and the lengths passed
-  pub lengths_at : n ≡ 7 → Lengths p b.chip b.ct b.bt b.fst b.bst × ((length b.marks ≡ marks_length p) × (length b.stamps ≡ p.mu))
-  lengths_at z =
-      let w = disorder p b lba (sym (ap number_of e) ∙ sym m ∙ z) in
+  pub lengths_at : number_of (why_reply p b lba) ≡ 7 → Lengths p b.chip b.ct b.bt b.fst b.bst × ((length b.marks ≡ marks_length p) × (length b.stamps ≡ p.mu))
+  lengths_at e =
+      let w = disorder p b lba e in
       (lengths_in p b w.fine w.fits, (marks_fit p b w.fits, (tables_in p b w.fits).stamps_length))
 
-  pub why_7 : n ≡ 7 → (k : Rule) → k ≡ broken_rule p b → 7 ∷ rule_number k ∷ replicate 11 0 ≡ why_of p b lba
+  pub why_7 : number_of (why_reply p b lba) ≡ 7 → (k : Rule) → k ≡ broken_rule p b → 7 ∷ rule_number k ∷ replicate 11 0 ≡ why_of p b lba
   unfolding why_of is_accepted
-  why_7 z k is = rw (← e, ← m, z, is)
+  why_7 e k is = rw (e, is)
 
-  pub why_refused : (n ≡ 7 → ⊥) → (n ≡ 0 → ⊥) → number_of r ∷ replicate 12 0 ≡ why_of p b lba
+  pub why_refused : (r : Reply) → (why_reply p b lba ≡ r) × (why_reply p b lba ≢ Accepted) → number_of r ≢ 7 → number_of r ∷ replicate 12 0 ≡ why_of p b lba
   unfolding why_of is_accepted
-  why_refused ne some = rw (← e, ← m, ne_eqb n 0 some, ne_eqb n 7 ne)
+  why_refused r h ne = rw (h.0, ne_eqb (number_of r) 0 (λ z. h.1 (h.0 ∙ accepted_by r (number_of r) refl z)), ne_eqb (number_of r) 7 ne)
 
   -- 0: every test passed
-  pub passed : n ≡ 0 → Answered p b lba
-  passed z = answered p b lba (sym (ap number_of e) ∙ sym m ∙ z)
+  pub passed : why_reply p b lba ≡ Accepted → Answered p b lba
+  passed e = answered p b lba (ap number_of e)
 
 -- the sector is one that a read of it would be accepted for, and the marks are the board's
 module _ (p : Params) (b : Board) (lba : ℕ) (h : Answered p b lba) where

@@ -1,7 +1,7 @@
 -- Document 02, T-05: "for one LBA, why it reads so and what a write would do". The answer is an enum; `numbers_of` lists the number of each case and its
 -- values, and `why_of` is what they have to be by the rules.
 -- Assumes nothing.
-use Rattle.std.specs.Prelude.{Bool, cond, List, [], ◌∷◌, ◌++◌, ℕ, ◌<◌, eqb, leb, length, replicate}
+use Rattle.std.specs.Prelude.{Bool, cond, List, [], ◌∷◌, ◌++◌, ℕ, ◌<◌, eqb, length, replicate}
 use Rattle.rules.specs.declared.Params.{Params}
 use Rattle.rules.specs.Numbers.{cluster_of, place_of, region_of, vblock_of}
 use Rattle.rules.specs.Pages.{block, last_in}

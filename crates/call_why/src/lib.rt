@@ -13,7 +13,7 @@ ghost use Rattle.call_why.specs.Asked.{ForecastAsked, PlaceAsked, VictimAsked};
 ghost use Rattle.call_why.specs.Why.{Small, forecast_in, forecast_numbers, holder_of, numbers_of, place_numbers, plan_numbers, why_of};
 
 use check_broken::Rule;
-use read_work::Found;
+use read_work::Spot;
 use rules::{Cluster, PBlock, Params, Reply, Segment, VBlock};
 use write_plan::Planned;
 
@@ -83,17 +83,16 @@ fn forecast_of(
         return Forecast::NoStamp;
     }
     let pl = write_plan::plan_of(p, chip, bt, fst, marks, r);
-    let n = write_room::plan_block(p, bt, bst, wear, r, pl);
-    if n.0 == rules::NOT_FOUND {
+    let Some(_) = write_room::plan_block(p, bt, bst, wear, r, pl) else {
         return Forecast::NoBlock;
-    }
+    };
     planned(p, marks, r, pl)
 }
 
 // The place of cluster c, which the lookup found there.
-fn place_at(p: Params, ct: &[u16], bt: &[u16], c: Cluster, at: Found) -> Place
+fn place_at(p: Params, ct: &[u16], bt: &[u16], c: Cluster, at: Spot) -> Place
     requires { PlaceAsked p ct.now bt.now c.0 at.vblock.0 }
-    ensures { (chip fst bst wear marks stamps : List ℕ) → at.kept ≡ true → Within p chip ct.now bt.now c.0 at.kept at.vblock.0 at.inner
+    ensures { (chip fst bst wear marks stamps : List ℕ) → Within p chip ct.now bt.now c.0 true at.vblock.0 at.inner
         → place_numbers result ≡ holder_of p (board_of chip ct.now bt.now fst bst wear marks stamps) c.0 }
 {
     let r = rules::region_of(p, c);
@@ -123,12 +122,12 @@ pub fn explain(
     ensures result_value { numbers_of result ≡ why_of p (seen_board chip ct bt fst bst wear marks stamps) lba }
     ensures small { Small (numbers_of result) }
 {
-    let reply = replies::why_reply(p, chip, ct, bt, fst, bst, wear, marks, stamps, lba);
-    let n = rules::number(reply);
-    if n == 7 {
-        return Why::Disordered(check_broken::broken_rule(p, chip, ct, bt, fst, bst, marks, stamps));
-    }
-    if n != 0 {
+    if let Err(reply) = replies::why_reply(p, chip, ct, bt, fst, bst, wear, marks, stamps, lba) {
+        let n = u32::from(reply);
+        if n == 7 {
+            let broken = check_broken::broken_rule(p, chip, ct, bt, fst, bst, marks, stamps);
+            return Why::Disordered(broken);
+        }
         return Why::Refused(reply);
     }
     let c = rules::cluster_of(p, lba as usize);
@@ -144,8 +143,8 @@ pub fn explain(
         rules::region_of(p, c),
     );
     let at = read_work::find_frame(p, chip, ct, bt, c);
-    if !at.kept {
+    let Some(spot) = at.spot else {
         return Why::Empty(fc);
-    }
-    Why::Held(place_at(p, ct, bt, c, at), fc, at.looks)
+    };
+    Why::Held(place_at(p, ct, bt, c, spot), fc, at.looks)
 }

@@ -28,7 +28,7 @@ pub fn write(
     ensures { outcome result bytes.now [] (exit_board chip ct bt fst bst wear marks stamps) ≡ outcome_of p (entry_board chip ct bt fst bst wear marks stamps)
         (write (request_of lba count bytes.now)) }
 {
-    let reply = replies::write_reply(
+    if let Err(reply) = replies::write_reply(
         p,
         chip,
         ct,
@@ -41,8 +41,7 @@ pub fn write(
         lba,
         count,
         bytes.len(),
-    );
-    if rules::number(reply) != 0 {
+    ) {
         return reply_rows::idle(reply);
     }
     write_work::write_orderly(
@@ -81,7 +80,7 @@ pub fn write_cut(
     ensures { outcome result bytes.now [] (exit_board chip ct bt fst bst wear marks stamps) ≡ step_outcome p (entry_board chip ct bt fst bst wear marks stamps)
         (limited budget (write (request_of lba count bytes.now))) }
 {
-    let reply = replies::write_reply(
+    if let Err(reply) = replies::write_reply(
         p,
         chip,
         ct,
@@ -94,8 +93,7 @@ pub fn write_cut(
         lba,
         count,
         bytes.len(),
-    );
-    if rules::number(reply) != 0 {
+    ) {
         return reply_rows::idle(reply);
     }
     let at = lba as usize;

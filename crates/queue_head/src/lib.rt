@@ -7,15 +7,14 @@ ghost use Rattle.queue_head.specs.Heads.{FlatHead, HeadIs};
 
 use rules::{Params, Reply};
 
-// What the head found: the reply of the call itself, whether the state is orderly, and how many items are to be served.
+// What the head of a call that is let through found: whether the state is orderly, and how many items are to be served.
 #[derive(Clone, Copy)]
 pub struct Head {
-    pub reply: Reply,
     pub ordered: bool,
     pub items: usize,
 }
 
-// The reply to the call itself, 1, 2 or 8, and the one look at the state.
+// The one look at the state, where the call itself is not refused with 1, 2 or 8.
 pub fn head_of(
     p: Params,
     chip: &[u8],
@@ -28,34 +27,22 @@ pub fn head_of(
     stamps: &[u32],
     items: usize,
     answers: usize,
-) -> Head
+) -> Result<Head, Reply>
     ensures { HeadIs p (seen_board chip ct bt fst bst wear marks stamps) items answers result }
 {
-    let board = replies::board_reply(p, chip, ct, bt, fst, bst, wear, marks, stamps);
-    if rules::number(board) != 0 {
-        return Head {
-            reply: board,
-            ordered: false,
-            items: 0,
-        };
-    }
+    replies::board_reply(p, chip, ct, bt, fst, bst, wear, marks, stamps)?;
     if answers < items {
-        return Head {
-            reply: Reply::TooFewAnswers,
-            ordered: false,
-            items: 0,
-        };
+        return Err(Reply::TooFewAnswers);
     }
     let state = replies::state_reply(p, chip, ct, bt, fst, bst, marks, stamps);
-    Head {
-        reply: board,
-        ordered: rules::number(state) == 0,
+    Ok(Head {
+        ordered: state.is_ok(),
         items,
-    }
+    })
 }
 
 // The head of a queue whose request list has `len` numbers:
-// 2 where they are not three to a request, after 1.
+// refused with 2 where they are not three to a request, after 1.
 pub fn head_flat(
     p: Params,
     chip: &[u8],
@@ -68,34 +55,26 @@ pub fn head_flat(
     stamps: &[u32],
     len: usize,
     answers: usize,
-) -> Head
+) -> Result<Head, Reply>
     ensures { FlatHead p (seen_board chip ct bt fst bst wear marks stamps) len answers result }
 {
-    if len % 3 == 0 {
-        return head_of(
-            p,
-            chip,
-            ct,
-            bt,
-            fst,
-            bst,
-            wear,
-            marks,
-            stamps,
-            len / 3,
-            answers,
-        );
+    if !chip_sizes::parameters_allowed(p) {
+        return Err(Reply::BadParameter);
     }
-    if chip_sizes::parameters_allowed(p) {
-        return Head {
-            reply: Reply::WrongLength,
-            ordered: false,
-            items: 0,
-        };
+    if len % 3 != 0 {
+        return Err(Reply::WrongLength);
     }
-    Head {
-        reply: Reply::BadParameter,
-        ordered: false,
-        items: 0,
-    }
+    head_of(
+        p,
+        chip,
+        ct,
+        bt,
+        fst,
+        bst,
+        wear,
+        marks,
+        stamps,
+        len / 3,
+        answers,
+    )
 }

@@ -1,4 +1,4 @@
--- The two ends of an item: refused by its reply's number, and with its work done, which may still refuse it with 10. Both are the single write that it asks for.
+-- The two ends of an item: refused by a row, and with its work done, which may still refuse it with 10. Both are the single write that it asks for.
 -- Assumes nothing.
 use mathlib.Core.Path.{◌≡◌, refl, sym, ap, ◌∙◌}
 use mathlib.Core.Logic.{◌⊎◌, inl, inr}
@@ -9,6 +9,7 @@ use native.Mathlib.Omega.{arith}
 use native.Mathlib.Decide.{dec_lt}
 use lib.ListN.{length, take, drop}
 use borrow.Author.Tests.{leb-true, not-false}
+use Rattle.std.specs.Prelude.{Err}
 use Rattle.loops.proofs.Lent.{width}
 use Rattle.rules.specs.declared.Params.{Params}
 use Rattle.rules.specs.declared.Reply.{Reply}
@@ -18,7 +19,7 @@ use Rattle.rules.specs.declared.Item.{Item}
 use Rattle.rules.specs.Tables.{Board}
 use Rattle.rules.specs.Orderly.{orderly}
 use Rattle.rules.specs.Requests.{Request, item_request, lies, write, request_of}
-use Rattle.rules.specs.Replies.{bad_count, early_rows, first_row, is_accepted, lengths_fit, number_of, reply_of, wrong_data}
+use Rattle.rules.specs.Replies.{bad_count, early_rows, first_row, is_accepted, lengths_fit, reply_of, wrong_data}
 use Rattle.rules.specs.Write.{write_ops}
 use Rattle.rules.specs.Calls.{Outcome, answer_of, ops_of, outcome_of, single, work_of}
 use Rattle.rules.specs.Cuts.{limited, step_outcome}
@@ -31,15 +32,16 @@ use Rattle.queue_turns.specs.Limited.{item_step, left_after}
 use Rattle.queue_turns.proofs.Limited.{none_made}
 use Rattle.outcomes.specs.Claims.{outcome}
 use Rattle.outcomes.proofs.Cuts.{step_refused, step_whole, write_work_lem}
-use Rattle.reply_rows.proofs.Rows.{early_reply, early_zero}
+use Rattle.reply_rows.specs.Verdicts.{Verdict}
+use Rattle.reply_rows.proofs.Rows.{early_reply}
 use Rattle.queue_head.specs.Heads.{Ready}
 use Rattle.queue_item.specs.Items.{ItemIs, ItemLimited}
 
--- what the reply of an item promises
-abbrev Replied : Params → Bool → List ℕ → ℕ → ℕ → Bool → Reply → Type 0
-Replied p ordered stamps lba count fits r =
+-- what the reply of an item says of the row that answers it
+abbrev Replied : Params → Bool → List ℕ → ℕ → ℕ → Bool → (Reply → Type 0) → Type 0
+Replied p ordered stamps lba count fits says =
     (b : Board) (q : Request) → lengths_fit p b ≡ true → ordered ≡ orderly p b → b.stamps ≡ stamps → q.lba ≡ lba → q.count ≡ count
-    → (bad_count p q ≡ false → wrong_data p q ≡ not fits) → r ≡ first_row Accepted (early_rows p b q)
+    → (bad_count p q ≡ false → wrong_data p q ≡ not fits) → says (first_row Accepted (early_rows p b q))
 
 module _ (p : Params) (ordered : Bool) (b : Board) (y : Ready p ordered b) (bytes : List ℕ) (it : Item) where
   -- the write that it asks for
@@ -47,41 +49,43 @@ module _ (p : Params) (ordered : Bool) (b : Board) (y : Ready p ordered b) (byte
   request = item_request p bytes it
 
   -- replied by its count, its address, whether its bytes lie there, the flag, and the last stamps
-  module _ (fits : Bool) (fit : fits ≡ lies p bytes it) (r : Reply) (replied : Replied p ordered b.stamps it.lba it.count fits r) (n : ℕ) (m : n ≡ number_of r) where
-    early : r ≡ first_row Accepted (early_rows p b request)
+  module _ (fits : Bool) (fit : fits ≡ lies p bytes it) where
+    early : (says : Reply → Type 0) → Replied p ordered b.stamps it.lba it.count fits says → says (first_row Accepted (early_rows p b request))
     unfolding item_request
-    early = replied b request y.lengths y.order refl refl refl (λ e. item_data p bytes it y.fine e ∙ ap not (sym fit))
+    early says replied = replied b request y.lengths y.order refl refl refl (λ e. item_data p bytes it y.fine e ∙ ap not (sym fit))
 
-    is : (n ≡ 0 → ⊥) → r ≡ reply_of p b (write request)
-    is ne = early_reply p b request r early n m ne
+    module _ (r : Reply) (replied : Replied p ordered b.stamps it.lba it.count fits (λ row. Verdict (Err r) row)) where
+      is : Verdict (Err r) (reply_of p b (write request))
+      is = early_reply p b request r (early (λ row. Verdict (Err r) row) replied)
 
-    pub item_refused : (n ≡ 0 → ⊥) → (a : Answer) → a ≡ answer_of r [] 0 → ItemIs p ordered b bytes it a b
-    unfolding item_outcome
-    item_refused ne a an =
-        let no : is_accepted (reply_of p b (write request)) ≡ false = rw (← is ne) (is_refused r (λ (e : r ≡ Accepted). ne (m ∙ ap number_of e))) in
-        let o = call_refused p b (write request) no in
-        record {
-          answered = an ∙ ap (λ (k : Reply). answer_of k [] 0) (is ne) ∙ sym (ap (λ (k : Outcome). k.answer) o);
-          left = sym (ap (λ (k : Outcome). k.board) o);
-          ready = y;
-        }
+      not_taken : is_accepted (reply_of p b (write request)) ≡ false
+      not_taken = is_refused (reply_of p b (write request)) is.1
 
-    -- with any budget
-    pub limited_refused : (n ≡ 0 → ⊥) → (a : Answer) → a ≡ answer_of r [] 0 → (k : ℕ) → ItemLimited p ordered b bytes k it a k b
-    unfolding item_step left_after
-    limited_refused ne a an k =
-        let no : is_accepted (reply_of p b (write request)) ≡ false = rw (← is ne) (is_refused r (λ (e : r ≡ Accepted). ne (m ∙ ap number_of e))) in
-        let o = step_refused p b k (write request) no ∙ call_refused p b (write request) no in
-        record {
-          answered = an ∙ ap (λ (q : Reply). answer_of q [] 0) (is ne) ∙ sym (ap (λ (q : Outcome). q.answer) o);
-          board = sym (ap (λ (q : Outcome). q.board) o);
-          left = omega (arith, none_made p b request no);
-          ready = λ some. y;
-        }
+      pub item_refused : (a : Answer) → a ≡ answer_of r [] 0 → ItemIs p ordered b bytes it a b
+      unfolding item_outcome
+      item_refused a an =
+          let o = call_refused p b (write request) not_taken in
+          record {
+            answered = an ∙ ap (λ (k : Reply). answer_of k [] 0) (sym is.0) ∙ sym (ap (λ (k : Outcome). k.answer) o);
+            left = sym (ap (λ (k : Outcome). k.board) o);
+            ready = y;
+          }
 
-    module _ (z : n ≡ 0) where
+      -- with any budget
+      pub limited_refused : (a : Answer) → a ≡ answer_of r [] 0 → (k : ℕ) → ItemLimited p ordered b bytes k it a k b
+      unfolding item_step left_after
+      limited_refused a an k =
+          let o = step_refused p b k (write request) not_taken ∙ call_refused p b (write request) not_taken in
+          record {
+            answered = an ∙ ap (λ (q : Reply). answer_of q [] 0) (sym is.0) ∙ sym (ap (λ (q : Outcome). q.answer) o);
+            board = sym (ap (λ (q : Outcome). q.board) o);
+            left = omega (arith, none_made p b request not_taken);
+            ready = λ some. y;
+          }
+
+    module _ (replied : Replied p ordered b.stamps it.lba it.count fits (λ row. row ≡ Accepted)) where
       passed : first_row Accepted (early_rows p b request) ≡ Accepted
-      passed = early_zero p b request r early n m z
+      passed = early (λ row. row ≡ Accepted) replied
 
       checks : Checks p b request
       checks = (early_in p b request passed).checks

@@ -42,8 +42,7 @@ pub fn item(
     ensures { ItemIs p ordered (entry_board chip ct bt fst bst wear marks stamps) bytes.now (item_of lba count first) result (exit_board chip ct bt fst bst wear marks stamps) }
 {
     let fits = has_bytes(p, bytes.len(), count, first);
-    let reply = reply_rows::item_reply(p, ordered, stamps, lba, count, fits);
-    if rules::number(reply) != 0 {
+    if let Err(reply) = reply_rows::item_reply(p, ordered, stamps, lba, count, fits) {
         return reply_rows::idle(reply);
     }
     let from = first as usize;
@@ -88,8 +87,7 @@ pub fn item_limited(
         (exit_board chip ct bt fst bst wear marks stamps) }
 {
     let fits = has_bytes(p, bytes.len(), count, first);
-    let refusal = reply_rows::item_reply(p, ordered, stamps, lba, count, fits);
-    if rules::number(refusal) != 0 {
+    if let Err(refusal) = reply_rows::item_reply(p, ordered, stamps, lba, count, fits) {
         return Limited {
             answer: reply_rows::idle(refusal),
             left: budget,

@@ -7,7 +7,7 @@ ghost use Rattle.rules.specs.Requests.{queue, queue_of};
 ghost use Rattle.rules.specs.Calls.{outcome_of};
 ghost use Rattle.outcomes.specs.Claims.{outcome};
 
-use rules::{Answer, Item, Params};
+use rules::{Answer, Item, Params, Reply};
 
 // The items are written in list order, each answered in its place; the state is checked once.
 pub fn queue(
@@ -27,7 +27,7 @@ pub fn queue(
     ensures { outcome result bytes.now answers.new (exit_board chip ct bt fst bst wear marks stamps) ≡ outcome_of p (entry_board chip ct bt fst bst wear marks stamps)
         (queue (queue_of requests.now bytes.now answers.old)) }
 {
-    let h = queue_head::head_of(
+    let h = match queue_head::head_of(
         p,
         chip,
         ct,
@@ -39,16 +39,17 @@ pub fn queue(
         stamps,
         requests.len(),
         answers.len(),
-    );
-    let mut i = 0;
-    while i < h.items {
+    ) {
+        Ok(h) => h,
+        Err(reply) => return reply_rows::idle(reply),
+    };
+    for i in 0..h.items {
         let q = requests[i];
         let a = queue_item::item(
             p, chip, ct, bt, fst, bst, wear, marks, stamps, h.ordered, q.lba, q.count, q.first,
             bytes,
         );
         answers[i] = a;
-        i = i + 1;
     }
-    reply_rows::idle(h.reply)
+    reply_rows::idle(Reply::Accepted)
 }

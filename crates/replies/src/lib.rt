@@ -7,10 +7,11 @@ ghost use Rattle.rules.specs.Lent.{seen_board};
 ghost use Rattle.rules.specs.Requests.{Request, format, read, release};
 ghost use Rattle.rules.specs.Replies.{early_rows, first_row, lent_rows, order_row, reply_of, why_reply};
 ghost use Rattle.check_rules.specs.Check.{Lengths};
+ghost use Rattle.reply_rows.specs.Verdicts.{Verdict};
 
 use rules::{Params, Reply};
 
-// The reply by the parameters and the lengths: 1 or 2, else 0.
+// The reply by the parameters and the lengths: refused with 1 or 2.
 pub fn board_reply(
     p: Params,
     chip: &[u8],
@@ -21,11 +22,11 @@ pub fn board_reply(
     wear: &[u32],
     marks: &[u64],
     stamps: &[u32],
-) -> Reply
-    ensures { result ≡ first_row Reply.Accepted (lent_rows p (seen_board chip ct bt fst bst wear marks stamps)) }
+) -> Result<(), Reply>
+    ensures { Verdict result (first_row Reply.Accepted (lent_rows p (seen_board chip ct bt fst bst wear marks stamps))) }
 {
     if !chip_sizes::parameters_allowed(p) {
-        return Reply::BadParameter;
+        return Err(Reply::BadParameter);
     }
     if !chip_sizes::lengths_fit(
         p,
@@ -38,12 +39,12 @@ pub fn board_reply(
         marks.len(),
         stamps.len(),
     ) {
-        return Reply::WrongLength;
+        return Err(Reply::WrongLength);
     }
-    Reply::Accepted
+    Ok(())
 }
 
-// The reply by the state: 7, else 0.
+// The reply by the state: refused with 7 where it is not orderly.
 pub fn state_reply(
     p: Params,
     chip: &[u8],
@@ -53,17 +54,17 @@ pub fn state_reply(
     bst: &[u8],
     marks: &[u64],
     stamps: &[u32],
-) -> Reply
+) -> Result<(), Reply>
     requires lengths { Lengths p chip.now ct.now bt.now fst.now bst.now }
     requires marks_len { length marks.now ≡ marks_length p }
     requires stamps_len { length stamps.now ≡ p.mu }
-    ensures { (wear : List ℕ) → result ≡ first_row Reply.Accepted
-        (order_row p (board_of chip.now ct.now bt.now fst.now bst.now wear marks.now stamps.now)) }
+    ensures { (wear : List ℕ) → Verdict result (first_row Reply.Accepted
+        (order_row p (board_of chip.now ct.now bt.now fst.now bst.now wear marks.now stamps.now))) }
 {
     if check_board::in_order(p, chip, ct, bt, fst, bst, marks, stamps) {
-        return Reply::Accepted;
+        return Ok(());
     }
-    Reply::NotOrderly
+    Err(Reply::NotOrderly)
 }
 
 // The reply to a read of `count` sectors from LBA on, with `len` bytes of data.
@@ -80,17 +81,12 @@ pub fn read_reply(
     lba: u32,
     count: u32,
     len: usize,
-) -> Reply
-    ensures { (q : Request) → q.lba ≡ lba → q.count ≡ count → length q.bytes ≡ len → result ≡ reply_of p (seen_board chip ct bt fst bst wear marks stamps) (read q) }
+) -> Result<(), Reply>
+    ensures { (q : Request) → q.lba ≡ lba → q.count ≡ count → length q.bytes ≡ len → Verdict result (reply_of p (seen_board chip ct bt fst bst wear marks stamps) (read q)) }
 {
-    let head = board_reply(p, chip, ct, bt, fst, bst, wear, marks, stamps);
-    if rules::number(head) != 0 {
-        return head;
-    }
-    let asked = reply_rows::request_reply(p, lba, count, reply_rows::wrong_data(p, count, len));
-    if rules::number(asked) != 0 {
-        return asked;
-    }
+    board_reply(p, chip, ct, bt, fst, bst, wear, marks, stamps)?;
+    let wrong = reply_rows::wrong_data(p, count, len);
+    reply_rows::request_reply(p, lba, count, wrong)?;
     state_reply(p, chip, ct, bt, fst, bst, marks, stamps)
 }
 
@@ -108,15 +104,12 @@ pub fn write_reply(
     lba: u32,
     count: u32,
     len: usize,
-) -> Reply
-    ensures { (q : Request) → q.lba ≡ lba → q.count ≡ count → length q.bytes ≡ len → result ≡ first_row Reply.Accepted (early_rows p (seen_board chip ct bt fst bst wear marks stamps) q) }
+) -> Result<(), Reply>
+    ensures { (q : Request) → q.lba ≡ lba → q.count ≡ count → length q.bytes ≡ len → Verdict result (first_row Reply.Accepted (early_rows p (seen_board chip ct bt fst bst wear marks stamps) q)) }
 {
-    let reply = read_reply(
+    read_reply(
         p, chip, ct, bt, fst, bst, wear, marks, stamps, lba, count, len,
-    );
-    if rules::number(reply) != 0 {
-        return reply;
-    }
+    )?;
     reply_rows::stamp_reply(p, stamps, lba)
 }
 
@@ -132,15 +125,12 @@ pub fn release_reply(
     marks: &[u64],
     stamps: &[u32],
     c: u32,
-) -> Reply
-    ensures { result ≡ reply_of p (seen_board chip ct bt fst bst wear marks stamps) (release c) }
+) -> Result<(), Reply>
+    ensures { Verdict result (reply_of p (seen_board chip ct bt fst bst wear marks stamps) (release c)) }
 {
-    let head = board_reply(p, chip, ct, bt, fst, bst, wear, marks, stamps);
-    if rules::number(head) != 0 {
-        return head;
-    }
+    board_reply(p, chip, ct, bt, fst, bst, wear, marks, stamps)?;
     if reply_rows::bad_cluster(p, c) {
-        return Reply::BadAddress;
+        return Err(Reply::BadAddress);
     }
     state_reply(p, chip, ct, bt, fst, bst, marks, stamps)
 }
@@ -157,15 +147,12 @@ pub fn why_reply(
     marks: &[u64],
     stamps: &[u32],
     lba: u32,
-) -> Reply
-    ensures { result ≡ why_reply p (seen_board chip ct bt fst bst wear marks stamps) lba }
+) -> Result<(), Reply>
+    ensures { Verdict result (why_reply p (seen_board chip ct bt fst bst wear marks stamps) lba) }
 {
-    let head = board_reply(p, chip, ct, bt, fst, bst, wear, marks, stamps);
-    if rules::number(head) != 0 {
-        return head;
-    }
+    board_reply(p, chip, ct, bt, fst, bst, wear, marks, stamps)?;
     if reply_rows::bad_address(p, lba) {
-        return Reply::BadAddress;
+        return Err(Reply::BadAddress);
     }
     state_reply(p, chip, ct, bt, fst, bst, marks, stamps)
 }
@@ -181,15 +168,12 @@ pub fn format_reply(
     wear: &[u32],
     marks: &[u64],
     stamps: &[u32],
-) -> Reply
-    ensures { result ≡ reply_of p (seen_board chip ct bt fst bst wear marks stamps) format }
+) -> Result<(), Reply>
+    ensures { Verdict result (reply_of p (seen_board chip ct bt fst bst wear marks stamps) format) }
 {
-    let head = board_reply(p, chip, ct, bt, fst, bst, wear, marks, stamps);
-    if rules::number(head) != 0 {
-        return head;
-    }
+    board_reply(p, chip, ct, bt, fst, bst, wear, marks, stamps)?;
     if chip_bad::count_good(p, chip, wear) < p.mu * p.gamma + 1 {
-        return Reply::TooFewBlocks;
+        return Err(Reply::TooFewBlocks);
     }
-    Reply::Accepted
+    Ok(())
 }

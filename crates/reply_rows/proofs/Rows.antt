@@ -1,7 +1,9 @@
 -- The reply table, row by row: what the tests so far have shown, and the reply of the first row that applies.
 -- Assumes nothing.
-use mathlib.Core.Path.{◌≡◌, refl, sym, ap, ◌∙◌}
+use mathlib.Core.Path.{◌≡◌, refl, ap}
 use lib.Dec.{ltb}
+use Rattle.std.specs.Prelude.{◌≢◌, Result, Err, IsErrAnd}
+use Rattle.std.proofs.lemmas.Result.{err_from_is_err_and}
 use borrow.Author.Tests.{le-leb, leb-false, lt-leb}
 use mathlib.Core.Bool.{Bool, true, false, not, cond}
 use mathlib.Core.List.{List, [], ◌∷◌, ◌++◌}
@@ -19,8 +21,8 @@ use Rattle.rules.specs.Requests.{Request, request_region, write}
 use Rattle.rules.specs.Format.{good_blocks}
 use Rattle.rules.specs.Replies.{Row, row, access_rows, bad_address, bad_count, bad_parameter, early_rows, first_row, lengths_fit, lent_rows, no_stamp_left, not_orderly, number_of, order_row, reply_of, stamp_row, too_few_blocks, wrong_data, wrong_length}
 use Rattle.rules.proofs.Admitted.{Checks, early_refused}
-use Rattle.rules.proofs.Outcomes.{accepted_by}
 use Rattle.rules.proofs.Sizes.{sizes}
+use Rattle.reply_rows.specs.Verdicts.{Verdict}
 
 -- ---- no sum and no product wraps
 
@@ -37,31 +39,32 @@ module _ (p : Params) (fine : allowed p ≡ true) where
 -- ---- a row that applies, and one that does not
 
 -- a test that passes gives the reply of its row
-pub here : (ok t : Bool) (r : Reply) (xs : List (Row Reply)) → ok ≡ t → ok ≡ true → r ≡ first_row Accepted (row t r ∷ xs)
+pub row_here : (ok t : Bool) (r : Reply) (xs : List (Row Reply)) → ok ≡ t → ok ≡ true → first_row Accepted (row t r ∷ xs) ≡ r
 unfolding first_row
-here ok t r xs is e = rw (← is, e)
+row_here ok t r xs is e = rw (← is, e)
 
 -- one that fails leaves the rows after it
-pub skip : (ok t : Bool) (r x : Reply) (xs : List (Row Reply)) → ok ≡ t → ok ≡ false → x ≡ first_row Accepted xs → x ≡ first_row Accepted (row t r ∷ xs)
+pub row_skipped : (ok t : Bool) (r : Reply) (xs : List (Row Reply)) → ok ≡ t → ok ≡ false → first_row Accepted (row t r ∷ xs) ≡ first_row Accepted xs
 unfolding first_row
-skip ok t r x xs is e h = rw (← is, e) h
-
--- 0 "otherwise"
-pub otherwise : Accepted ≡ first_row Accepted []
-unfolding first_row
-otherwise = refl
+row_skipped ok t r xs is e = rw (← is, e)
 
 -- ---- some rows, then others
 
--- the reply by the first ones, where it refuses, is that by all of them
-pub refuses : (xs : List (Row Reply)) (r : Reply) (n : ℕ) → r ≡ first_row Accepted xs → n ≡ number_of r → (n ≡ 0 → ⊥) → (ys : List (Row Reply)) → r ≡ first_row Accepted (xs ++ ys)
+-- the reply by the first ones, where they refuse, is that by all of them
+pub refuses : (xs ys : List (Row Reply)) → first_row Accepted xs ≢ Accepted → first_row Accepted (xs ++ ys) ≡ first_row Accepted xs
 unfolding first_row
-refuses [] r n e m ne ys = absurd (ne (m ∙ ap number_of e))
-refuses (x ∷ xs) r n e m ne ys = go x.applies e (λ f. refuses xs r n f m ne ys)
+refuses [] ys ne = absurd (ne refl)
+refuses (x ∷ xs) ys ne = go x.applies ne (refuses xs ys)
   where
-    go : (t : Bool) → r ≡ cond t x.gives (first_row Accepted xs) → (r ≡ first_row Accepted xs → r ≡ first_row Accepted (xs ++ ys)) → r ≡ cond t x.gives (first_row Accepted (xs ++ ys))
-    go true f rest = f
-    go false f rest = rest f
+    go : (t : Bool) → cond t x.gives (first_row Accepted xs) ≢ Accepted → (first_row Accepted xs ≢ Accepted → first_row Accepted (xs ++ ys) ≡ first_row Accepted xs)
+        → cond t x.gives (first_row Accepted (xs ++ ys)) ≡ cond t x.gives (first_row Accepted xs)
+    go true n more = refl
+    go false n more = more n
+
+-- what a `?` returns where they refuse
+pub passed_on : (xs ys : List (Row Reply)) (r : Result (Unit {0}) Reply) (e : Reply) → IsErrAnd r (λ y. y ≡ e) → Verdict (Err e) (first_row Accepted xs)
+    → Verdict r (first_row Accepted (xs ++ ys))
+passed_on xs ys r e is h = let y = err_from_is_err_and r is in rw (y.1, y.2, refuses xs ys h.1) h
 
 -- the first two rows, where they do not refuse
 pub record Passed (p : Params) (b : Board) : Type 0 where
@@ -69,59 +72,50 @@ pub record Passed (p : Params) (b : Board) : Type 0 where
   pub fits : lengths_fit p b ≡ true
 
 module _ (p : Params) (b : Board) where
-  pub lent_passes : (r : Reply) (n : ℕ) → r ≡ first_row Accepted (lent_rows p b) → n ≡ number_of r → n ≡ 0 → Passed p b
+  pub lent_passes : first_row Accepted (lent_rows p b) ≡ Accepted → Passed p b
   unfolding lent_rows first_row bad_parameter wrong_length
-  lent_passes r n is m z = go (allowed p) (lengths_fit p b) refl refl (sym (ap number_of is) ∙ sym m ∙ z)
+  lent_passes z = go (allowed p) (lengths_fit p b) refl refl z
     where
-      go : (x y : Bool) → allowed p ≡ x → lengths_fit p b ≡ y → number_of (cond (not x) BadParameter (cond (not y) WrongLength Accepted)) ≡ 0 → Passed p b
+      go : (x y : Bool) → allowed p ≡ x → lengths_fit p b ≡ y → cond (not x) BadParameter (cond (not y) WrongLength Accepted) ≡ Accepted → Passed p b
       go true true e f k = record { fine = e; fits = f }
-      go true false e f k = absurd (omega arith)
-      go false y e f k = absurd (omega arith)
+      go true false e f k = absurd (omega (arith, ap number_of k))
+      go false y e f k = absurd (omega (arith, ap number_of k))
 
   -- they leave the rows after them
-  pub after_lent : Passed p b → (r : Reply) (xs : List (Row Reply)) → r ≡ first_row Accepted xs → r ≡ first_row Accepted (lent_rows p b ++ xs)
+  pub after_lent : Passed p b → (xs : List (Row Reply)) → first_row Accepted (lent_rows p b ++ xs) ≡ first_row Accepted xs
   unfolding lent_rows first_row bad_parameter wrong_length
-  after_lent h r xs e = rw (h.fine, h.fits) e
+  after_lent h xs = rw (h.fine, h.fits)
 
 -- the rows of a request, where they do not refuse, leave the rows after them
-pub after_access : (p : Params) (q : Request) (r : Reply) (n : ℕ) → r ≡ first_row Accepted (access_rows p q) → n ≡ number_of r → n ≡ 0
-    → (s : Reply) (xs : List (Row Reply)) → s ≡ first_row Accepted xs → s ≡ first_row Accepted (access_rows p q ++ xs)
+pub after_access : (p : Params) (q : Request) → first_row Accepted (access_rows p q) ≡ Accepted
+    → (xs : List (Row Reply)) → first_row Accepted (access_rows p q ++ xs) ≡ first_row Accepted xs
 unfolding access_rows first_row
-after_access p q r n is m z s xs e = go (bad_count p q) (bad_address p q.lba) (wrong_data p q) (sym (ap number_of is) ∙ sym m ∙ z)
+after_access p q z xs = go (bad_count p q) (bad_address p q.lba) (wrong_data p q) z
   where
-    go : (x y w : Bool) → number_of (cond x BadCount (cond y BadAddress (cond w WrongData Accepted))) ≡ 0
-        → s ≡ cond x BadCount (cond y BadAddress (cond w WrongData (first_row Accepted xs)))
-    go true y w k = absurd (omega arith)
-    go false true w k = absurd (omega arith)
-    go false false true k = absurd (omega arith)
-    go false false false k = e
+    go : (x y w : Bool) → cond x BadCount (cond y BadAddress (cond w WrongData Accepted)) ≡ Accepted
+        → cond x BadCount (cond y BadAddress (cond w WrongData (first_row Accepted xs))) ≡ first_row Accepted xs
+    go true y w k = absurd (omega (arith, ap number_of k))
+    go false true w k = absurd (omega (arith, ap number_of k))
+    go false false true k = absurd (omega (arith, ap number_of k))
+    go false false false k = refl
 
--- the row of the state, by a test of it
-pub state_row : (p : Params) (b : Board) (ok t : Bool) → ok ≡ orderly p b → ok ≡ t → cond t Accepted NotOrderly ≡ first_row Accepted (order_row p b)
-unfolding order_row first_row not_orderly
-state_row p b ok t e is = rw (← e, is) (go t)
-  where
-    go : (t : Bool) → cond t Accepted NotOrderly ≡ cond (not t) NotOrderly Accepted
-    go true = refl
-    go false = refl
-
--- the same where other rows follow
+-- the row of the state, by a test of it, where other rows follow
 module _ (p : Params) (b : Board) (ok : Bool) (xs : List (Row Reply)) (e : ok ≡ orderly p b) where
-  pub order_here : ok ≡ false → NotOrderly ≡ first_row Accepted (order_row p b ++ xs)
+  pub order_here : ok ≡ false → Verdict (Err NotOrderly) (first_row Accepted (order_row p b ++ xs))
   unfolding order_row first_row not_orderly
-  order_here is = rw (← e, is)
+  order_here is = rw (← e, is) (refl, λ x. omega (arith, ap number_of x))
 
-  pub after_order : ok ≡ true → (r : Reply) → r ≡ first_row Accepted xs → r ≡ first_row Accepted (order_row p b ++ xs)
+  pub after_order : ok ≡ true → first_row Accepted (order_row p b ++ xs) ≡ first_row Accepted xs
   unfolding order_row first_row not_orderly
-  after_order is r h = rw (← e, is) h
+  after_order is = rw (← e, is)
 
 -- the row of a write's stamp, where its region's last one is t
 module _ (p : Params) (b : Board) (q : Request) (t : ℕ) (e : t ≡ stamp_at b.stamps (request_region p q)) where
-  pub stamp_none : t ≡ 4294967295 → NoStampLeft ≡ first_row Accepted (stamp_row p b (request_region p q))
+  pub stamp_none : t ≡ 4294967295 → Verdict (Err NoStampLeft) (first_row Accepted (stamp_row p b (request_region p q)))
   unfolding stamp_row first_row no_stamp_left
-  stamp_none k = rw (le-leb 4294967295 (stamp_at b.stamps (request_region p q)) (omega (arith, e, k)))
+  stamp_none k = rw (le-leb 4294967295 (stamp_at b.stamps (request_region p q)) (omega (arith, e, k))) (refl, λ x. omega (arith, ap number_of x))
 
-  pub stamp_some : t < 4294967296 → (t ≡ 4294967295 → ⊥) → Accepted ≡ first_row Accepted (stamp_row p b (request_region p q))
+  pub stamp_some : t < 4294967296 → t ≢ 4294967295 → first_row Accepted (stamp_row p b (request_region p q)) ≡ Accepted
   unfolding stamp_row first_row no_stamp_left
   stamp_some h k = rw (lt-leb 4294967295 (stamp_at b.stamps (request_region p q)) (omega (arith, e, h, k)))
 
@@ -130,13 +124,9 @@ pub write_row : (p : Params) (b : Board) (q : Request) → Checks p b q → firs
 unfolding early_rows lent_rows access_rows order_row first_row bad_parameter wrong_length not_orderly
 write_row p b q c = rw (c.fine, c.lengths, c.count, c.address, c.given, c.tidy)
 
--- a write's reply by its early rows: another number than 0 is the call's, and 0 leaves the last row
-module _ (p : Params) (b : Board) (q : Request) (r : Reply) (e : r ≡ first_row Accepted (early_rows p b q)) (n : ℕ) (m : n ≡ number_of r) where
-  pub early_reply : (n ≡ 0 → ⊥) → r ≡ reply_of p b (write q)
-  early_reply ne = e ∙ sym (early_refused p b q (λ (x : first_row Accepted (early_rows p b q) ≡ Accepted). ne (m ∙ ap number_of (e ∙ x))))
-
-  pub early_zero : n ≡ 0 → first_row Accepted (early_rows p b q) ≡ Accepted
-  early_zero z = sym e ∙ accepted_by r n m z
+-- a write that an early row refuses has that row's reply
+pub early_reply : (p : Params) (b : Board) (q : Request) (e : Reply) → Verdict (Err e) (first_row Accepted (early_rows p b q)) → Verdict (Err e) (reply_of p b (write q))
+early_reply p b q e h = rw (early_refused p b q h.1) h
 
 -- an LBA that is not refused is one of a cluster of the board
 pub cluster_low : (p : Params) → allowed p ≡ true → (lba : ℕ) → bad_address p lba ≡ false → cluster_of p lba < p.C

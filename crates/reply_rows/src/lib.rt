@@ -1,13 +1,14 @@
 // Document 01, "Reply numbers": the rows that look at the request and at its region's last stamp alone, and the answer of a call that is refused.
 #![tactic(auto)]
 
-ghost use Rattle.std.specs.Prelude.{◌≡◌, true, false, not, [], length};
+ghost use Rattle.std.specs.Prelude.{◌≡◌, true, false, not, [], length, OnOk};
 ghost use Rattle.rules.specs.Parameters.{allowed};
 ghost use Rattle.rules.specs.Tables.{Board};
 ghost use Rattle.rules.specs.Orderly.{orderly};
 ghost use Rattle.rules.specs.Requests.{Request, request_region};
-ghost use Rattle.rules.specs.Replies.{access_rows, bad_address, bad_cluster, bad_count, early_rows, first_row, lengths_fit, number_of, stamp_row, wrong_data};
+ghost use Rattle.rules.specs.Replies.{access_rows, bad_address, bad_cluster, bad_count, early_rows, first_row, lengths_fit, stamp_row, wrong_data};
 ghost use Rattle.rules.specs.Calls.{answer_of};
+ghost use Rattle.reply_rows.specs.Verdicts.{Verdict};
 
 use rules::{Answer, Params, Reply};
 
@@ -38,22 +39,22 @@ pub fn wrong_data(p: Params, count: u32, len: usize) -> bool
     len != count as usize * p.s
 }
 
-// The reply by the request of a read or a write: its count, its address, and whether its data has the wrong length. 3, 4 or 5, else 0.
-pub fn request_reply(p: Params, lba: u32, count: u32, wrong: bool) -> Reply
+// The reply by the request of a read or a write: its count, its address, and whether its data has the wrong length. Refused with 3, 4 or 5.
+pub fn request_reply(p: Params, lba: u32, count: u32, wrong: bool) -> Result<(), Reply>
     requires { allowed p ≡ true }
-    ensures value { (q : Request) → q.lba ≡ lba → q.count ≡ count → (bad_count p q ≡ false → wrong_data p q ≡ wrong) → result ≡ first_row Reply.Accepted (access_rows p q) }
-    ensures lba_value { number_of result ≡ 0 → bad_address p lba ≡ false }
+    ensures value { (q : Request) → q.lba ≡ lba → q.count ≡ count → (bad_count p q ≡ false → wrong_data p q ≡ wrong) → Verdict result (first_row Reply.Accepted (access_rows p q)) }
+    ensures lba_value { OnOk result (bad_address p lba ≡ false) }
 {
     if bad_count(p, lba, count) {
-        return Reply::BadCount;
+        return Err(Reply::BadCount);
     }
     if bad_address(p, lba) {
-        return Reply::BadAddress;
+        return Err(Reply::BadAddress);
     }
     if wrong {
-        return Reply::WrongData;
+        return Err(Reply::WrongData);
     }
-    Reply::Accepted
+    Ok(())
 }
 
 // True if a cluster is not below C; reply 4 of a release if so.
@@ -63,18 +64,18 @@ pub fn bad_cluster(p: Params, c: u32) -> bool
     p.C <= c as usize
 }
 
-// The reply by the last stamp of the LBA's region: 9, else 0.
-pub fn stamp_reply(p: Params, stamps: &[u32], lba: u32) -> Reply
+// The reply by the last stamp of the LBA's region: refused with 9 where it is the largest.
+pub fn stamp_reply(p: Params, stamps: &[u32], lba: u32) -> Result<(), Reply>
     requires p_value { allowed p ≡ true }
     requires lba_value { bad_address p lba ≡ false }
     requires stamps_len { length stamps.now ≡ p.mu }
-    ensures { (b : Board) (q : Request) → b.stamps ≡ stamps.now → q.lba ≡ lba → result ≡ first_row Reply.Accepted (stamp_row p b (request_region p q)) }
+    ensures { (b : Board) (q : Request) → b.stamps ≡ stamps.now → q.lba ≡ lba → Verdict result (first_row Reply.Accepted (stamp_row p b (request_region p q))) }
 {
     let c = rules::cluster_of(p, lba as usize);
     if chip_tables::stamp_at(stamps, rules::region_of(p, c)) == rules::LAST_STAMP {
-        return Reply::NoStampLeft;
+        return Err(Reply::NoStampLeft);
     }
-    Reply::Accepted
+    Ok(())
 }
 
 // The reply to a write whose parameters and lengths are right, by its count, its address, whether its data has the right length, whether the state
@@ -86,18 +87,15 @@ pub fn item_reply(
     lba: u32,
     count: u32,
     fits: bool,
-) -> Reply
+) -> Result<(), Reply>
     requires p_value { allowed p ≡ true }
     requires stamps_len { length stamps.now ≡ p.mu }
     ensures { (b : Board) (q : Request) → lengths_fit p b ≡ true → ordered ≡ orderly p b → b.stamps ≡ stamps.now → q.lba ≡ lba → q.count ≡ count
-        → (bad_count p q ≡ false → wrong_data p q ≡ not fits) → result ≡ first_row Reply.Accepted (early_rows p b q) }
+        → (bad_count p q ≡ false → wrong_data p q ≡ not fits) → Verdict result (first_row Reply.Accepted (early_rows p b q)) }
 {
-    let asked = request_reply(p, lba, count, !fits);
-    if rules::number(asked) != 0 {
-        return asked;
-    }
+    request_reply(p, lba, count, !fits)?;
     if !ordered {
-        return Reply::NotOrderly;
+        return Err(Reply::NotOrderly);
     }
     stamp_reply(p, stamps, lba)
 }

@@ -21,12 +21,6 @@ turn-requires c =
       turn_asked = asked _ _ _ c.args.bytes.now _ (board (goal.at.turn-requires c).Start) _ c.requires _ c.loop-i-test.true _ inv.1.answers;
     }
 
-pub overflow_add-i : goal.overflow_add-i
-overflow_add-i c = omega (arith, c.loop-i-test.true, c.requires.places, c.well_formed.1.1.1.1.1.1.1.1.1.1.1.0.0)
-
-pub loop-i-smaller : goal.loop-i-smaller
-loop-i-smaller c = omega arith
-
 pub loop-i-preserved : goal.loop-i-preserved
 loop-i-preserved c =
     let inv = c.loop-i.invariant in (

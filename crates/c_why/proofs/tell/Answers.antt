@@ -12,8 +12,8 @@ use Rattle.c_why.proofs.tell.Goals as goal
 pub why_numbers-ns-requires : goal.why_numbers-ns-requires
 why_numbers-ns-requires c = c.requires.small
 
-pub put_list-requires : goal.put_list-requires
-put_list-requires c = c.requires.list_len ∙ sym (ap length c.why_numbers-ns.ensures ∙ thirteen c.args.w)
+pub copy_from_slice-requires : goal.copy_from_slice-requires
+copy_from_slice-requires c = c.requires.list_len ∙ sym (ap length c.why_numbers-ns.ensures ∙ thirteen c.args.w)
 
 pub returns-then-reply : goal.returns-then-reply
 unfolding tells
@@ -22,7 +22,7 @@ returns-then-reply c =
     let t : tells (get_or c.why_numbers-ns.result 0 0) ≡ true = c.if-reply.true in
     record {
       value = ap (λ (l : List ℕ). get_or l 0 0) e;
-      list_after = rw (rw e at t) (c.put_list.ensures ∙ e);
+      list_after = rw (rw e at t) (c.copy_from_slice.ensures.after ∙ e);
     }
 
 pub returns : goal.returns

@@ -37,11 +37,11 @@ overflow_cast-result-in-Held-4 c = record { fits = (rw c.in-Held.is at c.require
 
 pub returns-in-Refused : goal.returns-in-Refused
 unfolding numbers_of
-returns-in-Refused c = rw (c.in-Refused.is, c.number.ensures)
+returns-in-Refused c = rw (c.in-Refused.is, c.from.ensures)
 
 pub returns-in-Disordered : goal.returns-in-Disordered
 unfolding numbers_of
-returns-in-Disordered c = rw (c.in-Disordered.is, c.rule_number.ensures)
+returns-in-Disordered c = rw (c.in-Disordered.is, c.from-in-Disordered.ensures)
 
 pub returns-in-Empty : goal.returns-in-Empty
 unfolding numbers_of

@@ -1,9 +1,13 @@
 -- `call_why::forecast_of`: refused where the region has no stamp left, or the plan no block to write; else the plan.
 -- Assumes nothing.
+use mathlib.Core.Path.{◌≡◌}
+use mathlib.Core.Bool.{false}
+use Prim.Native.Nat.{◌<◌, ℕ}
+use lib.Dec.{eqb}
 use native.Mathlib.Omega.{arith}
 use borrow.Author.Tests.{eq-eqb, le-leb, lt-leb, ne_eqb}
 use mathlib.Core.List.{[]}
-use Rattle.rules.specs.Tables.{board_of}
+use Rattle.rules.specs.Tables.{board_of, not_found}
 use Rattle.rules.specs.Replies.{no_stamp_left}
 use Rattle.call_why.specs.Why.{forecast_in, forecast_numbers}
 use Rattle.call_why.proofs.Forecasts.{block_asked, marks_long_lem, victim_asked}
@@ -23,22 +27,25 @@ plan_of-pl-requires c =
       marks_len = marks_long_lem _ c.args.chip.now c.args.bt.now c.args.fst.now c.args.bst.now c.args.wear.now c.args.marks.now _ c.requires.forecast_asked;
     }
 
-pub plan_block-n-requires : goal.plan_block-n-requires
-plan_block-n-requires c = block_asked _ c.args.chip.now c.args.bt.now c.args.fst.now c.args.bst.now c.args.wear.now c.args.marks.now _ c.requires.forecast_asked _ c.plan_of-pl.ensures
+pub plan_block-requires : goal.plan_block-requires
+plan_block-requires c = block_asked _ c.args.chip.now c.args.bt.now c.args.fst.now c.args.bst.now c.args.wear.now c.args.marks.now _ c.requires.forecast_asked _ c.plan_of-pl.ensures
 
-pub returns-then-n-eq-NOT_FOUND : goal.returns-then-n-eq-NOT_FOUND
+pub returns-in_default : goal.returns-in_default
 unfolding forecast_numbers forecast_in no_stamp_left
-returns-then-n-eq-NOT_FOUND c ct right =
+returns-in_default c ct right =
     rw (
       ← c.stamp_at.ensures,
       lt-leb 4294967295 c.stamp_at.result (omega (arith, c.if-stamp_at.false)),
       ← (c.plan_of-pl.ensures ct right),
-      ← (c.plan_block-n.ensures _ ct _ _ _),
-      eq-eqb c.plan_block-n.result.0 65535 c.if-n-eq-NOT_FOUND.true,
+      eq-eqb _ 65535 (c.in_default.ensures c.args.chip.now ct c.args.fst.now c.args.marks.now c.args.stamps.now),
     )
 
 pub planned-requires : goal.planned-requires
 planned-requires c = victim_asked _ c.args.chip.now c.args.bt.now c.args.fst.now c.args.bst.now c.args.wear.now c.args.marks.now _ c.requires.forecast_asked _ c.plan_of-pl.ensures
+
+-- a block that is there is not none
+taken : (n x : ℕ) → (n ≡ x) × (n < not_found) → eqb x not_found ≡ false
+taken n x h = ne_eqb x not_found (λ e. omega (arith, e, h.0, h.1))
 
 pub returns : goal.returns
 unfolding forecast_in no_stamp_left
@@ -47,7 +54,6 @@ returns c ct right =
       ← c.stamp_at.ensures,
       lt-leb 4294967295 c.stamp_at.result (omega (arith, c.if-stamp_at.false)),
       ← (c.plan_of-pl.ensures ct right),
-      ← (c.plan_block-n.ensures _ ct _ _ _),
-      ne_eqb c.plan_block-n.result.0 65535 c.if-n-eq-NOT_FOUND.false,
+      taken _ _ (c.in-Some.ensures c.args.chip.now ct c.args.fst.now c.args.marks.now c.args.stamps.now),
     )
     (c.planned.ensures (board_of c.args.chip.now ct c.args.bt.now c.args.fst.now [] [] [] []) right)

@@ -1,5 +1,7 @@
 -- `call_why::place_at`: number by number.
 -- Assumes nothing.
+use mathlib.Core.Path.{refl}
+use mathlib.Core.Bool.{true}
 use native.Mathlib.Nat.{mod-lt}
 use Rattle.rules.specs.Tables.{board_of}
 use Rattle.rules.proofs.Sizes.{sizes}
@@ -24,4 +26,6 @@ bt_at-requires c =
 
 pub returns : goal.returns
 unfolding place_numbers
-returns c chip fst bst wear marks stamps k w = rw (c.bt_at.ensures.result_value, c.ct_at.ensures.result_value, c.region_of-r.ensures) (holder_is _ (board_of chip c.args.ct.now c.args.bt.now fst bst wear marks stamps) _ _ _ _ k w)
+returns c chip fst bst wear marks stamps w =
+    rw (c.bt_at.ensures.result_value, c.ct_at.ensures.result_value, c.region_of-r.ensures)
+    (holder_is _ (board_of chip c.args.ct.now c.args.bt.now fst bst wear marks stamps) _ true _ _ refl w)

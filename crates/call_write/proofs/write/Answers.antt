@@ -1,10 +1,10 @@
--- `call_write::write`: refused by the reply's number, or the work of an orderly write.
+-- `call_write::write`: refused by a row, or the work of an orderly write.
 -- Assumes nothing.
 use mathlib.Core.Path.{refl}
 use Rattle.rules.specs.Tables.{Board, board_of}
 use Rattle.rules.specs.Requests.{Request, lent, lent_answers, write, request_of}
 use Rattle.outcomes.proofs.Ends.{refused_by}
-use Rattle.reply_rows.proofs.Rows.{early_reply, early_zero}
+use Rattle.reply_rows.proofs.Rows.{early_reply}
 use Rattle.call_write.proofs.write.Goals as goal
 use Rattle.call_write.proofs.write.Goals.{Start}
 
@@ -14,14 +14,15 @@ board a = board_of a.args.chip.now a.args.ct.now a.args.bt.now a.args.fst.now a.
 abbrev request : Start → Request
 request a = request_of a.args.lba a.args.count a.args.bytes.now
 
-pub returns-then-number-ne0 : goal.returns-then-number-ne0
-returns-then-number-ne0 c =
-    unfold lent lent_answers in refused_by _ (board (goal.at.returns-then-number-ne0 c).Start) (write (request (goal.at.returns-then-number-ne0 c).Start)) _
-    (early_reply _ (board (goal.at.returns-then-number-ne0 c).Start) (request (goal.at.returns-then-number-ne0 c).Start) _ (c.write_reply-reply.ensures (request (goal.at.returns-then-number-ne0 c).Start) refl refl refl) _ c.number.ensures c.if-number-ne0.true) _
-    c.number.ensures c.if-number-ne0.true _ c.idle.ensures
+pub returns-in-Err : goal.returns-in-Err
+unfolding lent lent_answers
+returns-in-Err c =
+    let b = board (goal.at.returns-in-Err c).Start in
+    let q = request (goal.at.returns-in-Err c).Start in
+    refused_by _ b (write q) _ (early_reply _ b q _ (c.in-Err.ensures q refl refl refl)) _ c.idle.ensures
 
 pub write_orderly-requires : goal.write_orderly-requires
-write_orderly-requires c = early_zero _ (board (goal.at.write_orderly-requires c).Start) (request (goal.at.write_orderly-requires c).Start) _ (c.write_reply-reply.ensures (request (goal.at.write_orderly-requires c).Start) refl refl refl) _ c.number.ensures c.if-number-ne0.false
+write_orderly-requires c = c.in_default.ensures (request (goal.at.write_orderly-requires c).Start) refl refl refl
 
 pub shape_of-chip : goal.shape_of-chip
 shape_of-chip c = c.chip-1.given

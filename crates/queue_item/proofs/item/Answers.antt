@@ -1,4 +1,4 @@
--- `queue_item::item`: refused by the reply's number, or the work of an orderly write on the item's part of the data.
+-- `queue_item::item`: refused by a row, or the work of an orderly write on the item's part of the data.
 -- Assumes nothing.
 use mathlib.Core.Path.{refl}
 use native.Mathlib.Omega.{arith}
@@ -20,17 +20,17 @@ asked a = item_of a.args.lba a.args.count a.args.first
 pub has_bytes-fits-requires : goal.has_bytes-fits-requires
 has_bytes-fits-requires c = c.requires.fine
 
-pub item_reply-reply-requires : goal.item_reply-reply-requires
-item_reply-reply-requires c =
+pub item_reply-requires : goal.item_reply-requires
+item_reply-requires c =
     record {
       p_value = c.requires.fine;
-      stamps_len = (lengths_in _ (board (goal.at.item_reply-reply-requires c).Start) c.requires.lengths).stamps_length;
+      stamps_len = (lengths_in _ (board (goal.at.item_reply-requires c).Start) c.requires.lengths).stamps_length;
     }
 
-pub returns-then-number-ne0 : goal.returns-then-number-ne0
-returns-then-number-ne0 c =
-    item_refused _ _ (board (goal.at.returns-then-number-ne0 c).Start) c.requires _ (asked (goal.at.returns-then-number-ne0 c).Start) _ (c.has_bytes-fits.ensures c.args.bytes.now c.args.lba refl) _ c.item_reply-reply.ensures _
-    c.number.ensures c.if-number-ne0.true _ c.idle.ensures
+pub returns-in-Err : goal.returns-in-Err
+returns-in-Err c =
+    item_refused _ _ (board (goal.at.returns-in-Err c).Start) c.requires _ (asked (goal.at.returns-in-Err c).Start) _
+    (c.has_bytes-fits.ensures c.args.bytes.now c.args.lba refl) _ c.in-Err.ensures _ c.idle.ensures
 
 pub overflow_mul-to : goal.overflow_mul-to
 overflow_mul-to c = omega (arith, bytes_low _ c.requires.fine c.args.count (omega arith))
@@ -42,16 +42,16 @@ pub slice_bounds-write_orderly-end : goal.slice_bounds-write_orderly-end
 slice_bounds-write_orderly-end c =
     omega (
       arith,
-      inside _ _ (board (goal.at.slice_bounds-write_orderly-end c).Start) c.requires _ (asked (goal.at.slice_bounds-write_orderly-end c).Start) _ (c.has_bytes-fits.ensures c.args.bytes.now c.args.lba refl) _
-          c.item_reply-reply.ensures _ c.number.ensures c.if-number-ne0.false,
+      inside _ _ (board (goal.at.slice_bounds-write_orderly-end c).Start) c.requires _ (asked (goal.at.slice_bounds-write_orderly-end c).Start) _
+          (c.has_bytes-fits.ensures c.args.bytes.now c.args.lba refl) c.in_default.ensures,
     )
 
 pub write_orderly-requires : goal.write_orderly-requires
 write_orderly-requires c =
-    asked_early _ _ (board (goal.at.write_orderly-requires c).Start) c.requires _ (asked (goal.at.write_orderly-requires c).Start) _ (c.has_bytes-fits.ensures c.args.bytes.now c.args.lba refl) _ c.item_reply-reply.ensures _
-    c.number.ensures c.if-number-ne0.false
+    asked_early _ _ (board (goal.at.write_orderly-requires c).Start) c.requires _ (asked (goal.at.write_orderly-requires c).Start) _
+    (c.has_bytes-fits.ensures c.args.bytes.now c.args.lba refl) c.in_default.ensures
 
 pub returns : goal.returns
 returns c =
-    item_done _ _ (board (goal.at.returns c).Start) c.requires _ (asked (goal.at.returns c).Start) _ (c.has_bytes-fits.ensures c.args.bytes.now c.args.lba refl) _
-    c.item_reply-reply.ensures _ c.number.ensures c.if-number-ne0.false _ _ c.write_orderly.ensures
+    item_done _ _ (board (goal.at.returns c).Start) c.requires _ (asked (goal.at.returns c).Start) _
+    (c.has_bytes-fits.ensures c.args.bytes.now c.args.lba refl) c.in_default.ensures _ _ c.write_orderly.ensures

@@ -1,4 +1,4 @@
--- `queue_item::item_limited`: refused by the reply's number, or the work of an orderly write with the budget on the item's part of the data.
+-- `queue_item::item_limited`: refused by a row, or the work of an orderly write with the budget on the item's part of the data.
 -- Assumes nothing.
 use mathlib.Core.Path.{refl}
 use native.Mathlib.Omega.{arith}
@@ -20,17 +20,17 @@ asked a = item_of a.args.lba a.args.count a.args.first
 pub has_bytes-fits-requires : goal.has_bytes-fits-requires
 has_bytes-fits-requires c = c.requires.fine
 
-pub item_reply-refusal-requires : goal.item_reply-refusal-requires
-item_reply-refusal-requires c =
+pub item_reply-requires : goal.item_reply-requires
+item_reply-requires c =
     record {
       p_value = c.requires.fine;
-      stamps_len = (lengths_in _ (board (goal.at.item_reply-refusal-requires c).Start) c.requires.lengths).stamps_length;
+      stamps_len = (lengths_in _ (board (goal.at.item_reply-requires c).Start) c.requires.lengths).stamps_length;
     }
 
-pub returns-then-number-ne0 : goal.returns-then-number-ne0
-returns-then-number-ne0 c =
-    limited_refused _ _ (board (goal.at.returns-then-number-ne0 c).Start) c.requires _ (asked (goal.at.returns-then-number-ne0 c).Start) _ (c.has_bytes-fits.ensures c.args.bytes.now c.args.lba refl) _ c.item_reply-refusal.ensures _
-    c.number.ensures c.if-number-ne0.true _ c.idle.ensures _
+pub returns-in-Err : goal.returns-in-Err
+returns-in-Err c =
+    limited_refused _ _ (board (goal.at.returns-in-Err c).Start) c.requires _ (asked (goal.at.returns-in-Err c).Start) _
+    (c.has_bytes-fits.ensures c.args.bytes.now c.args.lba refl) _ c.in-Err.ensures _ c.idle.ensures _
 
 pub overflow_mul-to : goal.overflow_mul-to
 overflow_mul-to c = omega (arith, bytes_low _ c.requires.fine c.args.count (omega arith))
@@ -42,16 +42,16 @@ pub slice_bounds-write_limited-end : goal.slice_bounds-write_limited-end
 slice_bounds-write_limited-end c =
     omega (
       arith,
-      inside _ _ (board (goal.at.slice_bounds-write_limited-end c).Start) c.requires _ (asked (goal.at.slice_bounds-write_limited-end c).Start) _ (c.has_bytes-fits.ensures c.args.bytes.now c.args.lba refl) _
-          c.item_reply-refusal.ensures _ c.number.ensures c.if-number-ne0.false,
+      inside _ _ (board (goal.at.slice_bounds-write_limited-end c).Start) c.requires _ (asked (goal.at.slice_bounds-write_limited-end c).Start) _
+          (c.has_bytes-fits.ensures c.args.bytes.now c.args.lba refl) c.in_default.ensures,
     )
 
 pub write_limited-requires : goal.write_limited-requires
 write_limited-requires c =
-    asked_early _ _ (board (goal.at.write_limited-requires c).Start) c.requires _ (asked (goal.at.write_limited-requires c).Start) _ (c.has_bytes-fits.ensures c.args.bytes.now c.args.lba refl) _ c.item_reply-refusal.ensures _
-    c.number.ensures c.if-number-ne0.false
+    asked_early _ _ (board (goal.at.write_limited-requires c).Start) c.requires _ (asked (goal.at.write_limited-requires c).Start) _
+    (c.has_bytes-fits.ensures c.args.bytes.now c.args.lba refl) c.in_default.ensures
 
 pub returns : goal.returns
 returns c =
-    limited_done _ _ (board (goal.at.returns c).Start) c.requires _ (asked (goal.at.returns c).Start) _ (c.has_bytes-fits.ensures c.args.bytes.now c.args.lba refl) _
-    c.item_reply-refusal.ensures _ c.number.ensures c.if-number-ne0.false _ _ _ _ c.write_limited.ensures.stamps_value c.write_limited.ensures.left_value
+    limited_done _ _ (board (goal.at.returns c).Start) c.requires _ (asked (goal.at.returns c).Start) _
+    (c.has_bytes-fits.ensures c.args.bytes.now c.args.lba refl) c.in_default.ensures _ _ _ _ c.write_limited.ensures.stamps_value c.write_limited.ensures.left_value

@@ -1,6 +1,6 @@
 -- `queue_list::queue`: serving the items from i on, from the tables and answers as they are, gives what serving all of them from those at entry gives.
 -- Assumes nothing.
-use Rattle.std.proofs.Common.{◌≡◌, ◌<◌, ◌-◌, ◌≤◌, take, drop}
+use Rattle.std.proofs.Common.{◌≡◌, ◌<◌, ◌≤◌, take, drop}
 use Rattle.rules.specs.Tables.{board_of}
 use Rattle.queue_turns.specs.Served.{served_from}
 use Rattle.queue_head.specs.Heads.{Ready}
@@ -16,6 +16,3 @@ invariant-loop-i l =
           (board_of l.initial.chip l.initial.ct l.initial.bt l.initial.fst l.initial.bst l.initial.wear l.initial.marks l.initial.stamps) l.initial.answers;
       ready : l.i < l.h.items → Ready l.p l.h.ordered (board_of l.chip l.ct l.bt l.fst l.bst l.wear l.marks l.stamps);
     }
-
-abbrev pub decreases-loop-i : goal.decreases-loop-i
-decreases-loop-i l = l.h.items - l.i

@@ -3,48 +3,38 @@
 use mathlib.Core.Path.{sym}
 use Rattle.rules.proofs.TableFacts.{lengths_in as tables_in}
 use Rattle.rules.specs.Replies.{reply_of, rows_of}
-use Rattle.rules.specs.Tables.{Board, board_of}
 use Rattle.check_rules.proofs.Agree.{lengths_in, marks_fit}
-use Rattle.reply_rows.proofs.Rows.{after_access, after_lent, lent_passes, refuses}
+use Rattle.reply_rows.proofs.Rows.{after_access, after_lent, lent_passes, passed_on}
 use Rattle.replies.proofs.read_reply.Goals as goal
-use Rattle.replies.proofs.read_reply.Goals.{Start}
 
-abbrev board : Start → Board
-board a = board_of a.args.chip.now a.args.ct.now a.args.bt.now a.args.fst.now a.args.bst.now a.args.wear.now a.args.marks.now a.args.stamps.now
-
-pub returns-then-number-ne0 : goal.returns-then-number-ne0
+pub returns-in_err-board_reply : goal.returns-in_err-board_reply
 unfolding reply_of rows_of
-returns-then-number-ne0 c = λ q l k n. refuses _ _ _ c.board_reply-head.ensures c.number.ensures c.if-number-ne0.true _
+returns-in_err-board_reply c = λ q l k n. passed_on _ _ _ _ c.from_residual.ensures.1 c.in_err-board_reply.ensures
 
-pub wrong_data-requires : goal.wrong_data-requires
-wrong_data-requires c =
-    let h = lent_passes _ (board (goal.at.wrong_data-requires c).Start) _ _ c.board_reply-head.ensures c.number.ensures c.if-number-ne0.false in
-    h.fine
+pub wrong_data-wrong-requires : goal.wrong_data-wrong-requires
+wrong_data-wrong-requires c = (lent_passes _ _ c.in_ok-board_reply.ensures).fine
 
-pub request_reply-asked-requires : goal.request_reply-asked-requires
-request_reply-asked-requires c =
-    let h = lent_passes _ (board (goal.at.request_reply-asked-requires c).Start) _ _ c.board_reply-head.ensures c.number.ensures c.if-number-ne0.false in
-    h.fine
+pub request_reply-requires : goal.request_reply-requires
+request_reply-requires c = (lent_passes _ _ c.in_ok-board_reply.ensures).fine
 
-pub returns-then-number-ne0-2 : goal.returns-then-number-ne0-2
+pub returns-in_err-request_reply : goal.returns-in_err-request_reply
 unfolding reply_of rows_of
-returns-then-number-ne0-2 c =
-    let h = lent_passes _ (board (goal.at.returns-then-number-ne0-2 c).Start) _ _ c.board_reply-head.ensures c.number.ensures c.if-number-ne0.false in
-    (λ q l k n. after_lent _ (board (goal.at.returns-then-number-ne0-2 c).Start) h _ _ (refuses _ _ _ (c.request_reply-asked.ensures.value q l k (λ _. sym (c.wrong_data.ensures q k n)))
-    c.number-2.ensures c.if-number-ne0-2.true _))
+returns-in_err-request_reply c =
+    let h = lent_passes _ _ c.in_ok-board_reply.ensures in
+    λ q l k n. rw (after_lent _ _ h)
+    (passed_on _ _ _ _ c.from_residual-in_err-request_reply.ensures.1 (c.in_err-request_reply.ensures.value q l k (λ _. sym (c.wrong_data-wrong.ensures q k n))))
 
 pub state_reply-requires : goal.state_reply-requires
 state_reply-requires c =
-    let h = lent_passes _ (board (goal.at.state_reply-requires c).Start) _ _ c.board_reply-head.ensures c.number.ensures c.if-number-ne0.false in
+    let h = lent_passes _ _ c.in_ok-board_reply.ensures in
     record {
-      lengths = lengths_in _ (board (goal.at.state_reply-requires c).Start) h.fine h.fits;
-      marks_len = marks_fit _ (board (goal.at.state_reply-requires c).Start) h.fits;
-      stamps_len = (tables_in _ (board (goal.at.state_reply-requires c).Start) h.fits).stamps_length;
+      lengths = lengths_in _ _ h.fine h.fits;
+      marks_len = marks_fit _ _ h.fits;
+      stamps_len = (tables_in _ _ h.fits).stamps_length;
     }
 
 pub returns : goal.returns
 unfolding reply_of rows_of
 returns c =
-    let h = lent_passes _ (board (goal.at.returns c).Start) _ _ c.board_reply-head.ensures c.number.ensures c.if-number-ne0.false in
-    (λ q l k n. after_lent _ (board (goal.at.returns c).Start) h _ _ (after_access _ q _ _ (c.request_reply-asked.ensures.value q l k (λ _. sym (c.wrong_data.ensures q k n)))
-    c.number-2.ensures c.if-number-ne0-2.false _ _ (c.state_reply.ensures _)))
+    let h = lent_passes _ _ c.in_ok-board_reply.ensures in
+    λ q l k n. rw (after_lent _ _ h, after_access _ q (c.in_ok-request_reply.ensures.value q l k (λ _. sym (c.wrong_data-wrong.ensures q k n)))) (c.state_reply.ensures _)
