@@ -8,9 +8,8 @@ use Rattle.std.specs.declared.result.Result.{Result}
 use Rattle.std.specs.Prelude.{OnOk}
 use Rattle.rules.specs.Tables.{Board, board_of}
 use Rattle.cases.specs.BoardT.{blank_t}
-use Rattle.demo_lines.specs.declared.Held.{Held}
 use Rattle.demo_lines.specs.Grammar.{line_of}
-use Rattle.demo_lines.specs.Held.{Holds}
+use Rattle.demo_lines.specs.Held.{Held, Holds}
 use Rattle.demo_session.specs.Session.{bench, lines_from, turns}
 use Rattle.demo_serve.specs.Turned.{Started, started_text, Turned, turned_text}
 use Rattle.demo.specs.Served.{Served, Ended}

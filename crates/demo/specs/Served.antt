@@ -5,8 +5,7 @@ use Rattle.std.specs.Prelude.{ℕ, ◌-◌, ◌^◌, ◌≤◌, ◌≡◌, ◌�
 use Rattle.std.specs.Io.KnownBytes.{Appends, Consumes, IsAtEnd}
 use Rattle.std.specs.declared.option.Option.{Option}
 use Rattle.rules.specs.Tables.{Board}
-use Rattle.demo_lines.specs.declared.Held.{Held}
-use Rattle.demo_lines.specs.Held.{Holds}
+use Rattle.demo_lines.specs.Held.{Held, Holds}
 use Rattle.demo_session.specs.Session.{lines_from, turns}
 
 -- bytes s are taken on a board b, after a line l begun: the board is b', h holds the line that is begun now, and the writer holds the text that is printed

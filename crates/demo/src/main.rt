@@ -4,44 +4,22 @@
 
 ghost use Rattle.std.specs.Prelude.{◌≡◌, ℕ, ◌-◌, ◌^◌, ◌<◌, List, [], ◌∷◌, length, Some, OnOk, IfOk};
 ghost use Rattle.std.specs.Io.KnownBytes.{Appends};
-ghost use Rattle.rules.specs.Lent.{entry_board, exit_board};
+ghost use Rattle.demo_board.specs.Store.{store_board};
 ghost use Rattle.demo_lines.specs.Held.{Holds};
 ghost use Rattle.demo_session.specs.Session.{bench, lines_from, turns};
 ghost use Rattle.demo.specs.Served.{Served, Ended};
 
+use demo_board::Store;
 use demo_lines::Held;
 use std::io;
 use std::io::{Read, Write};
 
 // Takes one byte of the input: LF ends a line, and any other byte belongs to it.
-fn take<W: Write>(
-    to: &mut W,
-    chip: &mut [u8],
-    ct: &mut [u16],
-    bt: &mut [u16],
-    fst: &mut [u16],
-    bst: &mut [u8],
-    wear: &mut [u32],
-    marks: &mut [u64],
-    stamps: &mut [u32],
-    held: Held,
-    b: u8,
-) -> io::Result<Held>
-    ensures { (l : List ℕ) → Holds held l → IfOk result (λ h. Served (W.contents to.old) (W.contents to.new) (entry_board chip ct bt fst bst wear marks stamps) (exit_board chip ct bt fst bst wear marks stamps) l (b ∷ []) h) }
+fn take<W: Write>(to: &mut W, store: &mut Store<'_>, held: Held, b: u8) -> io::Result<Held>
+    ensures { (l : List ℕ) → Holds held l → IfOk result (λ h. Served (W.contents to.old) (W.contents to.new) (store_board store.old) (store_board store.new) l (b ∷ []) h) }
 {
     if b == b'\n' {
-        demo_serve::answer(
-            to,
-            chip,
-            ct,
-            bt,
-            fst,
-            bst,
-            wear,
-            marks,
-            stamps,
-            demo_lines::asked(held),
-        )?;
+        demo_serve::answer(to, store, demo_lines::asked(&held))?;
         Ok(demo_lines::none())
     } else {
         Ok(demo_lines::push(held, b))
@@ -49,24 +27,12 @@ fn take<W: Write>(
 }
 
 // Takes the bytes that one read gave.
-fn take_all<W: Write>(
-    to: &mut W,
-    chip: &mut [u8],
-    ct: &mut [u16],
-    bt: &mut [u16],
-    fst: &mut [u16],
-    bst: &mut [u8],
-    wear: &mut [u32],
-    marks: &mut [u64],
-    stamps: &mut [u32],
-    held: Held,
-    s: &[u8],
-) -> io::Result<Held>
-    ensures { (l : List ℕ) → Holds held l → IfOk result (λ h. Served (W.contents to.old) (W.contents to.new) (entry_board chip ct bt fst bst wear marks stamps) (exit_board chip ct bt fst bst wear marks stamps) l s.now h) }
+fn take_all<W: Write>(to: &mut W, store: &mut Store<'_>, held: Held, s: &[u8]) -> io::Result<Held>
+    ensures { (l : List ℕ) → Holds held l → IfOk result (λ h. Served (W.contents to.old) (W.contents to.new) (store_board store.old) (store_board store.new) l s.now h) }
 {
     let mut h = held;
     for b in s {
-        h = take(to, chip, ct, bt, fst, bst, wear, marks, stamps, h, *b)?;
+        h = take(to, store, h, *b)?;
     }
     Ok(h)
 }
@@ -76,16 +42,9 @@ fn take_all<W: Write>(
 fn take_input<R: Read, W: Write>(
     from: &mut R,
     to: &mut W,
-    chip: &mut [u8],
-    ct: &mut [u16],
-    bt: &mut [u16],
-    fst: &mut [u16],
-    bst: &mut [u8],
-    wear: &mut [u32],
-    marks: &mut [u64],
-    stamps: &mut [u32],
+    store: &mut Store<'_>,
 ) -> io::Result<Held>
-    ensures { IfOk result (λ h. Ended (R.remaining from.old) (R.remaining from.new) (W.contents to.old) (W.contents to.new) (entry_board chip ct bt fst bst wear marks stamps) (exit_board chip ct bt fst bst wear marks stamps) h) }
+    ensures { IfOk result (λ h. Ended (R.remaining from.old) (R.remaining from.new) (W.contents to.old) (W.contents to.new) (store_board store.old) (store_board store.new) h) }
 {
     let mut held = demo_lines::none();
     let mut chunk = [0u8; 4096];
@@ -94,52 +53,18 @@ fn take_input<R: Read, W: Write>(
         if n == 0 {
             return Ok(held);
         }
-        held = take_all(
-            to,
-            chip,
-            ct,
-            bt,
-            fst,
-            bst,
-            wear,
-            marks,
-            stamps,
-            held,
-            &chunk[..n],
-        )?;
+        held = take_all(to, store, held, &chunk[..n])?;
     }
     Ok(held)
 }
 
 // Answers the lines of the input; a last line without LF counts.
-fn session<R: Read, W: Write>(
-    from: &mut R,
-    to: &mut W,
-    chip: &mut [u8],
-    ct: &mut [u16],
-    bt: &mut [u16],
-    fst: &mut [u16],
-    bst: &mut [u8],
-    wear: &mut [u32],
-    marks: &mut [u64],
-    stamps: &mut [u32],
-) -> io::Result<()>
-    ensures { (input : List ℕ) → R.remaining from.old ≡ Some input → length input < 2 ^ 64 - 1 → OnOk result (Appends (W.contents to.old) (W.contents to.new) (turns (entry_board chip ct bt fst bst wear marks stamps) (lines_from [] input))) }
+fn session<R: Read, W: Write>(from: &mut R, to: &mut W, store: &mut Store<'_>) -> io::Result<()>
+    ensures { (input : List ℕ) → R.remaining from.old ≡ Some input → length input < 2 ^ 64 - 1 → OnOk result (Appends (W.contents to.old) (W.contents to.new) (turns (store_board store.old) (lines_from [] input))) }
 {
-    let held = take_input(from, to, chip, ct, bt, fst, bst, wear, marks, stamps)?;
-    if demo_lines::is_begun(held) {
-        demo_serve::answer(
-            to,
-            chip,
-            ct,
-            bt,
-            fst,
-            bst,
-            wear,
-            marks,
-            stamps,
-            demo_lines::asked(held),
-        )?;
+    let held = take_input(from, to, store)?;
+    if demo_lines::is_begun(&held) {
+        demo_serve::answer(to, store, demo_lines::asked(&held))?;
     }
     Ok(())
 }
@@ -156,29 +81,18 @@ fn run<R: Read, W: Write>(from: &mut R, to: &mut W) -> io::Result<()>
     let mut wear = [0u32; 5];
     let mut marks = [0u64; 16];
     let mut stamps = [0u32; 2];
-    demo_serve::start(
-        to,
-        &mut chip,
-        &mut ct,
-        &mut bt,
-        &mut fst,
-        &mut bst,
-        &mut wear,
-        &mut marks,
-        &mut stamps,
-    )?;
-    session(
-        from,
-        to,
-        &mut chip,
-        &mut ct,
-        &mut bt,
-        &mut fst,
-        &mut bst,
-        &mut wear,
-        &mut marks,
-        &mut stamps,
-    )
+    let mut store = Store {
+        chip: &mut chip,
+        ct: &mut ct,
+        bt: &mut bt,
+        fst: &mut fst,
+        bst: &mut bst,
+        wear: &mut wear,
+        marks: &mut marks,
+        stamps: &mut stamps,
+    };
+    demo_serve::start(to, &mut store)?;
+    session(from, to, &mut store)
 }
 
 fn main(rt: HostRuntime) -> io::Result<()> {

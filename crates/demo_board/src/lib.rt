@@ -1,10 +1,43 @@
-// Board T as the bench program has it: its parameters, its blank chip, and the bytes that a line lends.
+// Board T as the bench program has it: its parameters, its blank chip, its chip and tables as they are lent, and the bytes that a line lends.
 #![tactic(auto)]
 
 ghost use Rattle.std.specs.Prelude.{◌≡◌, ◌*◌, min, replicate};
 ghost use Rattle.cases.specs.BoardT.{board_t};
+ghost use Rattle.rules.specs.Lent.{board_seen};
+ghost use Rattle.demo_board.specs.Store.{store_board};
 
-use rules::Params;
+use rules::{Params, Seen};
+
+// The chip and the tables, lent as one.
+#[derive(Drop)]
+pub struct Store<'a> {
+    pub chip: &'a mut [u8],
+    pub ct: &'a mut [u16],
+    pub bt: &'a mut [u16],
+    pub fst: &'a mut [u16],
+    pub bst: &'a mut [u8],
+    pub wear: &'a mut [u32],
+    pub marks: &'a mut [u64],
+    pub stamps: &'a mut [u32],
+}
+
+impl Store<'_> {
+    // The same, to be read.
+    pub fn seen(&self) -> Seen<'_>
+        ensures { board_seen result ≡ store_board self.now }
+    {
+        Seen {
+            chip: self.chip,
+            ct: self.ct,
+            bt: self.bt,
+            fst: self.fst,
+            bst: self.bst,
+            wear: self.wear,
+            marks: self.marks,
+            stamps: self.stamps,
+        }
+    }
+}
 
 // Board T.
 pub fn board() -> Params
@@ -41,9 +74,5 @@ pub fn filled(value: u8) -> [u8; 32]
 pub fn lent(count: u32) -> usize
     ensures { result ≡ min count 2 * 16 }
 {
-    match count {
-        0 => 0,
-        1 => 16,
-        _ => 32,
-    }
+    count.min(2) as usize * 16
 }

@@ -1,5 +1,4 @@
 pub mod Fields
 pub mod Numerals
-pub mod Verdict
 pub mod LongLines
-pub mod Holding
+pub mod Verdict

@@ -2,26 +2,22 @@
 -- Assumes nothing.
 use mathlib.Core.Path.{◌≡◌, refl, sym}
 use Prim.Native.Nat.{ℕ, ◌+◌, ◌-◌, ◌*◌, ◌^◌, ◌≤◌, ◌<◌}
-use mathlib.Core.Bool.{Bool, true, false, ◌&&◌, false≢true}
-use mathlib.Core.List.{List}
-use native.Mathlib.Nat.{pow-suc, pow-le-pow_right}
+use mathlib.Core.Bool.{Bool, true, false, true≢false, ◌&&◌}
+use mathlib.Core.List.{List, ◌∷◌}
+use native.Mathlib.Nat.{pow-suc}
 use native.Mathlib.Numerals.{add-one}
 use native.Mathlib.Omega.{arith}
-use borrow.Author.Tests.{le-leb, lt-leb, leb-true}
+use borrow.Author.Tests.{le-leb, lt-leb}
+use Rattle.std.specs.Ordering.{is_le, nat_cmp}
 use lib.Dec.{leb}
 use lib.ListN.{length, drop, get_or, drop_of_length-le}
-use Rattle.lists.proofs.Tests.{and_left, and_right, and_intro}
-use Rattle.demo_lines.specs.Grammar.{is_digit, all_digits, value_from, value_of, is_number, Found}
-use Rattle.demo_lines.proofs.Fields.{next}
+use lib.Seq.{drop-cons}
+use Rattle.lists.proofs.Tests.{and_no, and_intro}
+use Rattle.demo_lines.specs.Grammar.{is_digit, all_digits, value_from, value_of, is_number}
 
--- a digit's character is 48 to 57
-pub digit_low : (b : ℕ) → is_digit b ≡ true → 48 ≤ b
-unfolding is_digit
-digit_low b e = leb-true 48 b (and_left (leb 48 b) (leb b 57) e)
-
-pub digit_high : (b : ℕ) → is_digit b ≡ true → b ≤ 57
-unfolding is_digit
-digit_high b e = leb-true b 57 (and_right (leb 48 b) e)
+-- the bytes from i on are the one at i and those from i + 1 on
+next : (s : List ℕ) (i : ℕ) → i < length s → drop i s ≡ get_or s i 0 ∷ drop (i + 1) s
+next s i h = rw (add-one, ← drop-cons s i 0 h)
 
 -- ---- a loop over the digits
 
@@ -49,46 +45,30 @@ value_end f i v h = rw (drop_of_length-le f h)
 pub bound_turn : (v d i : ℕ) → v < 10 ^ i → d ≤ 9 → v * 10 + d < 10 ^ (i + 1)
 bound_turn v d i h k = rw (add-one, pow-suc) (omega arith)
 
-pub bound : (v i : ℕ) → v < 10 ^ i → i ≤ 10 → v < 10000000000
-bound v i h k =
-    let p : 10 ^ i ≤ 10 ^ 10 = pow-le-pow_right (omega arith) k in
-    omega arith
-
 -- ---- the verdict
 
-no_right : (a : Bool) {b : Bool} → b ≡ false → a && b ≡ false
-no_right true e = e
-no_right false e = refl
+-- an order's answer is the test
+le_test : (a b : ℕ) → is_le (nat_cmp a b) ≡ leb a b
+le_test a b = grind arith
 
-refused : (most : ℕ) (f : List ℕ) → is_number most f ≡ false → Found most f (record { ok = false; value = 0 })
-refused most f e = record { is = sym e; says = λ t. absurd (false≢true t); small = omega arith }
+no_front : (a b c : Bool) → a && b ≡ false → a && (b && c) ≡ false
+no_front true false c e = refl
+no_front true true c e = absurd (true≢false e)
+no_front false b c e = refl
 
-pub too_short : (most : ℕ) (f : List ℕ) → length f ≡ 0 → Found most f (record { ok = false; value = 0 })
+pub not_of_length : (most : ℕ) (f : List ℕ) → false ≡ is_le (nat_cmp 1 (length f)) && is_le (nat_cmp (length f) 10) → is_number most f ≡ false
 unfolding is_number
-too_short most f e = refused most f (rw (lt-leb 1 (length f) (omega arith)))
+not_of_length most f e = no_front (leb 1 (length f)) (leb (length f) 10) _ (sym (rw (le_test 1 (length f), le_test (length f) 10) at e))
 
-pub too_long : (most : ℕ) (f : List ℕ) → 10 < length f → Found most f (record { ok = false; value = 0 })
+pub no_digits : (most : ℕ) (f : List ℕ) → all_digits f ≡ false → is_number most f ≡ false
 unfolding is_number
-too_long most f h = refused most f (no_right (leb 1 (length f)) (rw (lt-leb (length f) 10 h)))
+no_digits most f e = and_no (leb 1 (length f)) (and_no (leb (length f) 10) (rw e))
 
-pub no_digits : (most : ℕ) (f : List ℕ) → all_digits f ≡ false → Found most f (record { ok = false; value = 0 })
+pub too_large : (most : ℕ) (f : List ℕ) → most < value_of f → is_number most f ≡ false
 unfolding is_number
-no_digits most f e = refused most f (no_right (leb 1 (length f)) (no_right (leb (length f) 10) (rw e)))
+too_large most f h = and_no (leb 1 (length f)) (and_no (leb (length f) 10) (and_no (all_digits f) (lt-leb (value_of f) most h)))
 
-pub too_large : (most : ℕ) (f : List ℕ) → most < value_of f → Found most f (record { ok = false; value = 0 })
+pub accepted : (most : ℕ) (f : List ℕ) → 0 < length f → length f ≤ 10 → all_digits f ≡ true → value_of f ≤ most → is_number most f ≡ true
 unfolding is_number
-too_large most f h =
-    refused most f (no_right (leb 1 (length f)) (no_right (leb (length f) 10) (no_right (all_digits f) (lt-leb (value_of f) most h))))
-
-pub accepted : (most : ℕ) (f : List ℕ) (v : ℕ) → 0 < length f → length f ≤ 10 → all_digits f ≡ true → value_of f ≡ v → v ≤ most
-    → Found most f (record { ok = true; value = v })
-unfolding is_number
-accepted most f v n w d e h =
-    record {
-      is =
-          sym
-          (and_intro (le-leb 1 (length f) (omega arith))
-          (and_intro (le-leb (length f) 10 w) (and_intro d (le-leb (value_of f) most (rw e h)))));
-      says = λ t. sym e;
-      small = h;
-    }
+accepted most f n w d h =
+    and_intro (le-leb 1 (length f) (omega arith)) (and_intro (le-leb (length f) 10 w) (and_intro d (le-leb (value_of f) most h)))

@@ -1,74 +1,48 @@
--- What a line asks, from what was found of its fields: their count, the letter, and each field read as a number.
+-- What a line asks, from what was found of its fields: a test that fails is enough to refuse it.
 -- Assumes nothing.
-use mathlib.Core.Path.{◌≡◌, refl}
-use Prim.Native.Nat.{ℕ}
-use mathlib.Core.Bool.{Bool, true, false, ◌&&◌}
-use mathlib.Core.List.{List, [], ◌∷◌}
+use Rattle.std.specs.Prelude.{◌≡◌, ℕ, Bool, true, false, List, [], ◌∷◌, length, Option, None, Some}
+use Rattle.std.specs.Option.{option_or, unwrap_or}
+use mathlib.Core.Logic.{⊎_elim}
 use lib.Dec.{eqb}
-use lib.ListN.{length}
-use Rattle.lists.specs.Below.{all_true}
 use Rattle.lists.specs.Parts.{same_list}
-use Rattle.lists.proofs.Tests.{and_left, and_right}
-use Rattle.demo_lines.specs.declared.Line.TheVariants.{Write, Read, Other}
-use Rattle.demo_lines.specs.declared.Number.{Number}
-use Rattle.demo_lines.specs.Grammar.{fields, field_at, is_write, is_read, line_of, Found}
+use Rattle.lists.proofs.Tests.{Truths, all_true_lem, so, truths}
+use Rattle.demo_lines.specs.declared.Line.{Line}
+use Rattle.demo_lines.specs.declared.Line.TheVariants.{Other}
+use Rattle.demo_lines.specs.Grammar.{AskedAs, field_at, fields, is_number, is_read, is_write, line_of, read_in, write_in}
 
-five : (a b c d e : Bool) → all_true (a ∷ b ∷ c ∷ d ∷ e ∷ []) ≡ (((a && b) && c) && d) && e
-unfolding all_true
-five false b c d e = refl
-five true false c d e = refl
-five true true false d e = refl
-five true true true false e = refl
-five true true true true false = refl
-five true true true true true = refl
+abbrev pub write_tests : List ℕ → List Bool
+write_tests s =
+    eqb (length (fields s)) 4
+    ∷ same_list (field_at s 0) (87 ∷ [])
+    ∷ is_number 4294967295 (field_at s 1)
+    ∷ is_number 4294967295 (field_at s 2)
+    ∷ is_number 255 (field_at s 3)
+    ∷ []
 
-four : (a b c d : Bool) → all_true (a ∷ b ∷ c ∷ d ∷ []) ≡ ((a && b) && c) && d
-unfolding all_true
-four false b c d = refl
-four true false c d = refl
-four true true false d = refl
-four true true true false = refl
-four true true true true = refl
+abbrev pub read_tests : List ℕ → List Bool
+read_tests s = eqb (length (fields s)) 3 ∷ same_list (field_at s 0) (82 ∷ []) ∷ is_number 4294967295 (field_at s 1) ∷ is_number 4294967295 (field_at s 2) ∷ []
 
--- what was found of a line s: n fields, and the numbers a, b and v in fields 1 to 3
-pub record Parts (s : List ℕ) (n : ℕ) (a b v : Number) : Type 0 where
-  pub count : n ≡ length (fields s)
-  pub lba : Found 4294967295 (field_at s 1) a
-  pub sectors : Found 4294967295 (field_at s 2) b
-  pub byte : Found 255 (field_at s 3) v
+unless : (a : Bool) → (a ≡ true → ⊥) → a ≡ false
+unless a h = ⊎_elim (λ t. absurd (h t)) (λ f. f) (so a)
 
-module _ (s : List ℕ) (n : ℕ) (a b v : Number) (k : Parts s n a b v) where
-  writes : (w : Bool) → w ≡ same_list (field_at s 0) (87 ∷ []) → is_write s ≡ (((eqb n 4 && w) && a.ok) && b.ok) && v.ok
-  unfolding is_write
-  writes w e = rw (← k.count, ← e, ← k.lba.is, ← k.sectors.is, ← k.byte.is) (five (eqb n 4) w a.ok b.ok v.ok)
+pub no_write : (s : List ℕ) → (Truths (write_tests s) → ⊥) → is_write s ≡ false
+unfolding is_write
+no_write s h = unless (is_write s) (λ e. h (truths (write_tests s) e))
 
-  reads : (w : Bool) → w ≡ same_list (field_at s 0) (82 ∷ []) → is_read s ≡ ((eqb n 3 && w) && a.ok) && b.ok
-  unfolding is_read
-  reads w e = rw (← k.count, ← e, ← k.lba.is, ← k.sectors.is) (four (eqb n 3) w a.ok b.ok)
+pub a_write : (s : List ℕ) → Truths (write_tests s) → is_write s ≡ true
+unfolding is_write
+a_write s t = all_true_lem (write_tests s) t
 
-  pub write_line_lem : (w : Bool) → w ≡ same_list (field_at s 0) (87 ∷ []) → (((eqb n 4 && w) && a.ok) && b.ok) && v.ok ≡ true
-      → Write a.value b.value v.value ≡ line_of s
-  unfolding line_of
-  write_line_lem w e t =
-      let tb : ((eqb n 4 && w) && a.ok) && b.ok ≡ true = and_left _ v.ok t in
-      let ta : (eqb n 4 && w) && a.ok ≡ true = and_left _ b.ok tb in
-      let ha : a.ok ≡ true = and_right (eqb n 4 && w) ta in
-      let hb : b.ok ≡ true = and_right ((eqb n 4 && w) && a.ok) tb in
-      let hv : v.ok ≡ true = and_right (((eqb n 4 && w) && a.ok) && b.ok) t in
-      rw (writes w e, t, k.lba.says ha, k.sectors.says hb, k.byte.says hv)
+pub no_read : (s : List ℕ) → (Truths (read_tests s) → ⊥) → is_read s ≡ false
+unfolding is_read
+no_read s h = unless (is_read s) (λ e. h (truths (read_tests s) e))
 
-  pub read_line_lem : (w r : Bool) → w ≡ same_list (field_at s 0) (87 ∷ []) → r ≡ same_list (field_at s 0) (82 ∷ [])
-      → (((eqb n 4 && w) && a.ok) && b.ok) && v.ok ≡ false → ((eqb n 3 && r) && a.ok) && b.ok ≡ true
-      → Read a.value b.value ≡ line_of s
-  unfolding line_of
-  read_line_lem w r e f t u =
-      let ta : (eqb n 3 && r) && a.ok ≡ true = and_left _ b.ok u in
-      let ha : a.ok ≡ true = and_right (eqb n 3 && r) ta in
-      let hb : b.ok ≡ true = and_right ((eqb n 3 && r) && a.ok) u in
-      rw (writes w e, t, reads r f, u, k.lba.says ha, k.sectors.says hb)
+pub a_read : (s : List ℕ) → Truths (read_tests s) → is_read s ≡ true
+unfolding is_read
+a_read s t = all_true_lem (read_tests s) t
 
-  pub other_line : (w r : Bool) → w ≡ same_list (field_at s 0) (87 ∷ []) → r ≡ same_list (field_at s 0) (82 ∷ [])
-      → (((eqb n 4 && w) && a.ok) && b.ok) && v.ok ≡ false → ((eqb n 3 && r) && a.ok) && b.ok ≡ false
-      → Other ≡ line_of s
-  unfolding line_of
-  other_line w r e f t u = rw (writes w e, t, reads r f, u)
+pub asked : (s : List ℕ) (w r : Option Line) → AskedAs (is_write s) (write_in s) w → AskedAs (is_read s) (read_in s) r → unwrap_or (option_or w r) Other ≡ line_of s
+unfolding line_of
+asked s None None h k = rw (h, k)
+asked s None (Some l) h k = rw (h, k.0) k.1
+asked s (Some l) r h k = rw h.0 h.1

@@ -1,11 +1,10 @@
 -- Document 01, "Board T": what the bench program reads. A line is a list of bytes, without the LF that ends it.
 -- Assumes nothing.
-use Rattle.std.specs.Prelude.{ℕ, ◌+◌, ◌-◌, ◌*◌, ◌≤◌, ◌≡◌, Bool, true, ◌&&◌, cond, List, [], ◌∷◌, length, get_or, leb, eqb}
+use Rattle.std.specs.Prelude.{ℕ, ◌+◌, ◌-◌, ◌*◌, ◌≤◌, ◌≡◌, Bool, true, false, ◌&&◌, cond, Option, MatchOption, List, [], ◌∷◌, length, get_or, leb, eqb}
 use Rattle.lists.specs.Below.{all_true}
 use Rattle.lists.specs.Parts.{same_list}
 use Rattle.demo_lines.specs.declared.Line.{Line}
 use Rattle.demo_lines.specs.declared.Line.TheVariants.{Write, Read, Other}
-use Rattle.demo_lines.specs.declared.Number.{Number}
 
 -- "Fields are parted by one tab": the bytes before the first tab (9), and the fields after it
 unfoldable pub first_field : List ℕ → List ℕ
@@ -64,14 +63,21 @@ is_read s =
     ∷ is_number 4294967295 (field_at s 2)
     ∷ [])
 
+-- what a write asks, and what a read does
+abbrev pub write_in : List ℕ → Line
+write_in s = Write (value_of (field_at s 1)) (value_of (field_at s 2)) (value_of (field_at s 3))
+
+abbrev pub read_in : List ℕ → Line
+read_in s = Read (value_of (field_at s 1)) (value_of (field_at s 2))
+
 -- "A line of another form .. gives `?`"
 unfoldable pub line_of : List ℕ → Line
-line_of s =
-    cond (is_write s) (Write (value_of (field_at s 1)) (value_of (field_at s 2)) (value_of (field_at s 3)))
-    (cond (is_read s) (Read (value_of (field_at s 1)) (value_of (field_at s 2))) Other)
+line_of s = cond (is_write s) (write_in s) (cond (is_read s) (read_in s) Other)
 
 -- what a field is found to be: a number of at most `most`, and its value if it is one
-pub record Found (most : ℕ) (f : List ℕ) (r : Number) : Type 0 where
-  pub is : r.ok ≡ is_number most f
-  pub says : r.ok ≡ true → r.value ≡ value_of f
-  pub small : r.value ≤ most
+abbrev pub Found : ℕ → List ℕ → Option ℕ → Type 0
+Found most f r = MatchOption r (is_number most f ≡ false) (λ v. (is_number most f ≡ true) × (v ≡ value_of f) × (v ≤ most))
+
+-- what a line is found to ask, if it is of a form
+abbrev pub AskedAs : Bool → Line → Option Line → Type 0
+AskedAs of_form asks r = MatchOption r (of_form ≡ false) (λ l. (of_form ≡ true) × (l ≡ asks))

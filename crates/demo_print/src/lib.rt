@@ -1,151 +1,118 @@
 // The bench program's output: a line that is printed.
 #![tactic(auto)]
 
-ghost use Rattle.std.specs.Prelude.{◌≡◌, cond, [], ◌∷◌, ◌+◌, ◌*◌, ◌/◌, ◌≤◌, ◌<◌, eqb, length};
-ghost use Rattle.demo_print.specs.Output.{digit as digitOf, decimal as decimalOf, hex as hexOf, sectors as sectors_of, counts, format_line, write_line, read_line, unknown_line, Put, Printed};
+ghost use Rattle.std.specs.Prelude.{◌≡◌, ◌∷◌, ◌++◌, ◌+◌, ◌*◌, ◌/◌, ◌≤◌, ◌<◌, length};
+ghost use Rattle.demo_print.specs.Output.{digit as digitOf, decimal as decimalOf, hex as hexOf, sectors as sectors_of, counts as counts_of, format_line, write_line, read_line, unknown_line};
 
+use arrayvec::ArrayVec;
 use rules::Answer;
+
+// A line with its end. None that Board T prints has more than 96 bytes.
+pub type Text = ArrayVec<u8, 96>;
 
 // The character of a digit.
 fn digit(d: u8) -> u8
     requires { d < 16 }
     ensures { result ≡ digitOf d }
 {
-    if d < 10 { 48 + d } else { 87 + d }
+    if d < 10 { b'0' + d } else { b'a' + (d - 10) }
 }
 
-// Puts a number in decimal at an index of a buffer, and returns the index after it.
-fn decimal(out: &mut [u8], at: usize, n: u32) -> usize
-    requires { at + 10 ≤ length out.old }
-    ensures { Put (decimalOf n) at out.old out.new result }
+// Adds bytes to a line.
+fn add<const N: usize>(line: &mut ArrayVec<u8, N>, bytes: &[u8])
+    requires { length line.old.items + length bytes.now ≤ N }
+    ensures { line.new.items ≡ line.old.items ++ bytes.now }
 {
-    if n < 10 {
-        out[at] = digit(n as u8);
-        return at + 1;
+    let _fits = line.try_extend_from_slice(bytes);
+}
+
+// Adds a tab and a number in decimal.
+fn add_number<const N: usize>(line: &mut ArrayVec<u8, N>, n: u32)
+    requires { length line.old.items + 11 ≤ N }
+    ensures text { line.new.items ≡ line.old.items ++ 9 ∷ decimalOf n }
+    ensures upper_bound { length line.new.items ≤ length line.old.items + 11 }
+{
+    let mut digits = itoa::Buffer::new();
+    line.push(b'\t');
+    add(line, digits.format(n).as_bytes());
+}
+
+// Adds bytes in hex.
+fn add_hex<const N: usize>(line: &mut ArrayVec<u8, N>, bytes: &[u8])
+    requires { length line.old.items + 2 * length bytes.now ≤ N }
+    ensures { line.new.items ≡ line.old.items ++ hexOf bytes.now }
+{
+    for b in bytes {
+        line.push(digit(*b / 16));
+        line.push(digit(*b % 16));
     }
-    let e = decimal(out, at, n / 10);
-    out[e] = digit((n % 10) as u8);
-    e + 1
 }
 
-// Puts a tab and a number there.
-fn tabbed(out: &mut [u8], at: usize, n: u32) -> usize
-    requires { at + 11 ≤ length out.old }
-    ensures put { Put (9 ∷ decimalOf n) at out.old out.new result }
-    ensures upper_bound { result ≤ at + 11 }
+// Adds each whole sector of `bytes`, in hex after a tab.
+fn add_sectors<const N: usize>(line: &mut ArrayVec<u8, N>, bytes: &[u8])
+    requires { length line.old.items + 33 * (length bytes.now / 16) ≤ N }
+    ensures text { line.new.items ≡ line.old.items ++ sectors_of (length bytes.now / 16) bytes.now }
+    ensures upper_bound { length line.new.items ≤ length line.old.items + 33 * (length bytes.now / 16) }
 {
-    out[at] = b'\t';
-    decimal(out, at + 1, n)
-}
-
-// Puts bytes in hex there.
-fn hex(out: &mut [u8], at: usize, s: &[u8]) -> usize
-    requires { at + 2 * length s.now ≤ length out.old }
-    ensures { Put (hexOf s.now) at out.old out.new result }
-{
-    let mut e = at;
-    let mut i = 0;
-    while i < s.len() {
-        out[e] = digit(s[i] / 16);
-        out[e + 1] = digit(s[i] % 16);
-        e += 2;
-        i += 1;
+    for sector in bytes.chunks_exact(16) {
+        line.push(b'\t');
+        add_hex(line, sector);
     }
-    e
 }
 
-// Puts each whole sector of `bytes` there, in hex after a tab.
-fn sectors(out: &mut [u8], at: usize, bytes: &[u8]) -> usize
-    requires { at + 33 * (length bytes.now / 16) ≤ length out.old }
-    ensures { Put (sectors_of (length bytes.now / 16) bytes.now) at out.old out.new result }
+// The letter, the reply and document 01's two counts.
+fn counts(letter: u8, a: Answer) -> Text
+    ensures text { result.items ≡ counts_of letter a }
+    ensures upper_bound { length result.items ≤ 34 }
 {
-    let k = bytes.len() / 16;
-    let mut e = at;
-    let mut j = 0;
-    while j < k {
-        out[e] = b'\t';
-        let a = j * 16;
-        let z = a + 16;
-        e = hex(out, e + 1, &bytes[a..z]);
-        j += 1;
-    }
-    e
+    let mut line = ArrayVec::new();
+    line.push(letter);
+    add_number(&mut line, u32::from(a.reply));
+    add_number(&mut line, a.programs);
+    add_number(&mut line, a.erases);
+    line
 }
 
-// The same where the reply is 0, and nothing where it is another.
-fn sectors_if(out: &mut [u8], at: usize, reply: u32, bytes: &[u8]) -> usize
-    requires { at + 33 * (length bytes.now / 16) ≤ length out.old }
-    ensures put { Put (cond (eqb reply 0) (sectors_of (length bytes.now / 16) bytes.now) []) at out.old out.new result }
-    ensures upper_bound { result ≤ at + 33 * (length bytes.now / 16) }
+// The line of a format.
+pub fn print_format(a: Answer) -> Text
+    ensures { result.items ≡ format_line a }
 {
+    let mut line = counts(b'F', a);
+    line.push(b'\n');
+    line
+}
+
+// The line of a write, with the spare areas that it looked at as its last field.
+pub fn print_write(a: Answer) -> Text
+    ensures { result.items ≡ write_line a }
+{
+    let mut line = counts(b'W', a);
+    add_number(&mut line, a.looks);
+    line.push(b'\n');
+    line
+}
+
+// The line of a read that was asked for the sectors of `bytes`, with room for N bytes.
+pub fn print_read<const N: usize>(a: Answer, bytes: &[u8]) -> ArrayVec<u8, N>
+    requires { 13 + 33 * (length bytes.now / 16) ≤ N }
+    ensures { result.items ≡ read_line a (length bytes.now / 16) bytes.now }
+{
+    let mut line = ArrayVec::new();
+    line.push(b'R');
+    let reply = u32::from(a.reply);
+    add_number(&mut line, reply);
     if reply == 0 {
-        sectors(out, at, bytes)
-    } else {
-        at
+        add_sectors(&mut line, bytes);
     }
+    line.push(b'\n');
+    line
 }
 
-// Puts the letter, the reply and document 01's two counts at the start of a buffer.
-fn put_counts(out: &mut [u8], letter: u8, a: Answer) -> usize
-    requires { 34 ≤ length out.old }
-    ensures put { Put (counts letter a) 0 out.old out.new result }
-    ensures upper_bound { result ≤ 34 }
+// The line for a line of another form.
+pub fn print_unknown() -> Text
+    ensures { result.items ≡ unknown_line }
 {
-    let reply = a.reply;
-    out[0] = letter;
-    let programs = tabbed(out, 1, rules::number(reply));
-    let erases = tabbed(out, programs, a.programs);
-    tabbed(out, erases, a.erases)
-}
-
-// Prints the line of a format into a buffer, and returns its length.
-pub fn print_format(out: &mut [u8], a: Answer) -> usize
-    requires { 35 ≤ length out.old }
-    ensures { Printed (format_line a) out.old out.new result }
-{
-    let end = put_counts(out, b'F', a);
-    out[end] = b'\n';
-    end + 1
-}
-
-// Prints the line of a write, with the spare areas that it looked at as its last field.
-pub fn print_write(out: &mut [u8], a: Answer) -> usize
-    requires { 46 ≤ length out.old }
-    ensures { Printed (write_line a) out.old out.new result }
-{
-    let looks = put_counts(out, b'W', a);
-    let end = tabbed(out, looks, a.looks);
-    out[end] = b'\n';
-    end + 1
-}
-
-// Prints the line of a read that was asked for the sectors of `bytes`.
-pub fn print_read(out: &mut [u8], a: Answer, bytes: &[u8]) -> usize
-    requires { 13 + 33 * (length bytes.now / 16) ≤ length out.old }
-    ensures { Printed (read_line a (length bytes.now / 16) bytes.now) out.old out.new result }
-{
-    let given = a.reply;
-    let reply = rules::number(given);
-    out[0] = b'R';
-    let shown = tabbed(out, 1, reply);
-    let end = sectors_if(out, shown, reply, bytes);
-    out[end] = b'\n';
-    end + 1
-}
-
-// Prints the line for a line of another form.
-pub fn print_unknown(out: &mut [u8]) -> usize
-    requires { 2 ≤ length out.old }
-    ensures { Printed unknown_line out.old out.new result }
-{
-    out[0] = b'?';
-    out[1] = b'\n';
-    2
-}
-
-// A buffer with room for any line that Board T prints.
-pub fn room() -> [u8; 96]
-    ensures { 96 ≡ length result }
-{
-    [0; 96]
+    let mut line = ArrayVec::new();
+    add(&mut line, b"?\n");
+    line
 }

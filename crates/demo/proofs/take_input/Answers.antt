@@ -1,8 +1,11 @@
 -- `demo::take_input`: what a turn's read gave is taken.
 -- Assumes nothing.
 use Rattle.std.proofs.Common.{arith}
-use Rattle.demo.proofs.Served.{going_on}
+use Rattle.demo.proofs.Served.{going_first, going_on}
 use Rattle.demo.proofs.take_input.Goals as goal
+
+pub loop-turn-init : goal.loop-turn-init
+loop-turn-init g c = going_first _ _ _ _ c.none-held.ensures
 
 pub loop-turn-preserved : goal.loop-turn-preserved
 loop-turn-preserved g c =

@@ -1,16 +1,15 @@
--- `demo_lines::field` meets its contract: what is left from the field's begin on, up to its first tab.
--- Assumes nothing.
-use mathlib.Core.Path.{sym, ap, ◌∙◌}
-use lib.Seq.{length-take-le}
-use Rattle.demo_lines.proofs.Fields.{to_end}
-use Rattle.demo_lines.specs.Grammar.{first_field}
+-- `demo_lines::field`: the parts that the tabs cut are the fields, and one past the last is empty.
+use Rattle.std.proofs.Common.{refl, rules, tests}
+use Rattle.std.proofs.lemmas.Iterator.Consumers.{nth_from_yields_List}
+use Rattle.std.proofs.lemmas.Iterator.Splits.{YieldsList-from_slice_split}
+use lib.Dec.{eqb}
+use Rattle.demo_lines.proofs.Fields.{field_found}
 use Rattle.demo_lines.proofs.field.Goals as goal
-
-pub slice_bounds-result-end : goal.slice_bounds-result-end
-slice_bounds-result-end c = sym (length-take-le _ _ c.width-w.ensures.upper_bound)
 
 pub returns : goal.returns
 returns c =
-    let s = c.args.s.now in
-    let b = c.begins-a in
-    c.width-w.ensures.s_value ∙ ap first_field (to_end s b.result) ∙ b.ensures.s_value
+    let s = c.split.ensures in
+    let l = c.args.s.now in
+    rw c.unwrap_or.ensures
+    (field_found l c.args.n _ _ refl
+    (nth_from_yields_List _ _ _ c.nth.ensures.ran (YieldsList-from_slice_split _ (λ b. eqb b 9) l s.rest s.done s.closure (λ x b q k. search (rules, tests)))))

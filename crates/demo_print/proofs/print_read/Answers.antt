@@ -1,30 +1,19 @@
--- `demo_print::print_read` meets its contract: the letter, the reply after a tab, the sectors, and the line's end, one after the other.
--- Assumes nothing.
-use mathlib.Core.Path.{◌∙◌}
-use lib.ListN.{length-set}
+-- `demo_print::print_read`: the letter, the reply, the sectors where the read is accepted, and the line's end.
+use Rattle.std.proofs.Common.{append_assoc, eq-eqb, length, ne_eqb, ◌/◌, ◌∷◌, []}
 use Rattle.rules.specs.Replies.{is_accepted}
-use Rattle.demo_print.specs.Output.{read_line}
-use Rattle.demo_print.proofs.Puts.{one, then, put_length, printed}
-use native.Mathlib.Omega.{arith}
+use Rattle.demo_print.specs.Output.{decimal, read_line, sectors}
 use Rattle.demo_print.proofs.print_read.Goals as goal
-
-pub tabbed-shown-requires : goal.tabbed-shown-requires
-tabbed-shown-requires c = simp length-set (omega arith)
-
-pub sectors_if-end-requires : goal.sectors_if-end-requires
-sectors_if-end-requires c = omega (arith, c.tabbed-shown.ensures.upper_bound, simp length-set at (put_length c.tabbed-shown.ensures.put), c.requires)
-
-pub bounds-out-end : goal.bounds-out-end
-bounds-out-end c = omega (arith, c.tabbed-shown.ensures.upper_bound, c.sectors_if-end.ensures.upper_bound, simp length-set at (put_length c.tabbed-shown.ensures.put), put_length c.sectors_if-end.ensures.put, c.requires)
-
-pub overflow_add-result : goal.overflow_add-result
-overflow_add-result c = omega (arith, c.tabbed-shown.ensures.upper_bound, c.sectors_if-end.ensures.upper_bound, c.requires, c.well_formed.0.0)
-
-pub shape_of-out : goal.shape_of-out
-shape_of-out c = simp length-set (put_length c.sectors_if-end.ensures.put ∙ (simp length-set at (put_length c.tabbed-shown.ensures.put)))
+use Rattle.demo_print.proofs.print_read.Goals.{then-reply-eq0, else-reply-eq0}
 
 pub returns : goal.returns
 unfolding read_line is_accepted
-returns c =
-    rw (← c.number-reply.ensures)
-    (printed (then (one _ 0 _) (then c.tabbed-shown.ensures.put (then c.sectors_if-end.ensures.put (one _ _ 10)))) (omega (arith, c.tabbed-shown.ensures.upper_bound, c.sectors_if-end.ensures.upper_bound, c.requires)))
+returns g c =
+    elim c.if-reply-eq0.branch [
+      | then-reply-eq0 w ↦
+          rw (c.push-2.ensures.items, w.line-is, w.add_sectors.ensures.text, c.add_number.ensures.text, c.push.ensures.items, c.new-line.ensures)
+          (rw (← c.from-reply.ensures, eq-eqb _ _ w.if-reply-eq0.true)
+          (rw (append_assoc (decimal c.from-reply.result) (sectors (length c.args.bytes.now / 16) c.args.bytes.now) (10 ∷ []))))
+      | else-reply-eq0 w ↦
+          rw (c.push-2.ensures.items, w.line-is, c.add_number.ensures.text, c.push.ensures.items, c.new-line.ensures)
+          (rw (← c.from-reply.ensures, ne_eqb _ _ w.if-reply-eq0.false))
+    ]

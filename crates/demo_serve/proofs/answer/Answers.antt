@@ -8,8 +8,8 @@ pub returns-in-Write : goal.returns-in-Write
 returns-in-Write g c = rw c.in-Write.is c.write.ensures
 
 pub returns-in-Read : goal.returns-in-Read
-returns-in-Read g c = rw c.in-Read.is (record { turned = read_turned _ _ _; text = c.read.ensures })
+returns-in-Read g c = rw c.in-Read.is (record { turned = read_turned _ _ _; text = rw c.seen.ensures at c.read.ensures })
 
 pub returns-in-Other : goal.returns-in-Other
 unfolding turn
-returns-in-Other g c = rw c.in-Other.is (record { turned = other_turned _; text = c.say_unknown.ensures })
+returns-in-Other g c = rw c.in-Other.is (record { turned = other_turned _; text = rw (c.as_slice.ensures.value, c.print_unknown.ensures) at c.write_all.ensures.bytes })
