@@ -9,7 +9,7 @@ ghost use Rattle.queue_head.specs.Heads.{Ready};
 ghost use Rattle.c_answer.specs.Packed.{packed};
 ghost use Rattle.c_queue.specs.Flat.{TurnAsked, TurnDone, TurnsAsked, flat_call, flat_outcome, items_of};
 
-use rules::Params;
+use rules::{Params, Seen};
 
 // One turn of the queue: the i-th request is served,
 // and its answer packed into its place.
@@ -83,7 +83,7 @@ fn turns(
 }
 
 // The items are written in list order, each answered in its place; the state is checked once.
-// The call's own reply, 0 where it is let through.
+// Returns the call's own reply, which is 0 where it is let through.
 pub fn queue(
     p: Params,
     chip: &mut [u8],
@@ -103,14 +103,16 @@ pub fn queue(
 {
     let h = match queue_head::head_flat(
         p,
-        chip,
-        ct,
-        bt,
-        fst,
-        bst,
-        wear,
-        marks,
-        stamps,
+        Seen {
+            chip,
+            ct,
+            bt,
+            fst,
+            bst,
+            wear,
+            marks,
+            stamps,
+        },
         requests.len(),
         answers.len(),
     ) {

@@ -10,7 +10,7 @@ ghost use Rattle.c_answer.specs.Packed.{packed};
 ghost use Rattle.c_queue.specs.Flat.{TurnAsked, TurnsAsked, flat_outcome, items_of};
 ghost use Rattle.c_queue_cut.specs.Cut.{TurnCut, flat_cut, stage};
 
-use rules::Params;
+use rules::{Params, Seen};
 
 // One turn of the queue: the i-th request is served while something is left of the budget,
 // and answered in its place if something is left after it. What is left then.
@@ -97,7 +97,7 @@ fn turns(
 }
 
 // The items are written in list order until the budget is spent, and then the tables are lost.
-// The answers of the items that were finished stand. The call's own reply, 0 where it is let through.
+// The answers of the items that were finished stand. Returns the call's own reply, which is 0 where it is let through.
 pub fn queue_cut(
     p: Params,
     chip: &mut [u8],
@@ -118,14 +118,16 @@ pub fn queue_cut(
 {
     let h = match queue_head::head_flat(
         p,
-        chip,
-        ct,
-        bt,
-        fst,
-        bst,
-        wear,
-        marks,
-        stamps,
+        Seen {
+            chip,
+            ct,
+            bt,
+            fst,
+            bst,
+            wear,
+            marks,
+            stamps,
+        },
         requests.len(),
         answers.len(),
     ) {

@@ -11,7 +11,7 @@ ghost use Rattle.rules.specs.Calls.{outcome_of};
 ghost use Rattle.rules.specs.Cuts.{limited, step_outcome};
 ghost use Rattle.outcomes.specs.Claims.{outcome};
 
-use rules::{Answer, Params, Reply};
+use rules::{Answer, Params, Reply, Seen};
 
 // What an accepted format does: the bad blocks become reserved, all others are erased and free, or reserved where that wears them out, every table entry becomes none
 // and every mark 0. The answer counts the erases.
@@ -57,7 +57,19 @@ pub fn format(
 ) -> Answer
     ensures { outcome result [] [] (exit_board chip ct bt fst bst wear marks stamps) ≡ outcome_of p (entry_board chip ct bt fst bst wear marks stamps) format }
 {
-    if let Err(reply) = replies::format_reply(p, chip, ct, bt, fst, bst, wear, marks, stamps) {
+    if let Err(reply) = replies::format_reply(
+        p,
+        Seen {
+            chip,
+            ct,
+            bt,
+            fst,
+            bst,
+            wear,
+            marks,
+            stamps,
+        },
+    ) {
         return reply_rows::idle(reply);
     }
     format_all(p, chip, ct, bt, fst, bst, wear, marks, stamps)
@@ -78,7 +90,19 @@ pub fn format_cut(
 ) -> Answer
     ensures { outcome result [] [] (exit_board chip ct bt fst bst wear marks stamps) ≡ step_outcome p (entry_board chip ct bt fst bst wear marks stamps) (limited budget format) }
 {
-    if let Err(reply) = replies::format_reply(p, chip, ct, bt, fst, bst, wear, marks, stamps) {
+    if let Err(reply) = replies::format_reply(
+        p,
+        Seen {
+            chip,
+            ct,
+            bt,
+            fst,
+            bst,
+            wear,
+            marks,
+            stamps,
+        },
+    ) {
         return reply_rows::idle(reply);
     }
     format_work::reserve_bad(p, chip, bst);

@@ -7,7 +7,7 @@ ghost use Rattle.rules.specs.Requests.{release};
 ghost use Rattle.rules.specs.Calls.{outcome_of};
 ghost use Rattle.outcomes.specs.Claims.{outcome};
 
-use rules::{Answer, Cluster, Params, Reply, Segment};
+use rules::{Answer, Cluster, Params, Reply, Seen, Segment};
 
 // The cluster's CT entry becomes none: its sectors read as 255 from now on, and no reclaim copies its frames.
 pub fn release(
@@ -25,7 +25,18 @@ pub fn release(
     ensures { outcome result [] [] (board_of chip.now ct.new bt.now fst.now bst.now wear.now marks.new stamps.new) ≡ outcome_of p (board_of chip.now ct.old bt.now fst.now bst.now wear.now marks.old stamps.old) (release cluster) }
 {
     if let Err(reply) = replies::release_reply(
-        p, chip, ct, bt, fst, bst, wear, marks, stamps, cluster,
+        p,
+        Seen {
+            chip,
+            ct,
+            bt,
+            fst,
+            bst,
+            wear,
+            marks,
+            stamps,
+        },
+        cluster,
     ) {
         return reply_rows::idle(reply);
     }

@@ -4,7 +4,7 @@
 ghost use Rattle.std.specs.Prelude.{◌≡◌, []};
 ghost use Rattle.rules.specs.declared.Reply.TheVariants.{Accepted};
 ghost use Rattle.rules.specs.Tables.{board_of};
-ghost use Rattle.rules.specs.Lent.{entry_board, exit_board, seen_board};
+ghost use Rattle.rules.specs.Lent.{entry_board, exit_board, board_seen};
 ghost use Rattle.rules.specs.Requests.{start};
 ghost use Rattle.rules.specs.Replies.{reply_of};
 ghost use Rattle.rules.specs.Calls.{outcome_of};
@@ -12,24 +12,14 @@ ghost use Rattle.rules.specs.Cuts.{limited, step_outcome};
 ghost use Rattle.outcomes.specs.Claims.{outcome};
 ghost use Rattle.reply_rows.specs.Verdicts.{Verdict};
 
-use rules::{Answer, Params, Reply};
+use rules::{Answer, Params, Reply, Seen};
 
-// The reply to a start: refused with 1 or 2; then with 7 where the chip is none to start from.
-fn start_reply(
-    p: Params,
-    chip: &[u8],
-    ct: &[u16],
-    bt: &[u16],
-    fst: &[u16],
-    bst: &[u8],
-    wear: &[u32],
-    marks: &[u64],
-    stamps: &[u32],
-) -> Result<(), Reply>
-    ensures { Verdict result (reply_of p (seen_board chip ct bt fst bst wear marks stamps) start) }
+// Lets a start through, or refuses it with 1 or 2, or with 7 where the chip is none to start from.
+fn start_reply(p: Params, board: Seen<'_>) -> Result<(), Reply>
+    ensures { Verdict result (reply_of p (board_seen board.entry) start) }
 {
-    replies::board_reply(p, chip, ct, bt, fst, bst, wear, marks, stamps)?;
-    if !check_start::can_start(p, chip) {
+    replies::board_reply(p, board)?;
+    if !check_start::can_start(p, board.chip) {
         return Err(Reply::NotOrderly);
     }
     Ok(())
@@ -73,7 +63,19 @@ pub fn start(
 ) -> Answer
     ensures { outcome result [] [] (exit_board chip ct bt fst bst wear marks stamps) ≡ outcome_of p (entry_board chip ct bt fst bst wear marks stamps) start }
 {
-    if let Err(reply) = start_reply(p, chip, ct, bt, fst, bst, wear, marks, stamps) {
+    if let Err(reply) = start_reply(
+        p,
+        Seen {
+            chip,
+            ct,
+            bt,
+            fst,
+            bst,
+            wear,
+            marks,
+            stamps,
+        },
+    ) {
         return reply_rows::idle(reply);
     }
     rebuild(p, chip, ct, bt, fst, bst, wear, marks, stamps)
@@ -94,7 +96,19 @@ pub fn start_cut(
 ) -> Answer
     ensures { outcome result [] [] (exit_board chip ct bt fst bst wear marks stamps) ≡ step_outcome p (entry_board chip ct bt fst bst wear marks stamps) (limited budget start) }
 {
-    if let Err(reply) = start_reply(p, chip, ct, bt, fst, bst, wear, marks, stamps) {
+    if let Err(reply) = start_reply(
+        p,
+        Seen {
+            chip,
+            ct,
+            bt,
+            fst,
+            bst,
+            wear,
+            marks,
+            stamps,
+        },
+    ) {
         return reply_rows::idle(reply);
     }
     start_blocks::list_left(p, chip, bt, bst);

@@ -4,7 +4,7 @@
 ghost use Rattle.std.specs.Prelude.{◌≡◌, true, List, [], ℕ, ◌<◌, eqb, length};
 ghost use Rattle.rules.specs.Regions.{view, view_of};
 ghost use Rattle.rules.specs.Tables.{Board, board_of, not_found, stamp_at};
-ghost use Rattle.rules.specs.Lent.{seen_board};
+ghost use Rattle.rules.specs.Lent.{board_seen};
 ghost use Rattle.rules.specs.Write.{plan_block, plan_of};
 ghost use Rattle.rules.specs.Marks.{marks_of};
 ghost use Rattle.read_work.specs.Lookup.{Within};
@@ -14,7 +14,7 @@ ghost use Rattle.call_why.specs.Why.{Small, forecast_in, forecast_numbers, holde
 
 use check_broken::Rule;
 use read_work::Spot;
-use rules::{Cluster, PBlock, Params, Reply, Segment, VBlock};
+use rules::{Cluster, PBlock, Params, Reply, Seen, Segment, VBlock};
 use write_plan::Planned;
 
 // Where a cluster is held: its region, its segment, the virtual and the physical block, and the frame of that block.
@@ -61,32 +61,22 @@ fn planned(p: Params, marks: &[u64], r: usize, pl: Planned) -> Forecast
 }
 
 // What a write to region r would do, on a state that is known to be orderly: its plan, if the region has a stamp left and the plan a block to write.
-fn forecast_of(
-    p: Params,
-    chip: &[u8],
-    bt: &[u16],
-    fst: &[u16],
-    bst: &[u8],
-    wear: &[u32],
-    marks: &[u64],
-    stamps: &[u32],
-    r: usize,
-) -> Forecast
-    requires forecast_asked { ForecastAsked p chip.now bt.now fst.now bst.now wear.now marks.now r }
-    requires r_in_bounds { r < length stamps.now }
-    ensures { (ct : List ℕ) → marks.now ≡ marks_of p (board_of chip.now ct bt.now fst.now [] [] [] [])
-        → forecast_numbers result ≡ forecast_in p (stamp_at stamps.now r)
-        (eqb (plan_block p (board_of chip.now ct bt.now fst.now bst.now wear.now marks.now stamps.now) r
-        (plan_of p (view_of p chip.now ct bt.now fst.now r))) not_found) (view_of p chip.now ct bt.now fst.now r) }
+fn forecast_of(p: Params, board: Seen<'_>, r: usize) -> Forecast
+    requires forecast_asked { ForecastAsked p board.chip.now board.bt.now board.fst.now board.bst.now board.wear.now board.marks.now r }
+    requires r_in_bounds { r < length board.stamps.now }
+    ensures { (ct : List ℕ) → board.entry.marks.now ≡ marks_of p (board_of board.entry.chip.now ct board.entry.bt.now board.entry.fst.now [] [] [] [])
+        → forecast_numbers result ≡ forecast_in p (stamp_at board.entry.stamps.now r)
+        (eqb (plan_block p (board_of board.entry.chip.now ct board.entry.bt.now board.entry.fst.now board.entry.bst.now board.entry.wear.now board.entry.marks.now board.entry.stamps.now) r
+        (plan_of p (view_of p board.entry.chip.now ct board.entry.bt.now board.entry.fst.now r))) not_found) (view_of p board.entry.chip.now ct board.entry.bt.now board.entry.fst.now r) }
 {
-    if chip_tables::stamp_at(stamps, r) == rules::LAST_STAMP {
+    if chip_tables::stamp_at(board.stamps, r) == rules::LAST_STAMP {
         return Forecast::NoStamp;
     }
-    let pl = write_plan::plan_of(p, chip, bt, fst, marks, r);
-    let Some(_) = write_room::plan_block(p, bt, bst, wear, r, pl) else {
+    let pl = write_plan::plan_of(p, board.chip, board.bt, board.fst, board.marks, r);
+    let Some(_) = write_room::plan_block(p, board.bt, board.bst, board.wear, r, pl) else {
         return Forecast::NoBlock;
     };
-    planned(p, marks, r, pl)
+    planned(p, board.marks, r, pl)
 }
 
 // The place of cluster c, which the lookup found there.
@@ -107,44 +97,32 @@ fn place_at(p: Params, ct: &[u16], bt: &[u16], c: Cluster, at: Spot) -> Place
 }
 
 // Why the sector at an LBA reads so, and what a write of it would do; each answer is true of every content of the lent chip and tables.
-pub fn explain(
-    p: Params,
-    chip: &[u8],
-    ct: &[u16],
-    bt: &[u16],
-    fst: &[u16],
-    bst: &[u8],
-    wear: &[u32],
-    marks: &[u64],
-    stamps: &[u32],
-    lba: u32,
-) -> Why
-    ensures result_value { numbers_of result ≡ why_of p (seen_board chip ct bt fst bst wear marks stamps) lba }
+pub fn explain(p: Params, board: Seen<'_>, lba: u32) -> Why
+    ensures result_value { numbers_of result ≡ why_of p (board_seen board.entry) lba }
     ensures small { Small (numbers_of result) }
 {
-    if let Err(reply) = replies::why_reply(p, chip, ct, bt, fst, bst, wear, marks, stamps, lba) {
+    if let Err(reply) = replies::why_reply(p, board, lba) {
         let n = u32::from(reply);
         if n == 7 {
-            let broken = check_broken::broken_rule(p, chip, ct, bt, fst, bst, marks, stamps);
+            let broken = check_broken::broken_rule(
+                p,
+                board.chip,
+                board.ct,
+                board.bt,
+                board.fst,
+                board.bst,
+                board.marks,
+                board.stamps,
+            );
             return Why::Disordered(broken);
         }
         return Why::Refused(reply);
     }
     let c = rules::cluster_of(p, lba as usize);
-    let fc = forecast_of(
-        p,
-        chip,
-        bt,
-        fst,
-        bst,
-        wear,
-        marks,
-        stamps,
-        rules::region_of(p, c),
-    );
-    let at = read_work::find_frame(p, chip, ct, bt, c);
+    let fc = forecast_of(p, board, rules::region_of(p, c));
+    let at = read_work::find_frame(p, board.chip, board.ct, board.bt, c);
     let Some(spot) = at.spot else {
         return Why::Empty(fc);
     };
-    Why::Held(place_at(p, ct, bt, c, spot), fc, at.looks)
+    Why::Held(place_at(p, board.ct, board.bt, c, spot), fc, at.looks)
 }

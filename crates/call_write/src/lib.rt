@@ -8,7 +8,7 @@ ghost use Rattle.rules.specs.Calls.{outcome_of};
 ghost use Rattle.rules.specs.Cuts.{limited, step_outcome};
 ghost use Rattle.outcomes.specs.Claims.{outcome};
 
-use rules::{Answer, Params};
+use rules::{Answer, Params, Seen};
 
 // The cluster of the LBA is rewritten with the lent data in the sectors asked for.
 pub fn write(
@@ -30,14 +30,16 @@ pub fn write(
 {
     if let Err(reply) = replies::write_reply(
         p,
-        chip,
-        ct,
-        bt,
-        fst,
-        bst,
-        wear,
-        marks,
-        stamps,
+        Seen {
+            chip,
+            ct,
+            bt,
+            fst,
+            bst,
+            wear,
+            marks,
+            stamps,
+        },
         lba,
         count,
         bytes.len(),
@@ -82,14 +84,16 @@ pub fn write_cut(
 {
     if let Err(reply) = replies::write_reply(
         p,
-        chip,
-        ct,
-        bt,
-        fst,
-        bst,
-        wear,
-        marks,
-        stamps,
+        Seen {
+            chip,
+            ct,
+            bt,
+            fst,
+            bst,
+            wear,
+            marks,
+            stamps,
+        },
         lba,
         count,
         bytes.len(),

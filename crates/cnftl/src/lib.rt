@@ -13,6 +13,8 @@ ghost use Rattle.c_answer.specs.Packed.{params_of};
 ghost use Rattle.cnftl.specs.Packed.{Given};
 ghost use Rattle.cnftl.specs.Listed.{Listed};
 
+use rules::Seen;
+
 // The number of this interface, which is in the name too: an object that was compiled with a header of another number does not link.
 #[unsafe(no_mangle)]
 pub extern "C" fn cnftl_api_3() -> u32
@@ -160,7 +162,20 @@ pub extern "C" fn cnftl_read(
 {
     let p = c_answer::params(s, alpha, beta, d, mu, gamma, c, n, e);
     c_answer::pack(calls::read(
-        p, chip, ct, bt, fst, bst, wear, marks, stamps, lba, count, bytes,
+        p,
+        Seen {
+            chip,
+            ct,
+            bt,
+            fst,
+            bst,
+            wear,
+            marks,
+            stamps,
+        },
+        lba,
+        count,
+        bytes,
     ))
 }
 
@@ -359,7 +374,20 @@ pub extern "C" fn cnftl_why(
         return 1;
     }
     c_why::tell(
-        call_why::explain(p, chip, ct, bt, fst, bst, wear, marks, stamps, lba),
+        call_why::explain(
+            p,
+            Seen {
+                chip,
+                ct,
+                bt,
+                fst,
+                bst,
+                wear,
+                marks,
+                stamps,
+            },
+            lba,
+        ),
         list,
     )
 }

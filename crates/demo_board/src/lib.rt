@@ -1,4 +1,4 @@
-// Board T as the bench program has it: its parameters, its blank chip, its chip and tables as they are lent, and the bytes that a line lends.
+// Board T as the bench program has it: its parameters, its blank chip, the chip and the tables lent as one, and the bytes that a line lends.
 #![tactic(auto)]
 
 ghost use Rattle.std.specs.Prelude.{◌≡◌, ◌*◌, min, replicate};

@@ -16,7 +16,7 @@ pub enum Line {
     Other,
 }
 
-// The line that is being read: its bytes, or none once it has more than 64.
+// The line that is being read: its bytes, which are let go once there are more than 64.
 pub type Held = Option<ArrayVec<u8, 64>>;
 
 // How many fields a line has.

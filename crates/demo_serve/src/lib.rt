@@ -6,7 +6,7 @@ ghost use Rattle.std.specs.Prelude.{◌≡◌, ◌≤◌, ◌/◌, length, OnOk}
 ghost use Rattle.std.specs.Io.KnownBytes.{Appends};
 ghost use Rattle.rules.specs.Calls.{outcome_of};
 ghost use Rattle.rules.specs.Lent.{board_seen};
-ghost use Rattle.demo_board.specs.Store.{store_board};
+ghost use Rattle.demo_board.specs.Store.{SameSlices, store_board};
 ghost use Rattle.rules.specs.Requests.{read, request_of};
 ghost use Rattle.cases.specs.BoardT.{board_t};
 ghost use Rattle.demo_print.specs.Output.{format_line, read_line, unknown_line, write_line};
@@ -26,6 +26,7 @@ fn write<W: Write>(
     count: u32,
     value: u8,
 ) -> io::Result<()>
+    ensures same { SameSlices store.old store.new }
     ensures turned { Turned (Line.Write lba count value) (store_board store.old) (store_board store.new) }
     ensures text { OnOk result (Appends (W.contents to.old) (W.contents to.new) (turned_text (store_board store.old) (Line.Write lba count value))) }
 {
@@ -60,20 +61,7 @@ fn read_into<W: Write>(
     ensures { let o = outcome_of board_t (board_seen board.entry) (read (request_of lba count bytes.old)) in
         OnOk result (Appends (W.contents to.old) (W.contents to.new) (read_line o.answer (length bytes.old / 16) o.bytes)) }
 {
-    let a = calls::read(
-        demo_board::board(),
-        board.chip,
-        board.ct,
-        board.bt,
-        board.fst,
-        board.bst,
-        board.wear,
-        board.marks,
-        board.stamps,
-        lba,
-        count,
-        bytes,
-    );
+    let a = calls::read(demo_board::board(), board, lba, count, bytes);
     to.write_all(demo_print::print_read::<96>(a, bytes).as_slice())
 }
 
@@ -88,6 +76,7 @@ fn read<W: Write>(to: &mut W, board: Seen<'_>, lba: u32, count: u32) -> io::Resu
 
 // Does what a line asks, and prints one line. The board becomes the one that the line leaves.
 pub fn answer<W: Write>(to: &mut W, store: &mut Store<'_>, line: Line) -> io::Result<()>
+    ensures same { SameSlices store.old store.new }
     ensures turned { Turned line (store_board store.old) (store_board store.new) }
     ensures text { OnOk result (Appends (W.contents to.old) (W.contents to.new) (turned_text (store_board store.old) line)) }
 {
@@ -101,6 +90,7 @@ pub fn answer<W: Write>(to: &mut W, store: &mut Store<'_>, line: Line) -> io::Re
 // Formats the board, lent with its sixteen words of marks, and prints the answer.
 pub fn start<W: Write>(to: &mut W, store: &mut Store<'_>) -> io::Result<()>
     requires { length store.old.marks.now ≡ 16 }
+    ensures same { SameSlices store.old store.new }
     ensures started { Started (store_board store.old) (store_board store.new) }
     ensures text { OnOk result (Appends (W.contents to.old) (W.contents to.new) (started_text (store_board store.old))) }
 {

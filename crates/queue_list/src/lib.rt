@@ -7,7 +7,7 @@ ghost use Rattle.rules.specs.Requests.{queue, queue_of};
 ghost use Rattle.rules.specs.Calls.{outcome_of};
 ghost use Rattle.outcomes.specs.Claims.{outcome};
 
-use rules::{Answer, Item, Params, Reply};
+use rules::{Answer, Item, Params, Reply, Seen};
 
 // The items are written in list order, each answered in its place; the state is checked once.
 pub fn queue(
@@ -29,14 +29,16 @@ pub fn queue(
 {
     let h = match queue_head::head_of(
         p,
-        chip,
-        ct,
-        bt,
-        fst,
-        bst,
-        wear,
-        marks,
-        stamps,
+        Seen {
+            chip,
+            ct,
+            bt,
+            fst,
+            bst,
+            wear,
+            marks,
+            stamps,
+        },
         requests.len(),
         answers.len(),
     ) {

@@ -9,7 +9,7 @@ use Rattle.call_read.proofs.read.Goals as goal
 use Rattle.call_read.proofs.read.Goals.{Start}
 
 abbrev board : Start → Board
-board a = board_of a.args.chip.now a.args.ct.now a.args.bt.now a.args.fst.now a.args.bst.now a.args.wear.now a.args.marks.now a.args.stamps.now
+board a = board_of a.args.board.chip.now a.args.board.ct.now a.args.board.bt.now a.args.board.fst.now a.args.board.bst.now a.args.board.wear.now a.args.board.marks.now a.args.board.stamps.now
 
 abbrev request : Start → Request
 request a = request_of a.args.lba a.args.count a.args.bytes.now

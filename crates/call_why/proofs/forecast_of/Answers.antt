@@ -24,11 +24,11 @@ pub plan_of-pl-requires : goal.plan_of-pl-requires
 plan_of-pl-requires c =
     record {
       plan_asked = c.requires.forecast_asked.plan;
-      marks_len = marks_long_lem _ c.args.chip.now c.args.bt.now c.args.fst.now c.args.bst.now c.args.wear.now c.args.marks.now _ c.requires.forecast_asked;
+      marks_len = marks_long_lem _ c.args.board.chip.now c.args.board.bt.now c.args.board.fst.now c.args.board.bst.now c.args.board.wear.now c.args.board.marks.now _ c.requires.forecast_asked;
     }
 
 pub plan_block-requires : goal.plan_block-requires
-plan_block-requires c = block_asked _ c.args.chip.now c.args.bt.now c.args.fst.now c.args.bst.now c.args.wear.now c.args.marks.now _ c.requires.forecast_asked _ c.plan_of-pl.ensures
+plan_block-requires c = block_asked _ c.args.board.chip.now c.args.board.bt.now c.args.board.fst.now c.args.board.bst.now c.args.board.wear.now c.args.board.marks.now _ c.requires.forecast_asked _ c.plan_of-pl.ensures
 
 pub returns-in_default : goal.returns-in_default
 unfolding forecast_numbers forecast_in no_stamp_left
@@ -37,11 +37,11 @@ returns-in_default c ct right =
       ← c.stamp_at.ensures,
       lt-leb 4294967295 c.stamp_at.result (omega (arith, c.if-stamp_at.false)),
       ← (c.plan_of-pl.ensures ct right),
-      eq-eqb _ 65535 (c.in_default.ensures c.args.chip.now ct c.args.fst.now c.args.marks.now c.args.stamps.now),
+      eq-eqb _ 65535 (c.in_default.ensures c.args.board.chip.now ct c.args.board.fst.now c.args.board.marks.now c.args.board.stamps.now),
     )
 
 pub planned-requires : goal.planned-requires
-planned-requires c = victim_asked _ c.args.chip.now c.args.bt.now c.args.fst.now c.args.bst.now c.args.wear.now c.args.marks.now _ c.requires.forecast_asked _ c.plan_of-pl.ensures
+planned-requires c = victim_asked _ c.args.board.chip.now c.args.board.bt.now c.args.board.fst.now c.args.board.bst.now c.args.board.wear.now c.args.board.marks.now _ c.requires.forecast_asked _ c.plan_of-pl.ensures
 
 -- a block that is there is not none
 taken : (n x : ℕ) → (n ≡ x) × (n < not_found) → eqb x not_found ≡ false
@@ -54,6 +54,6 @@ returns c ct right =
       ← c.stamp_at.ensures,
       lt-leb 4294967295 c.stamp_at.result (omega (arith, c.if-stamp_at.false)),
       ← (c.plan_of-pl.ensures ct right),
-      taken _ _ (c.in-Some.ensures c.args.chip.now ct c.args.fst.now c.args.marks.now c.args.stamps.now),
+      taken _ _ (c.in-Some.ensures c.args.board.chip.now ct c.args.board.fst.now c.args.board.marks.now c.args.board.stamps.now),
     )
-    (c.planned.ensures (board_of c.args.chip.now ct c.args.bt.now c.args.fst.now [] [] [] []) right)
+    (c.planned.ensures (board_of c.args.board.chip.now ct c.args.board.bt.now c.args.board.fst.now [] [] [] []) right)

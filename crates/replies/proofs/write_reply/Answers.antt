@@ -13,7 +13,7 @@ use Rattle.replies.proofs.write_reply.Goals as goal
 use Rattle.replies.proofs.write_reply.Goals.{Start}
 
 abbrev board : Start → Board
-board a = board_of a.args.chip.now a.args.ct.now a.args.bt.now a.args.fst.now a.args.bst.now a.args.wear.now a.args.marks.now a.args.stamps.now
+board a = board_of a.args.board.chip.now a.args.board.ct.now a.args.board.bt.now a.args.board.fst.now a.args.board.bst.now a.args.board.wear.now a.args.board.marks.now a.args.board.stamps.now
 
 pub returns-in_err-read_reply : goal.returns-in_err-read_reply
 unfolding reply_of rows_of early_rows lent_rows access_rows order_row
