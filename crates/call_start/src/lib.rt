@@ -15,6 +15,7 @@ ghost use Rattle.reply_rows.specs.Verdicts.{Verdict};
 use rules::{Answer, Params, Reply, Seen};
 
 // Lets a start through, or refuses it with 1 or 2, or with 7 where the chip is none to start from.
+#[inline(always)]
 fn start_reply(p: Params, board: Seen<'_>) -> Result<(), Reply>
     ensures { Verdict result (reply_of p (board_seen board.entry) start) }
 {

@@ -15,6 +15,7 @@ pub struct Head {
 }
 
 // The one look at the state, where the call itself is not refused with 1, 2 or 8.
+#[inline(always)]
 pub fn head_of(p: Params, board: Seen<'_>, items: usize, answers: usize) -> Result<Head, Reply>
     ensures { HeadIs p (board_seen board.entry) items answers result }
 {
@@ -22,7 +23,16 @@ pub fn head_of(p: Params, board: Seen<'_>, items: usize, answers: usize) -> Resu
     if answers < items {
         return Err(Reply::TooFewAnswers);
     }
-    let state = replies::state_reply(p, board);
+    let state = replies::state_reply(
+        p,
+        board.chip,
+        board.ct,
+        board.bt,
+        board.fst,
+        board.bst,
+        board.marks,
+        board.stamps,
+    );
     Ok(Head {
         ordered: state.is_ok(),
         items,
@@ -31,6 +41,7 @@ pub fn head_of(p: Params, board: Seen<'_>, items: usize, answers: usize) -> Resu
 
 // The head of a queue whose request list has `len` numbers:
 // 1 comes first, then 2 where they are not three to a request.
+#[inline(always)]
 pub fn head_flat(p: Params, board: Seen<'_>, len: usize, answers: usize) -> Result<Head, Reply>
     ensures { FlatHead p (board_seen board.entry) len answers result }
 {

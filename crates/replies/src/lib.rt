@@ -12,6 +12,7 @@ ghost use Rattle.reply_rows.specs.Verdicts.{Verdict};
 use rules::{Params, Reply, Seen};
 
 // Lets a call through by the parameters and the lengths, or refuses it with 1 or 2.
+#[inline(always)]
 pub fn board_reply(p: Params, board: Seen<'_>) -> Result<(), Reply>
     ensures { Verdict result (first_row Reply.Accepted (lent_rows p (board_seen board.entry))) }
 {
@@ -34,15 +35,39 @@ pub fn board_reply(p: Params, board: Seen<'_>) -> Result<(), Reply>
     Ok(())
 }
 
-// Lets a call through where the state is orderly, and refuses it with 7 else.
-pub fn state_reply(p: Params, board: Seen<'_>) -> Result<(), Reply>
-    requires lengths { Lengths p board.chip.now board.ct.now board.bt.now board.fst.now board.bst.now }
-    requires marks_len { length board.marks.now ≡ marks_length p }
-    requires stamps_len { length board.stamps.now ≡ p.mu }
+// Lets a call through where the state is orderly, and refuses it with 7 else. No wear is asked for: whether a state is orderly does not depend on it.
+#[inline(always)]
+pub fn state_reply(
+    p: Params,
+    chip: &[u8],
+    ct: &[u16],
+    bt: &[u16],
+    fst: &[u16],
+    bst: &[u8],
+    marks: &[u64],
+    stamps: &[u32],
+) -> Result<(), Reply>
+    requires lengths { Lengths p chip.now ct.now bt.now fst.now bst.now }
+    requires marks_len { length marks.now ≡ marks_length p }
+    requires stamps_len { length stamps.now ≡ p.mu }
     ensures { (wear : List ℕ) → Verdict result (first_row Reply.Accepted
-        (order_row p (board_of board.entry.chip.now board.entry.ct.now board.entry.bt.now board.entry.fst.now board.entry.bst.now wear board.entry.marks.now board.entry.stamps.now))) }
+        (order_row p (board_of chip.now ct.now bt.now fst.now bst.now wear marks.now stamps.now))) }
 {
-    if check_board::in_order(
+    if check_board::in_order(p, chip, ct, bt, fst, bst, marks, stamps) {
+        return Ok(());
+    }
+    Err(Reply::NotOrderly)
+}
+
+// The reply to a read of `count` sectors from LBA on, with `len` bytes of data.
+#[inline(always)]
+pub fn read_reply(p: Params, board: Seen<'_>, lba: u32, count: u32, len: usize) -> Result<(), Reply>
+    ensures { (q : Request) → q.lba ≡ lba → q.count ≡ count → length q.bytes ≡ len → Verdict result (reply_of p (board_seen board.entry) (read q)) }
+{
+    board_reply(p, board)?;
+    let wrong = reply_rows::wrong_data(p, count, len);
+    reply_rows::request_reply(p, lba, count, wrong)?;
+    state_reply(
         p,
         board.chip,
         board.ct,
@@ -51,23 +76,11 @@ pub fn state_reply(p: Params, board: Seen<'_>) -> Result<(), Reply>
         board.bst,
         board.marks,
         board.stamps,
-    ) {
-        return Ok(());
-    }
-    Err(Reply::NotOrderly)
-}
-
-// The reply to a read of `count` sectors from LBA on, with `len` bytes of data.
-pub fn read_reply(p: Params, board: Seen<'_>, lba: u32, count: u32, len: usize) -> Result<(), Reply>
-    ensures { (q : Request) → q.lba ≡ lba → q.count ≡ count → length q.bytes ≡ len → Verdict result (reply_of p (board_seen board.entry) (read q)) }
-{
-    board_reply(p, board)?;
-    let wrong = reply_rows::wrong_data(p, count, len);
-    reply_rows::request_reply(p, lba, count, wrong)?;
-    state_reply(p, board)
+    )
 }
 
 // The reply to a write of them, but for 10, which its plan tells: a read's, and 9 where its region has no stamp left.
+#[inline(always)]
 pub fn write_reply(
     p: Params,
     board: Seen<'_>,
@@ -82,6 +95,7 @@ pub fn write_reply(
 }
 
 // The reply to a release of cluster c.
+#[inline(always)]
 pub fn release_reply(p: Params, board: Seen<'_>, c: u32) -> Result<(), Reply>
     ensures { Verdict result (reply_of p (board_seen board.entry) (release c)) }
 {
@@ -89,10 +103,20 @@ pub fn release_reply(p: Params, board: Seen<'_>, c: u32) -> Result<(), Reply>
     if reply_rows::bad_cluster(p, c) {
         return Err(Reply::BadAddress);
     }
-    state_reply(p, board)
+    state_reply(
+        p,
+        board.chip,
+        board.ct,
+        board.bt,
+        board.fst,
+        board.bst,
+        board.marks,
+        board.stamps,
+    )
 }
 
 // The reply to the question why a sector reads so.
+#[inline(always)]
 pub fn why_reply(p: Params, board: Seen<'_>, lba: u32) -> Result<(), Reply>
     ensures { Verdict result (why_reply p (board_seen board.entry) lba) }
 {
@@ -100,10 +124,20 @@ pub fn why_reply(p: Params, board: Seen<'_>, lba: u32) -> Result<(), Reply>
     if reply_rows::bad_address(p, lba) {
         return Err(Reply::BadAddress);
     }
-    state_reply(p, board)
+    state_reply(
+        p,
+        board.chip,
+        board.ct,
+        board.bt,
+        board.fst,
+        board.bst,
+        board.marks,
+        board.stamps,
+    )
 }
 
 // The reply to a format.
+#[inline(always)]
 pub fn format_reply(p: Params, board: Seen<'_>) -> Result<(), Reply>
     ensures { Verdict result (reply_of p (board_seen board.entry) format) }
 {
