@@ -1,12 +1,12 @@
 // The bench program's input: a line, cut out of a stream of bytes, and what it asks.
 #![tactic(auto)]
 
-ghost use Rattle.std.specs.Prelude.{◌≡◌, true, false, MatchOption, List, [], ◌∷◌, ◌++◌, ℕ, ltb, length};
+ghost use Rattle.std.specs.Prelude.{◌≡◌, ◌<◌, ◌≤◌, ◌↔◌, true, false, IsTrue, IsFalse, MatchOption, List, [], ◌∷◌, ◌++◌, ℕ, ltb, length};
 ghost use Rattle.lists.specs.Parts.{same_list};
 ghost use Rattle.demo_lines.specs.Grammar.{fields, field_at, Found, is_write, is_read, write_in, read_in, AskedAs, line_of};
 ghost use Rattle.demo_lines.specs.Held.{Holds};
 
-use arrayvec::ArrayVec;
+use std::marker::Model;
 
 // What a line asks: a write of a count of sectors from an LBA on, all bytes of one value; a read; or nothing that is known.
 #[derive(Clone, Copy)]
@@ -16,8 +16,75 @@ pub enum Line {
     Other,
 }
 
+// The bytes of a line that has come in part: at most 64.
+#[derive(Clone, Copy)]
+pub struct Begun {
+    bytes: [u8; 64],
+    len: usize,
+}
+
+impl Model for Begun {
+    ghost use Rattle.std.specs.Prelude.{◌≡◌, ◌≤◌, ◌++◌, length, take, drop};
+    ghost use Rattle.std.proofs.Common.{arith, take-append-drop, length-take-le};
+    ghost use Rattle.demo_lines.specs.Held.{Begun as Bytes};
+
+    ghost Value = { Bytes };
+
+    ghost view = { λ h. record { items = take h.len h.bytes; spare = drop h.len h.bytes } };
+
+    ghost invariant = { λ h. (h.len ≤ 64) × (length h.bytes ≡ 64) };
+
+    ghost inverse = { λ h. record { bytes = h.items ++ h.spare; len = length h.items } };
+
+    ghost inverse_ok = { λ h k i. record {
+      bytes = take-append-drop h.len h.bytes i;
+      len = length-take-le h.len h.bytes (omega (arith, k.0, k.1)) i;
+    } };
+}
+
+impl Begun {
+    // No byte.
+    pub fn new() -> Self
+        ensures { result.items ≡ [] }
+    {
+        Begun {
+            bytes: [0; 64],
+            len: 0,
+        }
+    }
+
+    // Takes one byte more, and says whether it fitted.
+    pub fn push(&mut self, b: u8) -> bool
+        ensures fits { IsTrue result ↔ (length self.old.items < 64) }
+        ensures taken { IsTrue result → self.new.items ≡ self.old.items ++ b ∷ [] }
+        ensures full { IsFalse result → self.new ≡ self.old }
+    {
+        if self.len == 64 {
+            return false;
+        }
+        self.bytes[self.len] = b;
+        self.len += 1;
+        true
+    }
+
+    // Whether there is no byte.
+    pub fn is_empty(&self) -> bool
+        ensures { IsTrue result ↔ (self.now.items ≡ []) }
+    {
+        self.len == 0
+    }
+
+    // The bytes, in the order in which they came.
+    pub fn as_slice(&self) -> &[u8]
+        ensures items { result.now ≡ self.now.items }
+        ensures few { length result.now ≤ 64 }
+    {
+        &self.bytes[..self.len]
+    }
+}
+
 // The line that is being read: its bytes, which are let go once there are more than 64.
-pub type Held = Option<ArrayVec<u8, 64>>;
+pub type Held = Option<Begun>;
 
 // How many fields a line has.
 fn count(s: &[u8]) -> usize
@@ -97,7 +164,7 @@ pub fn parse(s: &[u8]) -> Line
 pub fn none() -> Held
     ensures { Holds result [] }
 {
-    Some(ArrayVec::new())
+    Some(Begun::new())
 }
 
 // A line with one byte more.
@@ -105,8 +172,7 @@ pub fn push(held: Held, b: u8) -> Held
     ensures { (l : List ℕ) → Holds held l → Holds result (l ++ (b ∷ [])) }
 {
     let mut kept = held?;
-    kept.try_push(b).ok()?;
-    Some(kept)
+    if kept.push(b) { Some(kept) } else { None }
 }
 
 // Whether a byte of a line has come.
@@ -124,7 +190,7 @@ pub fn asked(held: &Held) -> Line
     ensures { (l : List ℕ) → Holds held.now l → result ≡ line_of l }
 {
     match held {
-        Some(kept) => parse(kept),
+        Some(kept) => parse(kept.as_slice()),
         None => Line::Other,
     }
 }
