@@ -1,6 +1,6 @@
 -- Whether a frame is a whole one of a cluster with a stamp, look by look; and what holds of a virtual block without a block.
 -- Assumes nothing.
-use mathlib.Core.Path.{◌≡◌, refl, sym, ap}
+use mathlib.Core.Path.{◌≡◌, refl, sym, ap, ◌∙◌}
 use mathlib.Core.Logic.{⊎_elim}
 use mathlib.Core.Bool.{Bool, true, false, not, and-false, and-true}
 use mathlib.Core.List.{List, []}
@@ -71,9 +71,9 @@ module _ (p : Params) (chip kept : List ℕ) (v : ℕ) (none_kept : get_or kept 
   none_block = sym (all_below_intro (frames p) (frame_apart p chip kept v) (λ f h. none_apart f))
 
 -- one with a block
-pub body_some : (p : Params) (chip kept : List ℕ) (v n : ℕ) → n ≡ get_or kept v none → n < none → block p chip n ≡ kept_body p chip kept v
+pub body_some : (p : Params) (chip kept : List ℕ) (v n : ℕ) → n ≡ get_or kept v none → (n ≡ none → ⊥) → block p chip n ≡ kept_body p chip kept v
 unfolding kept_body body_at
-body_some p chip kept v n e low = rw (← e, ne_eqb n none (λ q. omega (arith, low, q)))
+body_some p chip kept v n e ne = rw (← e, ne_eqb n none ne)
 
 -- a frame of it, as it is read
 pub read_frame : (p : Params) (blk body fr : List ℕ) (f : ℕ) → fr ≡ frame p blk f → blk ≡ body → fr ≡ frame p body f
@@ -84,5 +84,5 @@ module _ (p : Params) (chip kept : List ℕ) (a : Asked p chip kept) (v : ℕ) (
   pub row_in : v < length kept
   row_in = rw a.row (omega (arith, (sizes p a.fine).gamma_high))
 
-  pub kept_low : (n : ℕ) → n ≡ get_or kept v none → n < none → n < p.N
-  kept_low n e low = rw e (⊎_elim (λ q. absurd (omega (arith, low, e, q))) (λ l. l) (a.blocks v h))
+  pub kept_low : (n : ℕ) → n ≡ get_or kept v none → (n ≡ none → ⊥) → n < p.N
+  kept_low n e ne = rw e (⊎_elim (λ q. absurd (ne (e ∙ q))) (λ l. l) (a.blocks v h))

@@ -15,6 +15,8 @@ use lib.ListN.{length, take, drop, get_or, length-append, length-drop}
 use lib.Seq.{take-suc, take_at, drop-drop, drop_at}
 use Rattle.lists.specs.Below.{join_below}
 use Rattle.lists.specs.Parts.{part}
+use Rattle.lists.proofs.Joins.{join_length}
+use Rattle.lists.proofs.Parts.{part_length}
 use Rattle.demo_print.specs.Output.{digit, decimal_up_to, decimal, hex, sectors}
 
 -- ---- decimal
@@ -76,6 +78,13 @@ two_more x y a b = append_assoc (x ++ y) (a ∷ []) (b ∷ []) ∙ append_assoc 
 pub sectors_turn : (j : ℕ) (l : List ℕ) → sectors (j + 1) l ≡ sectors j l ++ (9 ∷ hex (part 16 j l))
 unfolding sectors join_below
 sectors_turn j l = rw add-one
+
+sector_length : (l : List ℕ) (j : ℕ) → j < length l / 16 → length (9 ∷ hex (part 16 j l)) ≡ 33
+sector_length l j h = omega (arith, hex_length (part 16 j l), part_length 16 j l (omega arith))
+
+pub sectors_length : (j : ℕ) (l : List ℕ) → j ≤ length l / 16 → length (sectors j l) ≡ 33 * j
+unfolding sectors
+sectors_length j l h = omega (arith, join_length 33 j (λ i. 9 ∷ hex (part 16 i l)) (λ i k. sector_length l i (omega arith)))
 
 -- 16 bytes are cut off what comes after j sectors
 pub sector_next : (l r x t : List ℕ) (j : ℕ) → r ≡ drop (j * 16) l → r ≡ x ++ t → length x ≡ 16 → j * 16 ≤ length l

@@ -1,4 +1,4 @@
--- A call that is refused has the rules' outcome.
+-- The two ends of any call, by its reply: refused, with the rules' outcome, or accepted.
 -- Assumes nothing.
 use mathlib.Core.Path.{◌≡◌, sym, ap, ◌∙◌}
 use mathlib.Core.Bool.{false}
@@ -11,10 +11,10 @@ use Rattle.rules.specs.declared.Reply.TheVariants.{Accepted}
 use Rattle.rules.specs.declared.Answer.{Answer}
 use Rattle.rules.specs.Tables.{Board}
 use Rattle.rules.specs.Requests.{Call, lent, lent_answers}
-use Rattle.rules.specs.Replies.{is_accepted, reply_of}
+use Rattle.rules.specs.Replies.{is_accepted, number_of, reply_of}
 use Rattle.rules.specs.Calls.{answer_of, outcome_of}
 use Rattle.rules.specs.Cuts.{limited, step_outcome}
-use Rattle.rules.proofs.Outcomes.{call_refused, is_refused}
+use Rattle.rules.proofs.Outcomes.{accepted_by, call_refused, is_refused}
 use Rattle.outcomes.specs.Claims.{outcome}
 use Rattle.outcomes.proofs.Cuts.{step_refused}
 
@@ -29,3 +29,8 @@ module _ (p : Params) (b : Board) (c : Call) (r : Reply) (h : (reply_of p b c �
   -- with any budget too
   pub refused_with : (k : ℕ) → (a : Answer) → a ≡ answer_of r [] 0 → outcome a (lent c) (lent_answers c) b ≡ step_outcome p b (limited k c)
   refused_with k a is = refused_by a is ∙ sym (step_refused p b k c no)
+
+module _ (p : Params) (b : Board) (c : Call) (r : Reply) (e : r ≡ reply_of p b c) (n : ℕ) (m : n ≡ number_of r) where
+  -- and 0 accepts it
+  pub reply_zero : n ≡ 0 → reply_of p b c ≡ Accepted
+  reply_zero z = sym e ∙ accepted_by r n m z

@@ -40,7 +40,7 @@ module _ (p : Params) (chip bt : List ℕ) (n : ℕ) (h : Head) (is : (in_use p 
   used : in_use p chip n ≡ true
   used = is.0
 
-  index_is : h.region * p.gamma + h.vblock.0 ≡ index_named p (block p chip n)
+  pub index_is : h.region * p.gamma + h.vblock.0 ≡ index_named p (block p chip n)
   unfolding index_named
   index_is = rw (is.1.region_is, is.1.vblock_is)
 

@@ -108,9 +108,9 @@ module _ (p : Params) (chip bt : List ℕ) (a : Found p chip bt) (r : ℕ) (regi
   few = omega (arith, z.gamma_high)
 
   -- where there is one, it is a virtual block with a block
-  pub open_spec : (v : ℕ) → v ≡ open_vblock p vw → v < p.gamma → bt_at p bt r v ≡ none → ⊥
+  pub open_spec : (v : ℕ) → v ≡ open_vblock p vw → (v ≡ not_found → ⊥) → (v < p.gamma) × (bt_at p bt r v ≡ none → ⊥)
   unfolding open_vblock
-  open_spec v e low = go (first_spec not_found p.gamma (is_open p vw) few) (first_spec not_found p.gamma (assigned vw) few)
+  open_spec v e ne = go (first_spec not_found p.gamma (is_open p vw) few) (first_spec not_found p.gamma (assigned vw) few)
     where
       o : ℕ
       o = first_below not_found p.gamma (is_open p vw)
@@ -120,22 +120,24 @@ module _ (p : Params) (chip bt : List ℕ) (a : Found p chip bt) (r : ℕ) (regi
 
       go : ((o ≡ not_found) × ((i : ℕ) → i < p.gamma → is_open p vw i ≡ false)) ⊎ ((o < p.gamma) × (is_open p vw o ≡ true))
           → ((l ≡ not_found) × ((i : ℕ) → i < p.gamma → assigned vw i ≡ false)) ⊎ ((l < p.gamma) × (assigned vw l ≡ true))
-          → bt_at p bt r v ≡ none → ⊥
+          → (v < p.gamma) × (bt_at p bt r v ≡ none → ⊥)
       go (inr w) x =
           let q : v ≡ o = e ∙ rw (ne_eqb o not_found (λ y. omega (arith, w.0, y, few))) in
-          rw q (assigned_has o w.0 (unfold is_open in and_left (assigned vw o) _ w.1))
-      go (inl w) (inl x) = let q : v ≡ not_found = e ∙ rw (eq-eqb o not_found w.0) x.0 in absurd (omega (arith, q, low, few))
+          rw q (w.0, assigned_has o w.0 (unfold is_open in and_left (assigned vw o) _ w.1))
+      go (inl w) (inl x) = absurd (ne (e ∙ rw (eq-eqb o not_found w.0) x.0))
       go (inl w) (inr x) =
           let q : v ≡ l = e ∙ rw (eq-eqb o not_found w.0) in
-          rw q (assigned_has l x.0 x.1)
+          rw q (x.0, assigned_has l x.0 x.1)
 
   pub fst_none : open_vblock p vw ≡ not_found → none ≡ found_fst p vw
   unfolding found_fst open_vblock
   fst_none n = rw n
 
-  fst_is_lem : (v : ℕ) → v ≡ open_vblock p vw → v < p.gamma → segment_of p v (filled p (vw.body v) - 1) ≡ found_fst p vw
+  fst_is_lem : (v : ℕ) → v ≡ open_vblock p vw → (v ≡ not_found → ⊥) → segment_of p v (filled p (vw.body v) - 1) ≡ found_fst p vw
   unfolding found_fst open_vblock
-  fst_is_lem v e low = rw (← e, ne_eqb v not_found (λ q. omega (arith, q, low, few)))
+  fst_is_lem v e ne = rw (← e, ne_eqb v not_found ne)
 
-  pub fst_some : (v : ℕ) → v ≡ open_vblock p vw → v < p.gamma → (sg : ℕ) → sg ≡ segment_of p v (filled p (block p chip (bt_at p bt r v)) - 1) → sg ≡ found_fst p vw
-  fst_some v e low sg s = s ∙ rw (← body_some p chip bt r v low (open_spec v e low)) (fst_is_lem v e low)
+  pub fst_some : (v : ℕ) → v ≡ open_vblock p vw → (v ≡ not_found → ⊥) → (sg : ℕ) → sg ≡ segment_of p v (filled p (block p chip (bt_at p bt r v)) - 1) → sg ≡ found_fst p vw
+  fst_some v e ne sg s =
+      let w = open_spec v e ne in
+      s ∙ rw (← body_some p chip bt r v w.0 w.1) (fst_is_lem v e ne)
