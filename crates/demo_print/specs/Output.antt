@@ -1,6 +1,7 @@
 -- Document 01, "Board T": what the bench program prints. "Output: one line for the format, then one a line".
 -- Assumes nothing.
-use Rattle.std.specs.Prelude.{ℕ, zero, suc, ◌+◌, ◌/◌, ◌%◌, cond, List, [], ◌∷◌, ◌++◌, ltb}
+use Rattle.std.specs.Prelude.{ℕ, zero, suc, ◌+◌, ◌/◌, ◌%◌, ◌≤◌, ◌≡◌, cond, List, [], ◌∷◌, ◌++◌, length, take, drop, ltb}
+use Rattle.std.proofs.lemmas.List.Edits.{sets}
 use Rattle.lists.specs.Below.{join_below}
 use Rattle.lists.specs.Parts.{part}
 use Rattle.rules.specs.declared.Answer.{Answer}
@@ -46,3 +47,15 @@ read_line a k l = 82 ∷ 9 ∷ decimal (number_of a.reply) ++ (cond (is_accepted
 -- "gives `?`" (63)
 unfoldable pub unknown_line : List ℕ
 unknown_line = 63 ∷ 10 ∷ []
+
+-- a lent buffer before and after bytes x are put at an index of it: x stands there, and r is the index after it
+pub record Put (x : List ℕ) (at : ℕ) (before after : List ℕ) (r : ℕ) : Type 0 where
+  pub next : r ≡ at + length x
+  pub stored : after ≡ sets before at x
+
+-- a lent buffer before and after a line x is printed into it: its first r bytes are the line, the rest is as it was
+pub record Printed (x before after : List ℕ) (r : ℕ) : Type 0 where
+  pub line : take r after ≡ x
+  pub rest : drop r after ≡ drop r before
+  pub within : r ≤ length after
+  pub counted : r ≡ length (take r after)

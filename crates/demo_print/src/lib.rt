@@ -2,7 +2,7 @@
 #![tactic(auto)]
 
 ghost use Rattle.std.specs.Prelude.{◌≡◌, ◌∷◌, ◌++◌, ◌+◌, ◌*◌, ◌/◌, ◌≤◌, ◌<◌, length};
-ghost use Rattle.demo_print.specs.Output.{digit as digitOf, decimal as decimalOf, hex as hexOf, sectors as sectors_of, counts as counts_of, format_line, write_line, read_line, unknown_line};
+ghost use Rattle.demo_print.specs.Output.{digit as digitOf, decimal as decimalOf, hex as hexOf, sectors as sectors_of, counts as counts_of, format_line, write_line, read_line, unknown_line, Put, Printed};
 
 use arrayvec::ArrayVec;
 use rules::Answer;
@@ -48,16 +48,38 @@ fn add_hex<const N: usize>(line: &mut ArrayVec<u8, N>, bytes: &[u8])
     }
 }
 
-// Adds each whole sector of `bytes`, in hex after a tab.
-fn add_sectors<const N: usize>(line: &mut ArrayVec<u8, N>, bytes: &[u8])
-    requires { length line.old.items + 33 * (length bytes.now / 16) ≤ N }
-    ensures text { line.new.items ≡ line.old.items ++ sectors_of (length bytes.now / 16) bytes.now }
-    ensures upper_bound { length line.new.items ≤ length line.old.items + 33 * (length bytes.now / 16) }
+// A whole sector in hex, after a tab.
+fn sector_text(sector: &[u8]) -> ArrayVec<u8, 33>
+    requires { length sector.now ≡ 16 }
+    ensures { result.items ≡ 9 ∷ hexOf sector.now }
 {
+    let mut text = ArrayVec::new();
+    text.push(b'\t');
+    add_hex(&mut text, sector);
+    text
+}
+
+// Puts bytes at an index of a buffer, and returns the index after them.
+fn put(out: &mut [u8], at: usize, bytes: &[u8]) -> usize
+    requires { at + length bytes.now ≤ length out.old }
+    ensures { Put bytes.now at out.old out.new result }
+{
+    let end = at + bytes.len();
+    out[at..end].copy_from_slice(bytes);
+    end
+}
+
+// Puts each whole sector of `bytes` there.
+fn put_sectors(out: &mut [u8], at: usize, bytes: &[u8]) -> usize
+    requires { at + 33 * (length bytes.now / 16) ≤ length out.old }
+    ensures put { Put (sectors_of (length bytes.now / 16) bytes.now) at out.old out.new result }
+    ensures upper_bound { result ≤ at + 33 * (length bytes.now / 16) }
+{
+    let mut end = at;
     for sector in bytes.chunks_exact(16) {
-        line.push(b'\t');
-        add_hex(line, sector);
+        end = put(out, end, sector_text(sector).as_slice());
     }
+    end
 }
 
 // The letter, the reply and document 01's two counts.
@@ -92,19 +114,31 @@ pub fn print_write(a: Answer) -> Text
     line
 }
 
-// The line of a read that was asked for the sectors of `bytes`, with room for N bytes.
-pub fn print_read<const N: usize>(a: Answer, bytes: &[u8]) -> ArrayVec<u8, N>
+// Prints the line of a read that was asked for the sectors of `bytes` into a buffer, and returns its length.
+pub fn print_read(out: &mut [u8], a: Answer, bytes: &[u8]) -> usize
+    requires { 13 + 33 * (length bytes.now / 16) ≤ length out.old }
+    ensures { Printed (read_line a (length bytes.now / 16) bytes.now) out.old out.new result }
+{
+    let mut head: ArrayVec<u8, 12> = ArrayVec::new();
+    head.push(b'R');
+    let reply = u32::from(a.reply);
+    add_number(&mut head, reply);
+    let mut end = put(out, 0, head.as_slice());
+    if reply == 0 {
+        end = put_sectors(out, end, bytes);
+    }
+    put(out, end, b"\n")
+}
+
+// That line alone, with room for N bytes.
+pub fn read_text<const N: usize>(a: Answer, bytes: &[u8]) -> ArrayVec<u8, N>
     requires { 13 + 33 * (length bytes.now / 16) ≤ N }
     ensures { result.items ≡ read_line a (length bytes.now / 16) bytes.now }
 {
+    let mut out = [0; N];
+    let end = print_read(&mut out, a, bytes);
     let mut line = ArrayVec::new();
-    line.push(b'R');
-    let reply = u32::from(a.reply);
-    add_number(&mut line, reply);
-    if reply == 0 {
-        add_sectors(&mut line, bytes);
-    }
-    line.push(b'\n');
+    add(&mut line, &out[..end]);
     line
 }
 

@@ -62,7 +62,7 @@ fn read_into<W: Write>(
         OnOk result (Appends (W.contents to.old) (W.contents to.new) (read_line o.answer (length bytes.old / 16) o.bytes)) }
 {
     let a = calls::read(demo_board::board(), board, lba, count, bytes);
-    to.write_all(demo_print::print_read::<96>(a, bytes).as_slice())
+    to.write_all(demo_print::read_text::<96>(a, bytes).as_slice())
 }
 
 // Reads sectors, and prints the answer with their bytes.
