@@ -55,12 +55,18 @@ fn only_begun(p: Params, fr: &[u8], j: usize) -> bool
 }
 
 // True if every page of a frame has the spare bytes that the label says: the loop over most pages of a board, so it answers nothing else.
+// It and the two searches beside it are loops by `for`: as chains of an iterator they take an eighth more instructions for a block.
 fn all_right(p: Params, fr: &[u8], of: Label) -> bool
     requires p_value { allowed p ≡ true }
     requires fr_len { length fr.now ≡ frame_bytes p }
     ensures { result ≡ all_below p.alpha (λ j. same_list (spare p fr.now j) (spare_bytes of.cluster.0 j of.stamp of.vblock)) }
 {
-    (0..p.alpha).all(|j| chip_spares::spare_right(p, fr, of, j))
+    for j in 0..p.alpha {
+        if !chip_spares::spare_right(p, fr, of, j) {
+            return false;
+        }
+    }
+    true
 }
 
 // How many pages of a frame, from the first on, have the spare bytes that the label says: up to the first that has not.
@@ -71,9 +77,12 @@ fn right_pages(p: Params, fr: &[u8], of: Label) -> usize
     ensures vblock_value { all_below result (λ j. same_list (spare p fr.now j) (spare_bytes of.cluster.0 j of.stamp of.vblock)) ≡ true }
     ensures vblock_value_2 { result < p.alpha → same_list (spare p fr.now result) (spare_bytes of.cluster.0 result of.stamp of.vblock) ≡ false }
 {
-    (0..p.alpha)
-        .find(|j| !chip_spares::spare_right(p, fr, of, *j))
-        .unwrap_or(p.alpha)
+    for j in 0..p.alpha {
+        if !chip_spares::spare_right(p, fr, of, j) {
+            return j;
+        }
+    }
+    p.alpha
 }
 
 // True if a frame is as programming leaves it, whole or in its first pages, with a cluster of region r, in virtual block v, and with a stamp up to `last`.
@@ -162,9 +171,12 @@ fn good_frames(p: Params, r: usize, v: VBlock, last: u32, blk: &[u8]) -> usize
     ensures result_value { result < frames p → fit_frame p r v.0 last (frame p blk.now result) ≡ false }
 {
     let n = chip_sizes::frames(p);
-    (0..n)
-        .find(|f| !good_frame(p, r, v, last, frame_of(p, blk, *f)))
-        .unwrap_or(n)
+    for f in 0..n {
+        if !good_frame(p, r, v, last, frame_of(p, blk, f)) {
+            return f;
+        }
+    }
+    n
 }
 
 // True if the frames from frame k on are erased.
