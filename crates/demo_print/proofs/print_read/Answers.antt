@@ -15,10 +15,10 @@ returns c =
     elim c.if-reply-eq0.branch [
       | then-reply-eq0 w ↦
           let end = rw (w.out-is, w.end-is) at c.put.ensures in
-          rw (← c.from-reply.ensures, eq-eqb _ _ w.if-reply-eq0.true)
+          rw (← c.from-reply.ensures, eq-eqb c.from-reply.result 0 (omega (arith, w.if-reply-eq0.true)))
           (printed (then head (then w.put_sectors-end.ensures.put end)) (omega (arith, head.next, few, w.put_sectors-end.ensures.upper_bound, end.next, c.requires)))
       | else-reply-eq0 w ↦
           let end = rw (w.out-is, w.end-is) at c.put.ensures in
-          rw (← c.from-reply.ensures, ne_eqb _ _ w.if-reply-eq0.false)
+          rw (← c.from-reply.ensures, ne_eqb c.from-reply.result 0 (λ q. w.if-reply-eq0.false (omega (arith, q))))
           (printed (then head end) (omega (arith, head.next, few, end.next, c.requires)))
     ]
