@@ -1,4 +1,4 @@
--- Bytes put into a buffer: one byte, one piece after the other, and a whole line from the start on.
+-- Bytes put into a buffer: by one copy, one piece after the other, and a whole line from the start on.
 -- Assumes nothing.
 use mathlib.Core.Path.{◌≡◌, refl, sym, ap, ◌∙◌}
 use Prim.Native.Nat.{ℕ, suc, ◌+◌, ◌≤◌}
